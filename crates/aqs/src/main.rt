@@ -26,11 +26,11 @@ use std::thread::Threads;
 use std::time::Clock;
 use streams::device::Device;
 use streams::stream_fault::StreamFault;
+use tasks::ending::status_of_end;
 use tasks::fault::Fault;
 use tasks::perform::perform;
 use tasks::run_script::run_script;
 use tasks::task::Job;
-use tasks::told::told;
 
 /// Does a job, with the text from a reader.
 fn finish<R: AllocGlobal + Threads + Wait + Clock + Sync, I: Read + Drop, O: Write + Drop>(
@@ -81,5 +81,5 @@ fn main(rt: HostRuntime) -> ExitCode {
         Ok(words) => run(&rt, &words, rt.stdin(), rt.stdout()),
         Err(fault) => Err(fault),
     };
-    ExitCode::from(told(&rt, done))
+    ExitCode::from(status_of_end(&rt, done))
 }

@@ -1,12 +1,11 @@
 -- The lines of a base ahead of a reader's window.
-use Rattle.std.proofs.Common.{◌≡◌, inl, inr, ◌⊎◌, ℕ, ◌-◌, ◌≤◌, Bool, true, List, [], ◌∷◌, ◌++◌, length, map, drop, Option, None, Some, Result, Ok, Err, IfSome, refl, sym, ap, subst, ◌∙◌, arith, append_assoc}
-use Rattle.std.proofs.lemmas.Bool.{false≢true}
-use Rattle.std.specs.Result.{IsErr, IsErrAnd, IfErr}
+use Rattle.std.proofs.Common.{◌≡◌, inl, inr, ◌⊎◌, ℕ, ◌-◌, ◌≤◌, true, List, [], ◌∷◌, ◌++◌, length, map, drop, Option, None, Some, Ok, Err, IfSome, refl, sym, ap, subst, ◌∙◌, arith, append_assoc}
 use Rattle.std.specs.Io.KnownBytes.{Keeps, IsAtEnd, prepend_known}
 use Rattle.history.specs.declared.header.Header.{Header}
 use Rattle.history.specs.Base.{Base, based, opening_base}
 use Rattle.history.specs.Entries.{or_opening}
-use Rattle.history.specs.GoodBase.{IsBaseOf, IsGood, most_folded}
+use Rattle.history.specs.declared.limits.TheConstants.{MOST_FOLDED}
+use Rattle.history.specs.GoodBase.{IsBaseOf, IsGood}
 use Rattle.history.specs.Start.{Start}
 use Rattle.history.specs.Text.{ended}
 use Rattle.history.proofs.OpeningBase.{based_opening}
@@ -30,10 +29,9 @@ use Rattle.history_text.proofs.HistoryLawful.{lawful}
 use Rattle.history_text.proofs.ShortEntries.{short}
 use Rattle.streams.specs.declared.stream_fault.StreamFault.{StreamFault}
 use Rattle.streams.specs.declared.stream_fault.StreamFault.TheVariants.{Text, Memory}
-use Rattle.streams.specs.Whole.{IsOfReading, IsTooLong}
+use Rattle.streams.specs.ReadingOn.{IsOfReading, IsTooLong}
 use Rattle.streams.specs.Window.{StaysAhead}
-use Rattle.driver.specs.BaseReader.{EntriesBehind, HeadRead, IsBaseRead, IsBeginningRead, IsLineTaken, IsPlacedBehind, LinesBehind, lines_known}
-use Rattle.driver.specs.TextReader.{IsFaultOf}
+use Rattle.driver.specs.BaseReader.{EntriesBehind, HeadRead, IsLineTaken, IsPlacedBehind, LinesBehind, lines_known}
 use Rattle.driver.proofs.ReadingAhead.{all_kept, fault_ahead, header_ahead, header_kept, kept, left_of, reading_fault}
 
 -- nothing of a short line was let go of
@@ -71,36 +69,23 @@ module _ (read : LinesRead) (old window : List ℕ) (left after : Option (List �
             known = refl;
           }
 
-  -- a fault of the next line was passed on
-  pub line_failed : (new : LinesRead) (grown : List ℕ) (r : Result Bool StreamFault) (fault : TextFault) →
-      IsErr r × IsErrAnd r (λ e. e ≡ Text fault) → IsBaseLineNext read window (Err fault) →
-      (fault ≡ CutShort → IsAtEnd after) → IsLineTaken read old left r new grown after
-  line_failed new grown (Ok x) fault passed is end = absurd (false≢true passed.0)
-  line_failed new grown (Err e) fault passed is end = λ text h is_based header were.
-      subst (IsFaultOf history_form text after) (sym passed.1)
-      (fault_ahead history_form text (lines_known h (map Based read.lines)) old window left after
+  -- a fault of the next line
+  pub line_failed : (new : LinesRead) (grown : List ℕ) (fault : TextFault) →
+      IsBaseLineNext read window (Err fault) → (fault ≡ CutShort → IsAtEnd after) →
+      IsLineTaken read old left (Err (Text fault)) new grown after
+  line_failed new grown fault is end = λ text h is_based header were.
+      fault_ahead history_form text (lines_known h (map Based read.lines)) old window left after
       (map Based read.lines) fault lawful short s
       (λ t items begun. is t h is_based header
-      (subst (λ (l : List Line). Begins history_form t h l window) begun.known begun.begins)) end were)
+      (subst (λ (l : List Line). Begins history_form t h l window) begun.known begun.begins)) end were
 
--- a fault of reading was passed on
+-- a fault of reading
 pub line_unread : (read new : LinesRead) (old grown : List ℕ) (left after : Option (List ℕ))
-    (r : Result Bool StreamFault) (fault : StreamFault) → IsErr r × IsErrAnd r (λ e. e ≡ fault) →
-    IsOfReading fault → (fault ≡ Memory → IfSome left IsTooLong) → IsLineTaken read old left r new grown after
-line_unread read new old grown left after (Ok x) fault passed of long = absurd (false≢true passed.0)
-line_unread read new old grown left after (Err e) fault passed of long = λ text h is_based header were.
-    subst (IsFaultOf history_form text after) (sym passed.1)
-    (reading_fault history_form text left after fault of long
-    (left_of history_form text (lines_known h (map Based read.lines)) old left (map Based read.lines) were))
-
--- a fault of the base was passed on
-pub base_failed : (h : Head) (old new : List ℕ) (left after : Option (List ℕ))
-    (r : Result (Base × Place) StreamFault) (fault : StreamFault) → IsErr r × IsErrAnd r (λ e. e ≡ fault) →
-    ((text : Option (List ℕ)) → HeadRead text h old left → IsFaultOf history_form text after fault) →
-    IsBaseRead h old left r new after
-base_failed h old new left after (Ok x) fault passed is = absurd (false≢true passed.0)
-base_failed h old new left after (Err e) fault passed is = λ text begun.
-    subst (IsFaultOf history_form text after) (sym passed.1) (is text begun)
+    (fault : StreamFault) → IsOfReading fault → (fault ≡ Memory → IfSome left IsTooLong) →
+    IsLineTaken read old left (Err fault) new grown after
+line_unread read new old grown left after fault of long = λ text h is_based header were.
+    reading_fault history_form text left after fault of long
+    (left_of history_form text (lines_known h (map Based read.lines)) old left (map Based read.lines) were)
 
 -- ---- the base was told whole
 
@@ -135,15 +120,6 @@ head_ahead text left h window after begun s =
     (record { begins = begun; count = refl; known = refl })
     (header_kept history_form h window after text left short begun s)
 
--- a fault behind it was passed on
-pub beginning_failed : {T : Type 0} (text : Option (List ℕ)) (h : Head) (old new : List ℕ)
-    (left after : Option (List ℕ)) (r : Result T StreamFault) (fault : StreamFault) →
-    IsErr r × IsErrAnd r (λ e. e ≡ fault) → HeadRead text h old left →
-    IsBeginningRead h old left (Err fault) new after → IfErr r (IsFaultOf history_form text after)
-beginning_failed text h old new left after (Ok x) fault passed begun is = absurd (false≢true passed.0)
-beginning_failed text h old new left after (Err e) fault passed begun is =
-    subst (IsFaultOf history_form text after) (sym passed.1) (is text begun)
-
 -- the base begins with the head that stands before it
 pub beginning_read : (text : Option (List ℕ)) (h : Head) (k : Header) (base : Option Base) (p : Place)
     (bytes : List ℕ) (left : Option (List ℕ)) → k ≡ h.header →
@@ -160,11 +136,11 @@ beginning_read (Some t) h k base p bytes (Some more) same were =
 
 -- what a reader has behind a base is small
 pub few_behind : (k : Header) (b : Base) (p : Place) → IsBaseOf k b → IsPlacedBehind b p →
-    (p.calls ≤ most_folded) × (p.folded ≤ most_folded)
+    (p.calls ≤ MOST_FOLDED) × (p.folded ≤ MOST_FOLDED)
 few_behind k b p of placed = by of.1
   where
-    by : (b ≡ opening_base k) ⊎ ((1 ≤ b.entries) × IsGood b) → (p.calls ≤ most_folded) ×
-        (p.folded ≤ most_folded)
+    by : (b ≡ opening_base k) ⊎ ((1 ≤ b.entries) × IsGood b) → (p.calls ≤ MOST_FOLDED) ×
+        (p.folded ≤ MOST_FOLDED)
     by (inl e) = (
       omega (
         arith,

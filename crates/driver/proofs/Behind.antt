@@ -11,7 +11,7 @@ use Rattle.streams.specs.declared.stream_fault.StreamFault.TheVariants.{Text, Re
 use Rattle.driver.specs.Answers.{AllAnswers, Writes, answers_text}
 use Rattle.driver.specs.ReplayStream.{AreAnswersTo, IsLawful, Replayed, Replays, answer_text}
 use Rattle.driver.specs.ReplayText.{behind_acts}
-use Rattle.streams.specs.Whole.{AppendsFront}
+use Rattle.streams.specs.Writing.{AppendsFront}
 
 pub replayed : (form : Form) (text : List ℕ) (h : StepsHeader) (acts : List Act) (written : List ℕ) →
     IsText steps_form text h acts → IsLawful (behind_acts h acts).base (behind_acts h acts).entries →

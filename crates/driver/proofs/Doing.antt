@@ -14,20 +14,20 @@ use Rattle.history.specs.declared.header.Header.{Header}
 use Rattle.history.specs.Base.{Base, based, folded}
 use Rattle.history.specs.Entries.{ended_calls}
 use Rattle.history.specs.EntryWords.{IsSpelt}
-use Rattle.history.specs.GoodBase.{IsBaseOf, most_folded}
+use Rattle.history.specs.declared.limits.TheConstants.{MOST_FOLDED}
+use Rattle.history.specs.GoodBase.{IsBaseOf}
 use Rattle.history.specs.Legal.{calls}
 use Rattle.history.specs.Point.{CanFold}
 use Rattle.history.proofs.Folding.{fold_alike}
 use Rattle.history.proofs.GoodBases.{good_waits}
-use Rattle.history.proofs.Lists.{calls-ended, ended_append}
+use Rattle.history.proofs.Lists.{calls-ended, ended_append, ended_calls-reverse}
 use Rattle.history_text.proofs.Lists.{each-reverse}
 use Rattle.history_text.proofs.Spelt.{all_spelt_on}
 use Rattle.steps.specs.declared.header.StepsHeader.{StepsHeader}
 use Rattle.steps.specs.StepLines.{IsAct}
-use Rattle.history_text.proofs.Pieces.{ended_calls-reverse}
 use Rattle.driver.specs.Answers.{AreFolded}
 use Rattle.driver.specs.Logged.{gone}
-use Rattle.driver.proofs.Told.{IsTrimOf, base_behind, list_behind}
+use Rattle.driver.proofs.ReplayUnderWay.{IsTrimOf, base_behind, list_behind}
 
 -- an act under a header is of one of its seats
 pub of_seats : (h : StepsHeader) (a : Act) → IsAct h a → IsOfSeats h.header.seats a
@@ -51,10 +51,10 @@ has_trimmed old new (Ok count) t =
       header = ap (λ (v : CoreView). v.header) t.2;
     }
   where
-    few : ltb most_folded (old.base.entries + length old.entries) ≡ false
+    few : ltb MOST_FOLDED (old.base.entries + length old.entries) ≡ false
     few =
         ⊎_elim (λ over. absurd (t.0 over)) (λ le. le-ltb _ _ le)
-        (cases_lt most_folded (old.base.entries + length old.entries))
+        (cases_lt MOST_FOLDED (old.base.entries + length old.entries))
 has_trimmed old new (Err fault) t =
     record {
       is = (t.1, lt-ltb _ _ t.0);

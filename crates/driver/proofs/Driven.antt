@@ -19,14 +19,13 @@ use Rattle.history.specs.Fold.{MayFold}
 use Rattle.history.specs.Point.{CanFold}
 use Rattle.history.specs.Start.{Start}
 use Rattle.history.specs.Text.{ended}
-use Rattle.history.proofs.Lists.{calls-ended, ended_append}
+use Rattle.history.proofs.Lists.{calls-ended, ended_append, ended_calls-reverse}
 use Rattle.history.proofs.OpeningBase.{based_opening}
 use Rattle.history_text.specs.EntryLines.{counts_line}
 use Rattle.history_text.specs.Pieces.{history_text}
 use Rattle.line_text.specs.Reading.{IsText}
 use Rattle.steps.specs.declared.header.StepsHeader.{StepsHeader}
 use Rattle.steps.specs.StepsText.{steps_form}
-use Rattle.history_text.proofs.Pieces.{ended_calls-reverse}
 use Rattle.driver.specs.declared.form.Form.{Form}
 use Rattle.driver.specs.declared.form.Form.TheVariants.{Replay, History}
 use Rattle.driver.specs.declared.remark.Remark.{Remark}
@@ -40,7 +39,7 @@ use Rattle.driver.proofs.ReadingAhead.{ReadOn}
 use Rattle.driver.proofs.Behind.{replayed}
 use Rattle.driver.proofs.Doing.{all_counted, all_in_order, all_stay, folded_calls, folded_counted, has_trimmed, spelt_more}
 use Rattle.driver.proofs.Remarking.{Remarked, added_count, added_is, remarked_all, remarked_none, remarked_on, remarked_trim}
-use Rattle.driver.proofs.Told.{IsTrimOf, PlayedSoFar, answered, base_all, base_behind, entries_all, list_behind, told_all, told_more, told_none, told_trim}
+use Rattle.driver.proofs.ReplayUnderWay.{IsTrimOf, PlayedSoFar, answered, base_all, base_behind, entries_all, list_behind, told_all, told_more, told_none, told_trim}
 
 -- These acts were read. The entries that were folded, the oldest first, and the list behind them, with these
 -- remarks, tell their answers.
@@ -83,12 +82,14 @@ answering_step first old new i step r b h h' past remarks remarks' left next sam
     let all = h ++ reverse past in
     let number : b.entries + length h ≡ length all = omega (arith, a.counted, all_counted past h) in
     let line = λ (n : ℕ). a.lines ++ ended (answer_line n i r) in
-    let kept = subst (λ (n : ℕ). IsRemarked remarks (remark_of n i r) remarks') (sym (all_counted past h)) more in
+    let kept =
+    subst (λ (n : ℕ). IsRemarked remarks (remark_of n i r) remarks') (sym (all_counted past h)) more in
     record {
       acts = a.acts ++ Do i step ∷ [];
       lines = line (length all);
       read = λ text were. next text a.acts (a.read text were);
-      told = subst (λ (n : ℕ). PlayedSoFar new.so_far.header.header (a.acts ++ Do i step ∷ []) (line n) b h') number
+      told = subst
+          (λ (n : ℕ). PlayedSoFar new.so_far.header.header (a.acts ++ Do i step ∷ []) (line n) b h') number
           (told_more new.so_far.header.header a.acts a.lines b h i step r h' told p q);
       remarked =
           remarked_on (based b) h (reverse past) i step r h' remarks remarks' a.lines p q kept a.remarked;

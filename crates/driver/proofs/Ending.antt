@@ -1,43 +1,19 @@
 -- What a stream leaves that doesn't answer its text.
 use Rattle.std.proofs.Common.{◌≡◌, inl, inr, ◌⊎◌, ℕ, List, [], Option, Result, Ok, Err, IfSome, refl, sym, ◌∙◌, subst}
-use Rattle.std.proofs.lemmas.Bool.{false≢true}
+use Rattle.std.proofs.KnownBytes.{Keeps-refl}
 use Rattle.std.specs.Prelude.{OnOk}
-use Rattle.std.specs.Result.{IfErr, IsErr, IsErrAnd}
+use Rattle.std.specs.Result.{IfErr}
 use Rattle.std.specs.Io.KnownBytes.{IsAtEnd}
 use Rattle.line_text.specs.Form.{Form}
 use Rattle.streams.specs.declared.stream_fault.StreamFault.{StreamFault}
 use Rattle.streams.specs.declared.stream_fault.StreamFault.TheVariants.{Text, ReadFailed, WriteFailed, Memory}
 use Rattle.streams.specs.Streams.{IsReadNoFurther, IsReadOut, IsReadTo, Streams}
-use Rattle.streams.specs.Whole.{IsOfReading, IsToldFor, IsTooLong}
+use Rattle.streams.specs.ReadingOn.{IsOfReading, IsToldFor, IsTooLong}
 use Rattle.driver.specs.Answers.{Writes}
-use Rattle.driver.specs.TextReader.{IsFaultBehind, IsFaultOf, IsNext, IsPartLeft, Progress, WereRead}
-use Rattle.driver.proofs.ReadingAhead.{ReadOn, keeps_same, too_long}
+use Rattle.driver.specs.TextReader.{IsFaultBehind, IsFaultOf, IsPartLeft, Progress, WereRead}
+use Rattle.driver.proofs.ReadingAhead.{too_long}
 
 -- ---- behind a header
-
--- the next item was not read
-pub fault_on : {H I T : Type 0} (form : Form H I) (first now new : Progress H I) (items : List I)
-    (left : Option (List ℕ)) (r : Result T StreamFault) (fault : StreamFault)
-    → IsErr r × IsErrAnd r (λ e. e ≡ fault) → IsNext form now (Err fault) new left →
-    ReadOn form first items now → IfErr r (IsFaultBehind form first left)
-fault_on form first now new items left (Ok x) fault passed next read = absurd (false≢true passed.0)
-fault_on form first now new items left (Err e) fault passed next read =
-    λ text were. subst (IsFaultOf form text left) (sym passed.1) (next text items (read text were))
-
--- want of memory was passed on
-pub memory_on : {H I T : Type 0} (form : Form H I) (first : Progress H I) (left : Option (List ℕ))
-    (r : Result T StreamFault) (fault : StreamFault) → IsErr r × IsErrAnd r (λ e. e ≡ fault) →
-    fault ≡ Memory → IsFaultBehind form first left Memory → IfErr r (IsFaultBehind form first left)
-memory_on form first left (Ok x) fault passed is memory = absurd (false≢true passed.0)
-memory_on form first left (Err e) fault passed is memory =
-    subst (IsFaultBehind form first left) (sym (passed.1 ∙ is)) memory
-
-pub memory_of : {H I T : Type 0} (form : Form H I) (text left : Option (List ℕ))
-    (r : Result T StreamFault) (fault : StreamFault) → IsErr r × IsErrAnd r (λ e. e ≡ fault) →
-    fault ≡ Memory → IsReadNoFurther form text left → IfErr r (IsFaultOf form text left)
-memory_of form text left (Ok x) fault passed is memory = absurd (false≢true passed.0)
-memory_of form text left (Err e) fault passed is memory =
-    subst (IsFaultOf form text left) (sym (passed.1 ∙ is)) memory
 
 -- of the text of which the header was read
 pub fault_of : {H I T : Type 0} (form : Form H I) (text : Option (List ℕ)) (first : Progress H I)
@@ -103,13 +79,13 @@ pub told_streams : {H I T : Type 0} (form : Form H I) (Answers : List ℕ → T 
     IsToldFor fault told → Streams form Answers text held held (Err told)
 told_streams form Answers text left held (Text fault) told err (inl same) =
     subst (λ (e : StreamFault). Streams form Answers text held held (Err e)) (sym same)
-    (err.0, keeps_same held)
-told_streams form Answers text left held (Text fault) ReadFailed err (inr of) = keeps_same held
-told_streams form Answers text left held (Text fault) Memory err (inr of) = keeps_same held
+    (err.0, Keeps-refl held)
+told_streams form Answers text left held (Text fault) ReadFailed err (inr of) = Keeps-refl held
+told_streams form Answers text left held (Text fault) Memory err (inr of) = Keeps-refl held
 told_streams form Answers text left held (Text fault) (Text other) err (inr of) = absurd of
 told_streams form Answers text left held (Text fault) WriteFailed err (inr of) = absurd of
 told_streams form Answers text left held ReadFailed told err same =
-    subst (λ (e : StreamFault). Streams form Answers text held held (Err e)) (sym same) (keeps_same held)
+    subst (λ (e : StreamFault). Streams form Answers text held held (Err e)) (sym same) (Keeps-refl held)
 told_streams form Answers text left held WriteFailed told err same = absurd err
 told_streams form Answers text left held Memory told err same =
-    subst (λ (e : StreamFault). Streams form Answers text held held (Err e)) (sym same) (keeps_same held)
+    subst (λ (e : StreamFault). Streams form Answers text held held (Err e)) (sym same) (Keeps-refl held)

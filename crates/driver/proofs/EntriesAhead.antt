@@ -1,13 +1,11 @@
 -- The entries of a history text ahead of a reader's window.
 use Rattle.std.proofs.Common.{◌≡◌, ℕ, ◌+◌, ◌-◌, ◌<◌, ◌≤◌, ◌^◌, List, [], ◌∷◌, ◌++◌, length, drop, Option, None, Some, Result, Ok, Err, IfSome, refl, sym, ap, subst, ◌∙◌, arith, append_assoc, append-nil}
-use Rattle.std.proofs.lemmas.Bool.{false≢true}
 use Rattle.std.proofs.lemmas.List.{length-append}
-use Rattle.std.specs.Result.{IsErr, IsErrAnd, IfErr}
 use Rattle.std.specs.Io.KnownBytes.{Keeps, IsAtEnd, prepend_known}
 use Rattle.history.specs.declared.entry.Entry.{Entry}
 use Rattle.history.specs.declared.header.Header.{Header}
 use Rattle.history.specs.Base.{Base}
-use Rattle.history.specs.GoodBase.{most_folded}
+use Rattle.history.specs.declared.limits.TheConstants.{MOST_FOLDED}
 use Rattle.history.specs.Header.{IsInRange}
 use Rattle.history.specs.Text.{ended}
 use Rattle.line_text.specs.declared.fault.TextFault.{TextFault}
@@ -20,7 +18,8 @@ use Rattle.line_text.proofs.UnderWay.{last_bytes}
 use Rattle.history_text.specs.declared.base_line.BaseLine.{BaseLine}
 use Rattle.history_text.specs.declared.place.Head.{Head}
 use Rattle.history_text.specs.declared.place.Place.{Place}
-use Rattle.history_text.specs.BaseLines.{IsBaseLine, base_line}
+use Rattle.history_text.specs.BaseLineLimits.{IsBaseLine}
+use Rattle.history_text.specs.BaseLines.{base_line}
 use Rattle.history_text.specs.EntryLines.{entry_line}
 use Rattle.history_text.specs.HistoryLines.{head_of}
 use Rattle.history_text.specs.HistoryText.{IsHistoryText, history_form}
@@ -34,10 +33,10 @@ use Rattle.history_text.proofs.ShortEntries.{entry_short, short, waiting_short}
 use Rattle.streams.specs.declared.stream_fault.StreamFault.{StreamFault}
 use Rattle.streams.specs.declared.stream_fault.StreamFault.TheVariants.{Text, ReadFailed, WriteFailed, Memory}
 use Rattle.streams.specs.Streams.{IsReadNoFurther}
-use Rattle.streams.specs.Whole.{IsOfReading, IsTooLong}
-use Rattle.streams.specs.Window.{IsAhead, StaysAhead}
+use Rattle.streams.specs.ReadingOn.{IsOfReading, IsTooLong}
+use Rattle.streams.specs.Window.{IsAhead, StaysAhead, room}
 use Rattle.driver.specs.BaseReader.{EntriesBehind, LinesBehind, lines_known}
-use Rattle.driver.specs.HistoryReader.{EntriesHeld, EntriesRead, IsEntryNext, IsFaultBehindBase, base_held}
+use Rattle.driver.specs.HistoryReader.{EntriesHeld, EntriesRead, IsEntryNext, base_held}
 use Rattle.driver.specs.TextReader.{IsBehindEnd, IsFaultOf, reader_at}
 use Rattle.driver.proofs.ReadingAhead.{all_kept, ended_here, fault_ahead, left_of, no_further, reading_fault}
 
@@ -91,7 +90,7 @@ module _ (h : Head) (b : Base) (es : List Entry) (p : Place) where
 
   -- no line was read but these, and what stands in the window
   pub entries_no_further : (text : Option (List ℕ)) (window : List ℕ) (left : Option (List ℕ)) →
-      length window ≤ 65792 → EntriesBehind text h b es p window left → IsReadNoFurther history_form text left
+      length window ≤ room → EntriesBehind text h b es p window left → IsReadNoFurther history_form text left
   entries_no_further text window left few were =
       no_further history_form text (here h b es) window left (lines_on b es) few
       (lines_behind text window left were)
@@ -198,11 +197,11 @@ entry_keeps k p old window left after e n range few s is =
     (entry_short k (p.folded + p.count) e few range is.0)
 
 -- the numbers of a reader are small
-pub few_entries : (h : Header) (p : Place) → IsInRange h → p.count ≤ h.cap → p.folded ≤ most_folded →
+pub few_entries : (h : Header) (p : Place) → IsInRange h → p.count ≤ h.cap → p.folded ≤ MOST_FOLDED →
     p.folded + p.count < 2 ^ 64
 few_entries h p range few folded = omega (arith, range.cap, few, folded)
 
-pub few_calls : (h : Header) (p : Place) → IsInRange h → p.count ≤ h.cap → p.calls ≤ most_folded + p.count →
+pub few_calls : (h : Header) (p : Place) → IsInRange h → p.count ≤ h.cap → p.calls ≤ MOST_FOLDED + p.count →
     p.calls < 2 ^ 64
 few_calls h p range few calls = omega (arith, range.cap, few, calls)
 
@@ -230,28 +229,22 @@ entries_ended old new window grown left mid after (Err ReadFailed) same was is e
 entries_ended old new window grown left mid after (Err Memory) same was is end keeps = absurd end
 entries_ended old new window grown left mid after (Err WriteFailed) same was is end keeps = absurd end
 
--- a fault of reading was passed on
-pub entries_read_failed : (old new : EntriesHeld) (left after : Option (List ℕ))
-    (r : Result (Option Entry) StreamFault) (fault : StreamFault) → IsErr r × IsErrAnd r (λ e. e ≡ fault) →
-    IsOfReading fault → (fault ≡ Memory → IfSome left IsTooLong) → IsEntryNext old left r new after
-entries_read_failed old new left after (Ok next) fault passed of long = absurd (false≢true passed.0)
-entries_read_failed old new left after (Err e) fault passed of long = λ text es were.
-    subst (IsFaultOf history_form text after) (sym passed.1)
-    (entries_unread (head_of (base_held old)) (base_held old) es old.place text old.bytes left after fault of
-    long were)
+-- a fault of reading
+pub entries_read_failed : (old new : EntriesHeld) (left after : Option (List ℕ)) (fault : StreamFault) →
+    IsOfReading fault → (fault ≡ Memory → IfSome left IsTooLong) → IsEntryNext old left (Err fault) new after
+entries_read_failed old new left after fault of long = λ text es were.
+    entries_unread (head_of (base_held old)) (base_held old) es old.place text old.bytes left after fault of
+    long were
 
--- a fault of the next line was passed on
+-- a fault of the next line
 pub entry_failed : (old new : EntriesHeld) (window : List ℕ) (left after : Option (List ℕ))
-    (r : Result (Option Entry) StreamFault) (fault : TextFault) → IsErr r × IsErrAnd r (λ e. e ≡ Text fault) →
-    (base_held old).header ≡ old.header → StaysAhead old.bytes left window after →
+    (fault : TextFault) → (base_held old).header ≡ old.header → StaysAhead old.bytes left window after →
     IsEntryBehind old.header old.place window (Err fault) → (fault ≡ CutShort → IsAtEnd after) →
-    IsEntryNext old left r new after
-entry_failed old new window left after (Ok next) fault passed same s is end = absurd (false≢true passed.0)
-entry_failed old new window left after (Err e) fault passed same s is end = λ text es were.
+    IsEntryNext old left (Err (Text fault)) new after
+entry_failed old new window left after fault same s is end = λ text es were.
     let b = base_held old in
-    subst (IsFaultOf history_form text after) (sym passed.1)
-    (entry_fault (head_of b) b es old.place text old.bytes window left after fault s
-    (subst (λ (k : Header). IsEntryBehind k old.place window (Err fault)) (sym same) is) end were)
+    entry_fault (head_of b) b es old.place text old.bytes window left after fault s
+    (subst (λ (k : Header). IsEntryBehind k old.place window (Err fault)) (sym same) is) end were
 
 -- ---- from the base on
 
@@ -260,28 +253,9 @@ abbrev pub EntriesOn : EntriesHeld → Option (List ℕ) → List Entry → Entr
 EntriesOn first left es now after =
     (text : Option (List ℕ)) → EntriesRead text first left [] → EntriesRead text now after es
 
--- the next entry was not read
-pub entries_fault_on : {T : Type 0} (first now new : EntriesHeld) (left mid after : Option (List ℕ))
-    (es : List Entry) (r : Result T StreamFault) (fault : StreamFault) →
-    IsErr r × IsErrAnd r (λ e. e ≡ fault) → IsEntryNext now mid (Err fault) new after →
-    EntriesOn first left es now mid → IfErr r (IsFaultBehindBase first left after)
-entries_fault_on first now new left mid after es (Ok x) fault passed next read =
-    absurd (false≢true passed.0)
-entries_fault_on first now new left mid after es (Err e) fault passed next read = λ text were.
-    subst (IsFaultOf history_form text after) (sym passed.1) (next text es (read text were))
-
--- of the text of which the base was read
-pub entries_fault_passed : {T : Type 0} (text : Option (List ℕ)) (first : EntriesHeld)
-    (left after : Option (List ℕ)) (r : Result T StreamFault) (fault : StreamFault) →
-    IsErr r × IsErrAnd r (λ e. e ≡ fault) → EntriesRead text first left [] →
-    IsFaultBehindBase first left after fault → IfErr r (IsFaultOf history_form text after)
-entries_fault_passed text first left after (Ok x) fault passed were err = absurd (false≢true passed.0)
-entries_fault_passed text first left after (Err e) fault passed were err =
-    subst (IsFaultOf history_form text after) (sym passed.1) (err text were)
-
 -- behind so many entries no further line was read but what stands in the window
 pub entries_memory : (first now : EntriesHeld) (es : List Entry) (left after : Option (List ℕ)) →
-    length now.bytes ≤ 65792 → EntriesOn first left es now after → (text : Option (List ℕ)) →
+    length now.bytes ≤ room → EntriesOn first left es now after → (text : Option (List ℕ)) →
     EntriesRead text first left [] → IsReadNoFurther history_form text after
 entries_memory first now es left after few read text were =
     entries_no_further (head_of (base_held now)) (base_held now) es now.place text now.bytes after few
@@ -290,7 +264,7 @@ entries_memory first now es left after few read text were =
 -- the reader gave no more, and stands where it stood
 pub entries_memory_at_end : (first old new : EntriesHeld) (es : List Entry)
     (left mid after : Option (List ℕ)) →
-    length new.bytes ≤ 65792 → Keeps (prepend_known old.bytes mid) (prepend_known new.bytes after) →
+    length new.bytes ≤ room → Keeps (prepend_known old.bytes mid) (prepend_known new.bytes after) →
     EntriesOn first left es old mid → (text : Option (List ℕ)) → EntriesRead text first left [] →
     IsReadNoFurther history_form text after
 entries_memory_at_end first old new es left mid after few keeps read text were =

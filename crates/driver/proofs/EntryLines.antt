@@ -1,5 +1,5 @@
 -- The lines of entries, one after another.
-use Rattle.std.proofs.Common.{◌≡◌, ℕ, ◌+◌, List, [], ◌∷◌, ◌++◌, length, refl, sym, ap, ◌∙◌, arith, append_assoc, reverse, codes, nat_lt}
+use Rattle.std.proofs.Common.{◌≡◌, ℕ, ◌+◌, List, [], ◌∷◌, ◌++◌, length, sym, ap, ◌∙◌, arith, append_assoc, reverse, codes, nat_lt}
 use Rattle.std.proofs.lemmas.List.{length-reverse}
 use Rattle.history.specs.declared.entry.Entry.{Entry}
 use Rattle.history.specs.declared.header.Header.{Header}
@@ -8,14 +8,12 @@ use Rattle.history.specs.Entries.{ended_calls}
 use Rattle.history.specs.Legal.{calls}
 use Rattle.history.specs.Spelling.{part_of}
 use Rattle.history.specs.Text.{ended}
-use Rattle.history.proofs.Lists.{calls-ended}
+use Rattle.history.proofs.Lists.{calls-ended, ended_calls-reverse}
 use Rattle.history_text.specs.declared.base_line.BaseLine.{BaseLine}
-use Rattle.history_text.specs.BaseText.{lines_text as base_text}
 use Rattle.history_text.specs.EntryLines.{counts_line, entry_line}
 use Rattle.history_text.specs.HistoryLines.{head_line, head_of}
-use Rattle.history_text.specs.Pieces.{entry_lines, history_text}
+use Rattle.history_text.specs.Pieces.{entry_lines, history_text, lines_text as base_text}
 use Rattle.history_text.proofs.HistoryItems.{told_none}
-use Rattle.history_text.proofs.Pieces.{ended_calls-reverse}
 use Rattle.driver.specs.declared.form.Form.TheVariants.{History}
 use Rattle.driver.specs.Answers.{AllAnswers, AreFolded, first_line, lines_text}
 use Rattle.driver.specs.Remarks.{told_lines}
@@ -65,7 +63,3 @@ lines_alone a are none =
     ++ (entry_lines b.entries es ++ ended (counts_line (b.entries + length a.entries) (calls (based b)
     a.entries)))))
     (sym (told_none b zero))
-
-pub no_length : (xs : List Entry) → length xs ≡ 0 → xs ≡ []
-no_length [] none = refl
-no_length (x ∷ xs) none = absurd (omega (arith, none))

@@ -8,7 +8,7 @@ use Rattle.std.specs.Io.KnownBytes.{Appends}
 use Rattle.std.specs.Result.{IsErr, OnErr, OnOk}
 use Rattle.streams.specs.declared.source.DeviceFailed.{DeviceFailed}
 use Rattle.driver.specs.LineWriter.{Gathers, IsGathered}
-use Rattle.streams.specs.Whole.{AppendsFront}
+use Rattle.streams.specs.Writing.{AppendsFront}
 
 -- a front of some bytes is a front of those and more
 front_by : (a b : Option (List ℕ)) (bytes more : List ℕ) (n : ℕ) → (n < length bytes) ⊎ (length bytes ≤ n) →

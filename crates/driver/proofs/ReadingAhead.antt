@@ -1,8 +1,9 @@
 -- The items of a text ahead of a reader's window.
 use Rattle.std.proofs.Common.{Bool, true, false, inl, inr, ◌≡◌, ◌≢◌, ℕ, ◌+◌, ◌-◌, ◌<◌, ◌≤◌, List, [], ◌∷◌, ◌++◌, length, drop, Option, None, Some, Result, Ok, Err, IfSome, refl, sym, ap, ◌∙◌, arith, append_assoc, append-nil, subst}
+use Rattle.std.proofs.KnownBytes.{Keeps-refl, Keeps-trans}
 use Rattle.std.proofs.lemmas.Bool.{false≢true}
 use Rattle.std.proofs.lemmas.List.{length-append}
-use Rattle.std.specs.Result.{IsErr, IsErrAnd, IfErr}
+use Rattle.std.specs.Result.{IsErr}
 use Rattle.std.specs.Io.KnownBytes.{Keeps, IsAtEnd, prepend_known}
 use Rattle.history.specs.Text.{ended}
 use Rattle.line_text.specs.declared.fault.TextFault.{TextFault}
@@ -19,8 +20,8 @@ use Rattle.line_text.proofs.UnderWay.{last_bytes, one_further, read_on, shorter}
 use Rattle.streams.specs.declared.stream_fault.StreamFault.{StreamFault}
 use Rattle.streams.specs.declared.stream_fault.StreamFault.TheVariants.{Text, ReadFailed, WriteFailed, Memory}
 use Rattle.streams.specs.Streams.{IsReadNoFurther}
-use Rattle.streams.specs.Whole.{IsOfReading, IsTooLong}
-use Rattle.streams.specs.Window.{Grows, StaysAhead}
+use Rattle.streams.specs.ReadingOn.{IsOfReading, IsTooLong}
+use Rattle.streams.specs.Window.{Grows, StaysAhead, room}
 use Rattle.driver.specs.TextReader.{Progress, reader_at, WereRead, IsFaultOf, IsBehindEnd, IsNext, IsPartLeft, KeepsPlace}
 
 -- ---- the source
@@ -50,16 +51,6 @@ pub same_keeps : (old new : List ℕ) (left after : Option (List ℕ)) → new �
 same_keeps old new None after same keeps = tt
 same_keeps old new (Some xs) None same keeps = absurd keeps
 same_keeps old new (Some xs) (Some ys) same keeps = rw (same, keeps) refl
-
-pub keeps_same : (a : Option (List ℕ)) → Keeps a a
-keeps_same None = tt
-keeps_same (Some xs) = refl
-
-keeps_on : (a b c : Option (List ℕ)) → Keeps a b → Keeps b c → Keeps a c
-keeps_on None b c p q = tt
-keeps_on (Some xs) None c p q = absurd p
-keeps_on (Some xs) (Some ys) None p q = absurd q
-keeps_on (Some xs) (Some ys) (Some zs) p q = q ∙ p
 
 -- nothing was let go of
 pub keeps_stays : (old new : List ℕ) (left after : Option (List ℕ)) →
@@ -148,7 +139,7 @@ left_of form (Some t) so_far window (Some xs) items were =
 
 -- no line was read but those of these items, and what stands in the window
 pub no_further : {H I : Type 0} (form : Form H I) (text : Option (List ℕ)) (so_far : SoFar H I)
-    (window : List ℕ) (left : Option (List ℕ)) (items : List I) → length window ≤ 65792 →
+    (window : List ℕ) (left : Option (List ℕ)) (items : List I) → length window ≤ room →
     WereRead form text (reader_at so_far window left) items → IsReadNoFurther form text left
 no_further form None so_far window left items few were = tt
 no_further form (Some t) so_far window None items few were = absurd were
@@ -321,7 +312,7 @@ header_kept form h window rest text after short begun s =
     all_kept [] window (form.header_line h) rest text after s (begun.parts ∙ broken (form.header_line h) rest)
     (short.header h begun.header)
 
-header_fault : {H I : Type 0} (form : Form H I) (text : Option (List ℕ)) (window : List ℕ)
+pub header_fault : {H I : Type 0} (form : Form H I) (text : Option (List ℕ)) (window : List ℕ)
     (after : Option (List ℕ)) (fault : TextFault) → IsLawful form → HasShortLines form 256 →
     IsReading form window (Err fault) → (fault ≡ CutShort → IsAtEnd after) →
     StaysAhead [] text window after → IsFaultOf form text after (Text fault)
@@ -338,70 +329,22 @@ header_fault form (Some t) window (Some ys) fault lawful short is end s =
 
 -- ---- what a call answers
 
--- a fault of the next line was passed on
-pub next_failed : {H I : Type 0} (form : Form H I) (so_far : SoFar H I) (old window : List ℕ)
-    (left after : Option (List ℕ)) (r : Result (Option I) StreamFault) (new : Progress H I)
-    (fault : TextFault)
-    → IsErr r × IsErrAnd r (λ e. e ≡ Text fault) → IsLawful form → HasShortLines form 256 →
-    StaysAhead old left window after → IsLineBehind form so_far window (Err fault) →
-    (fault ≡ CutShort → IsAtEnd after) → IsNext form (reader_at so_far old left) r new after
-next_failed form so_far old window left after (Ok next) new fault passed lawful short s is end =
-    absurd (false≢true passed.0)
-next_failed form so_far old window left after (Err e) new fault passed lawful short s is end =
-    λ text items were. subst (IsFaultOf form text after) (sym passed.1)
-    (fault_ahead form text so_far old window left after items fault lawful short s is end were)
-
--- a fault of reading was passed on
+-- a fault of reading
 pub read_failed : {H I : Type 0} (form : Form H I) (so_far : SoFar H I) (old : List ℕ)
-    (left after : Option (List ℕ)) (r : Result (Option I) StreamFault) (new : Progress H I)
-    (fault : StreamFault)
-    → IsErr r × IsErrAnd r (λ e. e ≡ fault) → IsOfReading fault → (fault ≡ Memory → IfSome left IsTooLong) →
-    IsNext form (reader_at so_far old left) r new after
-read_failed form so_far old left after (Ok next) new fault passed of long = absurd (false≢true passed.0)
-read_failed form so_far old left after (Err e) new fault passed of long =
-    λ text items were. subst (IsFaultOf form text after) (sym passed.1)
-    (reading_fault form text left after fault of long (left_of form text so_far old left items were))
+    (left after : Option (List ℕ)) (new : Progress H I) (fault : StreamFault)
+    → IsOfReading fault → (fault ≡ Memory → IfSome left IsTooLong) →
+    IsNext form (reader_at so_far old left) (Err fault) new after
+read_failed form so_far old left after new fault of long = λ text items were.
+    reading_fault form text left after fault of long (left_of form text so_far old left items were)
 
 -- no further item can be counted
 pub not_counted : {H I : Type 0} (form : Form H I) (so_far : SoFar H I) (old window : List ℕ)
-    (left after : Option (List ℕ)) (r : Result (Option I) StreamFault) (new : Progress H I)
-    (fault : StreamFault)
-    → IsErr r × IsErrAnd r (λ e. e ≡ fault) → fault ≡ Memory → length window ≤ 65792 →
+    (left after : Option (List ℕ)) (new : Progress H I) → length window ≤ room →
     Keeps (prepend_known old left) (prepend_known window after) →
-    IsNext form (reader_at so_far old left) r new after
-not_counted form so_far old window left after (Ok next) new fault passed is few keeps =
-    absurd (false≢true passed.0)
-not_counted form so_far old window left after (Err e) new fault passed is few keeps =
-    λ text items were. subst (IsFaultOf form text after) (sym (passed.1 ∙ is))
-    (no_further form text so_far window after items few
-    (kept form text so_far (prepend_known old left) (prepend_known window after) items keeps were))
-
--- a fault of the header was passed on
-pub open_failed : {H I T : Type 0} (form : Form H I) (text : Option (List ℕ)) (window : List ℕ)
-    (after : Option (List ℕ)) (r : Result T StreamFault) (fault : TextFault)
-    → IsErr r × IsErrAnd r (λ e. e ≡ Text fault) → IsLawful form → HasShortLines form 256 →
-    IsReading form window (Err fault) → (fault ≡ CutShort → IsAtEnd after) →
-    StaysAhead [] text window after → IfErr r (IsFaultOf form text after)
-open_failed form text window after (Ok reader) fault passed lawful short is end s =
-    absurd (false≢true passed.0)
-open_failed form text window after (Err e) fault passed lawful short is end s =
-    subst (IsFaultOf form text after) (sym passed.1)
-    (header_fault form text window after fault lawful short is end s)
-
--- a fault of reading the header was passed on
-pub open_unread : {H I T : Type 0} (form : Form H I) (text after : Option (List ℕ)) (r : Result T StreamFault)
-    (fault : StreamFault) → IsErr r × IsErrAnd r (λ e. e ≡ fault) → IsOfReading fault →
-    (fault ≡ Memory → IfSome text IsTooLong) → IfErr r (IsFaultOf form text after)
-open_unread form text after (Ok reader) fault passed of long = absurd (false≢true passed.0)
-open_unread form text after (Err e) fault passed of long =
-    subst (IsFaultOf form text after) (sym passed.1)
-    (reading_fault form text text after fault of long (whole_left text))
-
--- the window found no memory
-pub open_refused : {H I T : Type 0} (form : Form H I) (text : Option (List ℕ)) (r : Result T StreamFault)
-    → IsErr r × IsErrAnd r (λ e. e ≡ Memory) → IfErr r (IsFaultOf form text text)
-open_refused form text (Ok reader) passed = absurd (false≢true passed.0)
-open_refused form text (Err e) passed = subst (IsFaultOf form text text) (sym passed.1) (unread_yet form text)
+    IsNext form (reader_at so_far old left) (Err Memory) new after
+not_counted form so_far old window left after new few keeps = λ text items were.
+    no_further form text so_far window after items few
+    (kept form text so_far (prepend_known old left) (prepend_known window after) items keeps were)
 
 -- behind the end line
 pub ended_here : {H I : Type 0} (form : Form H I) (so_far : SoFar H I) (window grown : List ℕ)
@@ -453,13 +396,13 @@ pub stands_behind : {I : Type 0} (old window new : List ℕ) (left mid after : O
     (r : Result (Option I) StreamFault) → Keeps (prepend_known old left) (prepend_known window mid) →
     Keeps (prepend_known window mid) (prepend_known new after) → KeepsPlace old left r new after
 stands_behind old window new left mid after r p q =
-    stands_still old new left after r (keeps_on (prepend_known old left) (prepend_known window mid)
+    stands_still old new left after r (Keeps-trans (prepend_known old left) (prepend_known window mid)
     (prepend_known new after) p q)
 
 -- nothing has changed
 pub stands_here : {I : Type 0} (old : List ℕ) (left : Option (List ℕ)) (r : Result (Option I) StreamFault) →
     KeepsPlace old left r old left
-stands_here old left r = stands_still old old left left r (keeps_same (prepend_known old left))
+stands_here old left r = stands_still old old left left r (Keeps-refl (prepend_known old left))
 
 -- ---- from the header on
 
@@ -484,7 +427,7 @@ goes_on x false failing = refl
 
 -- behind so many items no further line was read but what stands in the window
 pub memory_behind : {H I : Type 0} (form : Form H I) (first : Progress H I) (items : List I)
-    (so_far : SoFar H I) (window : List ℕ) (left : Option (List ℕ)) → length window ≤ 65792 →
+    (so_far : SoFar H I) (window : List ℕ) (left : Option (List ℕ)) → length window ≤ room →
     ReadOn form first items (reader_at so_far window left) → (text : Option (List ℕ)) →
     WereRead form text first [] → IsReadNoFurther form text left
 memory_behind form first items so_far window left few read text were =
@@ -492,7 +435,7 @@ memory_behind form first items so_far window left few read text were =
 
 -- the reader gave no more, and stands where it stood
 pub memory_at_end : {H I : Type 0} (form : Form H I) (first : Progress H I) (items : List I)
-    (so_far : SoFar H I) (old window : List ℕ) (left after : Option (List ℕ)) → length window ≤ 65792 →
+    (so_far : SoFar H I) (old window : List ℕ) (left after : Option (List ℕ)) → length window ≤ room →
     Keeps (prepend_known old left) (prepend_known window after) →
     ReadOn form first items (reader_at so_far old left) → (text : Option (List ℕ)) →
     WereRead form text first [] → IsReadNoFurther form text after

@@ -1,7 +1,5 @@
 -- The acts of a text ahead of a reader's window.
-use Rattle.std.proofs.Common.{◌≡◌, ℕ, zero, suc, ◌<◌, ◌≤◌, ◌^◌, List, [], ◌∷◌, ◌++◌, length, Option, None, Some, Result, Ok, Err, refl, sym, ap, subst, arith}
-use Rattle.std.proofs.lemmas.Bool.{false≢true}
-use Rattle.std.specs.Result.{IsErr, IsErrAnd, IfErr}
+use Rattle.std.proofs.Common.{◌≡◌, ℕ, zero, suc, ◌<◌, ◌≤◌, ◌^◌, List, [], ◌∷◌, ◌++◌, length, Option, None, Some, Ok, refl, ap, arith}
 use Rattle.frame.specs.declared.acts.Act.{Act}
 use Rattle.history.specs.Header.{IsInRange}
 use Rattle.line_text.specs.Form.{Form}
@@ -10,11 +8,9 @@ use Rattle.steps.specs.declared.header.StepsHeader.{StepsHeader}
 use Rattle.steps.specs.StepLines.{IsAct, act_line}
 use Rattle.steps.specs.StepsText.{steps_form, steps_so_far}
 use Rattle.steps.proofs.ShortSteps.{short}
-use Rattle.streams.specs.declared.stream_fault.StreamFault.{StreamFault}
 use Rattle.streams.specs.Streams.{IsReadNoFurther}
 use Rattle.driver.specs.StepReader.{Held, progress}
-use Rattle.driver.specs.TextReader.{IsFaultBehind, IsFaultOf, IsFaultOn, IsNext, IsOfNoText, Progress, WereRead}
-use Rattle.driver.proofs.ReadingAhead.{ReadOn}
+use Rattle.driver.specs.TextReader.{IsNext, IsOfNoText, Progress, WereRead}
 
 repeated : ℕ → Act → List Act
 repeated zero act = []
@@ -59,15 +55,6 @@ never_all first held left after more new many all read = λ text items were.
         WereRead steps_form (Some text) (progress held left) items → length items < 2 ^ 32 → ⊥
     by text items None were few = were
     by text items (Some xs) were few = omega (arith, were.count, many, few)
-
--- a fault behind some items is one behind the header
-pub fault_passed_on : {H I T : Type 0} (form : Form H I) (first now : Progress H I) (items : List I)
-    (left : Option (List ℕ)) (r : Result T StreamFault) (fault : StreamFault) →
-    IsErr r × IsErrAnd r (λ e. e ≡ fault) → IsFaultOn form now left fault → ReadOn form first items now →
-    IfErr r (IsFaultBehind form first left)
-fault_passed_on form first now items left (Ok x) fault passed on read = absurd (false≢true passed.0)
-fault_passed_on form first now items left (Err e) fault passed on read = λ text were.
-    subst (IsFaultOf form text left) (sym passed.1) (on text items (read text were))
 
 -- of no text nothing more was read
 pub no_text : {H I : Type 0} (form : Form H I) (p : Progress H I) (text : Option (List ℕ)) (items : List I)

@@ -11,7 +11,7 @@ use Rattle.driver.specs.declared.remark.Remark.{Remark}
 use Rattle.driver.specs.Remarks.{entries_said, said_line, told_lines}
 use Rattle.history_text.specs.Pieces.{entry_lines}
 use Rattle.driver.specs.LineWriter.{Gathers, IsGathered}
-use Rattle.streams.specs.Whole.{AppendsFront}
+use Rattle.streams.specs.Writing.{AppendsFront}
 use Rattle.history_text.proofs.TextWritten.{entry_lines-push}
 use Rattle.driver.proofs.EntryLines.{entry_lines-append}
 use Rattle.driver.proofs.Gathering.{gathered_more, front_more, front_longer}

@@ -19,7 +19,7 @@ use Rattle.driver.specs.ReplayText.{header_line}
 use Rattle.streams.specs.declared.stream_fault.StreamFault.{StreamFault}
 use Rattle.streams.specs.declared.stream_fault.StreamFault.TheVariants.{WriteFailed, Memory}
 use Rattle.driver.specs.Remarks.{told_lines}
-use Rattle.streams.specs.Whole.{AppendsFront}
+use Rattle.streams.specs.Writing.{AppendsFront}
 
 -- The header; the entries that were folded, the oldest first; the base that they left, and the entries after
 -- it, the newest first; and the remarks.

@@ -14,7 +14,7 @@ ghost use Rattle.driver.specs.LineWriter.{Gathers};
 ghost use Rattle.driver.specs.Remarks.{said_line, told_lines};
 ghost use Rattle.history_text.specs.Pieces.{entry_lines};
 ghost use Rattle.driver.specs.ReplayText.{name_of};
-ghost use Rattle.streams.specs.Whole.{AppendsFront};
+ghost use Rattle.streams.specs.Writing.{AppendsFront};
 
 use crate::form::Form;
 use crate::line_writer::LineWriter;
@@ -30,7 +30,7 @@ use steps::header::{Format, StepsHeader};
 use streams::sink::Sink;
 use streams::source::DeviceFailed;
 use streams::stream_fault::StreamFault;
-use streams::whole::write_all;
+use streams::writing::write_all;
 
 /// The answers of an object to all steps and trims of a text.
 ///

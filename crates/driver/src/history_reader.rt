@@ -4,14 +4,15 @@ ghost use Rattle.std.specs.Prelude.{◌≡◌, ◌<◌, ◌≤◌, ◌↔◌, []
 ghost use Rattle.std.specs.Option.{option_copied};
 ghost use Rattle.std.specs.Io.KnownBytes.{IsAtEnd};
 ghost use Rattle.history.specs.Entries.{IsBasedWell, or_opening};
-ghost use Rattle.history.specs.GoodBase.{IsBaseOf, most_folded};
+ghost use Rattle.history.specs.declared.limits.TheConstants.{MOST_FOLDED};
+ghost use Rattle.history.specs.GoodBase.{IsBaseOf};
 ghost use Rattle.history.specs.Header.{IsInRange};
 ghost use Rattle.history.specs.Text.{HasNoBreak};
 ghost use Rattle.driver.specs.BaseReader.{IsBeginningRead, IsPlacedBehind};
 ghost use Rattle.driver.specs.HistoryReader.{AreCounted, EntriesRead, IsEntryNext, IsStart, entry_passed};
 ghost use Rattle.driver.specs.TextReader.{IsFaultOf, KeepsPlace};
 ghost use Rattle.history_text.specs.HistoryText.{history_form};
-ghost use Rattle.streams.specs.Whole.{IsTooLong};
+ghost use Rattle.streams.specs.ReadingOn.{IsTooLong};
 ghost use Rattle.streams.specs.Window.{room};
 
 use crate::base_reader::read_base;
@@ -43,7 +44,8 @@ pub struct HistoryReader {
 impl Model for HistoryReader {
     ghost use Rattle.std.specs.Prelude.{◌≡◌, ◌≤◌, ◌+◌, ◌<◌, length};
     ghost use Rattle.history.specs.Entries.{or_opening};
-    ghost use Rattle.history.specs.GoodBase.{IsBaseOf, most_folded};
+    ghost use Rattle.history.specs.declared.limits.TheConstants.{MOST_FOLDED};
+    ghost use Rattle.history.specs.GoodBase.{IsBaseOf};
     ghost use Rattle.history.specs.Header.{IsInRange};
     ghost use Rattle.driver.specs.HistoryReader.{EntriesHeld};
     ghost use Rattle.streams.specs.Window.{room};
@@ -58,8 +60,8 @@ impl Model for HistoryReader {
       places = r.window.places;
     } };
 
-    ghost invariant = { λ r. (r.place.count ≤ r.header.cap) × (r.place.calls ≤ most_folded + r.place.count)
-        × (r.place.lines ≤ 1024) × (r.place.folded ≤ most_folded) × IsInRange r.header
+    ghost invariant = { λ r. (r.place.count ≤ r.header.cap) × (r.place.calls ≤ MOST_FOLDED + r.place.count)
+        × (r.place.lines ≤ 1024) × (r.place.folded ≤ MOST_FOLDED) × IsInRange r.header
         × IsBaseOf r.header (or_opening r.header r.base) × (r.window.places ≡ room)
         × (length r.window.bytes ≤ room) };
 }
@@ -110,7 +112,7 @@ impl HistoryReader {
     /// Returns how many entries were folded into the base.
     pub fn folded(&self) -> u64
         ensures value { result ≡ self.now.place.folded }
-        ensures few { result ≤ most_folded }
+        ensures few { result ≤ MOST_FOLDED }
     {
         self.place.folded
     }
@@ -150,7 +152,8 @@ impl HistoryReader {
         ensures header { self.new.header ≡ self.old.header }
         ensures base { self.new.base ≡ self.old.base }
         ensures next { IsEntryNext self.old (R.left reader.old) result self.new (R.left reader.new) }
-        ensures stands { KeepsPlace self.old.bytes (R.left reader.old) result self.new.bytes (R.left reader.new) }
+        ensures stands { KeepsPlace self.old.bytes (R.left reader.old) result self.new.bytes
+            (R.left reader.new) }
         ensures counted { IfOk result (λ next. AreCounted self.old next self.new) }
         ensures uncounted { OnErr result (self.new.place ≡ self.old.place) }
         ensures places { self.new.places ≡ self.old.places }
@@ -186,7 +189,8 @@ impl HistoryReader {
         ensures header { self.new.header ≡ self.old.header }
         ensures base { self.new.base ≡ self.old.base }
         ensures next { IsEntryNext self.old (R.left reader.old) result self.new (R.left reader.new) }
-        ensures stands { KeepsPlace self.old.bytes (R.left reader.old) result self.new.bytes (R.left reader.new) }
+        ensures stands { KeepsPlace self.old.bytes (R.left reader.old) result self.new.bytes
+            (R.left reader.new) }
         ensures counted { IfOk result (λ next. AreCounted self.old next self.new) }
         ensures uncounted { OnErr result (self.new.place ≡ self.old.place) }
         ensures places { self.new.places ≡ self.old.places }

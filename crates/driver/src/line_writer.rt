@@ -7,7 +7,7 @@ ghost use Rattle.history_text.specs.EntryLines.{counts_line};
 ghost use Rattle.driver.specs.LineWriter.{Gathers};
 ghost use Rattle.driver.specs.Replay.{HasLine};
 ghost use Rattle.driver.specs.ReplayText.{answer_line, trim_line};
-ghost use Rattle.streams.specs.Whole.{AppendsFront};
+ghost use Rattle.streams.specs.Writing.{AppendsFront};
 
 use crate::answer_line::{spell_answer, spell_trim};
 use history::fault::Fault;
@@ -18,7 +18,7 @@ use std::alloc::{AllocError, Global};
 use std::marker::Model;
 use streams::sink::Sink;
 use streams::source::DeviceFailed;
-use streams::whole::write_all;
+use streams::writing::write_all;
 
 /// The most bytes of a line.
 const MOST_BYTES: usize = 136;

@@ -27,11 +27,9 @@ use history::entry::Entry;
 use history::fault::Fault;
 use history::step::{Answer, Step};
 use std::alloc::Global;
+use steps::MOST_ACTS;
 use streams::source::Source;
 use streams::stream_fault::StreamFault;
-
-/// The most acts of a good text.
-const MOST_ACTS: u64 = 4_294_967_295;
 
 /// What is kept of the answers besides the core's history.
 #[derive(Drop)]

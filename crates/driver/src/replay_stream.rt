@@ -21,10 +21,10 @@ use history::header::Object;
 use read_write::hooks::RwHooks;
 use reentrant::lock::LockHooks;
 use std::alloc::Global;
+use streams::reading_on::told_at_the_end;
 use streams::sink::Sink;
 use streams::source::Source;
 use streams::stream_fault::StreamFault;
-use streams::whole::told_at_the_end;
 
 /// Reads a steps text, performs its steps and trims on a new object of its header, and writes the answers.
 ///

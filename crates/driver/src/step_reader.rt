@@ -8,7 +8,7 @@ ghost use Rattle.driver.specs.StepReader.{passed, progress};
 ghost use Rattle.driver.specs.TextReader.{IsFaultOf, IsFaultOn, IsNext, IsOfNoText, KeepsPlace, WereRead};
 ghost use Rattle.steps.specs.StepLines.{IsAct};
 ghost use Rattle.steps.specs.StepsText.{steps_form};
-ghost use Rattle.streams.specs.Whole.{IsTooLong};
+ghost use Rattle.streams.specs.ReadingOn.{IsTooLong};
 ghost use Rattle.streams.specs.Window.{room};
 ghost use Rattle.streams.specs.declared.stream_fault.StreamFault.TheVariants.{Memory};
 
@@ -118,7 +118,8 @@ impl StepReader {
         ensures header { self.new.header ≡ self.old.header }
         ensures next { IsNext steps_form (progress self.old (R.left reader.old)) result
             (progress self.new (R.left reader.new)) (R.left reader.new) }
-        ensures stands { KeepsPlace self.old.bytes (R.left reader.old) result self.new.bytes (R.left reader.new) }
+        ensures stands { KeepsPlace self.old.bytes (R.left reader.old) result self.new.bytes
+            (R.left reader.new) }
         ensures seated { IfOk result (λ next. IfSome next (IsAct self.old.header)) }
         ensures few { self.new.count < 2 ^ 64 }
         ensures counted { IfOk result (λ next. IfSome next (λ _. self.new.count ≡ self.old.count + 1)) }
@@ -151,7 +152,8 @@ impl StepReader {
         ensures header { self.new.header ≡ self.old.header }
         ensures next { IsNext steps_form (progress self.old (R.left reader.old)) result
             (progress self.new (R.left reader.new)) (R.left reader.new) }
-        ensures stands { KeepsPlace self.old.bytes (R.left reader.old) result self.new.bytes (R.left reader.new) }
+        ensures stands { KeepsPlace self.old.bytes (R.left reader.old) result self.new.bytes
+            (R.left reader.new) }
         ensures seated { IfOk result (λ next. IfSome next (IsAct self.old.header)) }
         ensures few { self.new.count < 2 ^ 64 }
         ensures counted { IfOk result (λ next. IfSome next (λ _. self.new.count ≡ self.old.count + 1)) }

@@ -11,10 +11,11 @@ ghost use Rattle.history_text.specs.HistoryText.{history_form};
 ghost use Rattle.streams.specs.Streams.{IsReadNoFurther, IsReadOut, Streams};
 
 use audit::verdict::Verdict;
+use streams::reading_on::told_at_the_end;
 use streams::sink::Sink;
 use streams::source::Source;
 use streams::stream_fault::StreamFault;
-use streams::whole::{told_at_the_end, write_all};
+use streams::writing::write_all;
 
 /// A verdict, and the text that is written for it.
 #[derive(Drop)]

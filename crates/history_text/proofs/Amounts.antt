@@ -1,12 +1,13 @@
 -- Each entry of a legal history of an object in range has a line of a history text: its amount and its
 -- condition are small.
-use Rattle.std.proofs.Common.{◌≡◌, ⊎_elim, ℕ, zero, suc, ℤ, pos, negsuc, ◌+◌, ◌<◌, ◌≤◌, Bool, true, false, cond, eqb, ltb, List, [], ◌∷◌, map, length, Some, ap, sym, subst, arith}
+use Rattle.std.proofs.Common.{◌≡◌, ⊎_elim, ℕ, zero, suc, ℤ, pos, negsuc, ◌+◌, ◌<◌, ◌≤◌, Bool, true, false, cond, eqb, ltb, List, [], ◌∷◌, length, Some, ap, sym, subst, arith}
 use Rattle.std.specs.Prelude.{FitsSigned}
 use Rattle.std.specs.Int.{w32}
 use Rattle.std.specs.List.{AllByRecursion}
 use Rattle.std.proofs.lemmas.Bool.{cases_eq}
 use Rattle.std.proofs.lemmas.Int.{ints}
 use Rattle.std.proofs.lemmas.List.{length-append}
+use Rattle.history.specs.declared.limits.TheConstants.{LAST_CONDITION, MOST_AMOUNT, MOST_CONDITIONS}
 use Rattle.history.specs.declared.arrival.Arrival.{Arrival}
 use Rattle.history.specs.declared.entry.Entry.{Entry}
 use Rattle.history.specs.declared.entry.Word.{Word}
@@ -14,11 +15,10 @@ use Rattle.history.specs.declared.entry.Word.TheVariants as word
 use Rattle.history.specs.declared.header.Header.{Header}
 use Rattle.history.specs.declared.header.Object.{Object}
 use Rattle.history.specs.declared.header.Object.TheVariants.{Lock, ReadWrite, Semaphore, Latch}
-use Rattle.history.specs.declared.base.LinePlace.{LinePlace}
 use Rattle.history.specs.Base.{Base, based}
 use Rattle.history.specs.Counts.{free}
 use Rattle.history.specs.EntryWords.{IsSpelt, IsWritten}
-use Rattle.history.specs.GoodBase.{IsBaseOf, IsGood, StandsWell}
+use Rattle.history.specs.GoodBase.{IsBaseOf, IsGood}
 use Rattle.history.specs.Header.{IsInRange, IsOpening}
 use Rattle.history.specs.Legal.{IsLegal, AreSeated}
 use Rattle.history.specs.Line.{line, place_of}
@@ -34,6 +34,7 @@ use Rattle.history.proofs.GoodFolds.{free_fits_base, line_seated_on}
 use Rattle.history.proofs.OneWait.{Saved, Waits, waits_from, placed, lapsing}
 use Rattle.history.proofs.OpeningBase.{opening_good}
 use Rattle.history.proofs.Owners.{most_holds}
+use Rattle.history.proofs.SmallHolds.{stand_few}
 use Rattle.history.proofs.WhoWaits.{comes_back, few_wait}
 use Rattle.history_text.specs.EntryLines.{HasLine}
 use Rattle.history_text.proofs.Spelt.{all_spelt_on}
@@ -53,16 +54,16 @@ asleep_part s h c (suc n) l = ⊎_elim same (other (λ below. asleep_part s h c 
         length (sleepers s h c) ≤ length (asleep (suc n) s h)
     other before ne = let p = before (omega (arith, l, ne)) in let a = all in omega (arith, p, a)
 
-most_few : (o : Object) → most_holds o ≤ 2147483647
+most_few : (o : Object) → most_holds o ≤ MOST_AMOUNT
 most_few (Lock p) = omega arith
 most_few (ReadWrite p) = omega arith
 most_few (Semaphore p c) = omega arith
 most_few (Latch c) = omega arith
 
-free_few : (z : ℤ) → FitsSigned w32 z → at_least_none z ≤ 2147483647
+pub free_few : (z : ℤ) → FitsSigned w32 z → at_least_none z ≤ MOST_AMOUNT
 free_few (pos n) p = by (ltb n 0)
   where
-    by : (b : Bool) → cond b 0 n ≤ 2147483647
+    by : (b : Bool) → cond b 0 n ≤ MOST_AMOUNT
     by true = omega arith
     by false = omega (arith, ints, p)
 free_few (negsuc n) p = omega arith
@@ -75,7 +76,7 @@ one_few n = by (eqb n 0)
     by false = omega arith
 
 -- an object has few conditions
-pub few_conditions : (o : Object) (c : ℕ) → IsOpening o c → c ≤ 16
+pub few_conditions : (o : Object) (c : ℕ) → IsOpening o c → c ≤ MOST_CONDITIONS
 few_conditions (Lock p) c r = r
 few_conditions (ReadWrite p) c r = r
 few_conditions (Semaphore p n) c r = omega (arith, r.0)
@@ -84,16 +85,6 @@ few_conditions (Latch n) c r = omega (arith, r.0)
 -- who comes back gets what it saved, on the condition where it slept
 back_saved : (s : Start) (h : List Entry) (e : Entry) → Waits s h → KnownBy s h e word.Back → Saved s h e.seat
 back_saved s h e v k = let b = comes_back s h v e.seat k.0 k.1 k.2 in subst (Saved s h) b.1 b.0.saved
-
--- those in line on a good base ask for little
-stands_few : (b : Base) (q : List LinePlace) → AllByRecursion (StandsWell b) q →
-    AllByRecursion AsksFew (map (λ p. p.who) q)
-stands_few b [] all = tt
-stands_few b (p ∷ q) all = (
-  ⊎_elim (λ asks. asked_few b.header.object p.who.n asks.1.amount)
-      (λ comes. let n : p.who.n ≡ 1 = ap (λ (a : Arrival). a.n) comes.1.who in omega (arith, n)) all.0,
-  stands_few b q all.1,
-)
 
 module _ (b : Base) (h : List Entry) (e : Entry) (range : IsInRange b.header) (can : CanFold b h) where
   abbrev k : Header
@@ -106,13 +97,13 @@ module _ (b : Base) (h : List Entry) (e : Entry) (range : IsInRange b.header) (c
   waits = waits_from s h (good_waits b can.good) can.legal
 
   few_in_line : AllByRecursion AsksFew (line s h)
-  few_in_line = line_few_on s h (stands_few b b.line can.good.line) can.legal
+  few_in_line = line_few_on s h (stand_few b b.line can.good.line) can.legal
 
-  left_few : (a : Arrival) → place_of e.seat (line s h) ≡ Some a → e.n ≡ a.n → e.n ≤ 2147483647
+  left_few : (a : Arrival) → place_of e.seat (line s h) ≡ Some a → e.n ≡ a.n → e.n ≤ MOST_AMOUNT
   left_few a p q =
-      subst (λ n. n ≤ 2147483647) (sym q) (placed AsksFew e.seat (line s h) a few_in_line p)
+      subst (λ n. n ≤ MOST_AMOUNT) (sym q) (placed AsksFew e.seat (line s h) a few_in_line p)
 
-  amount : e.seat < k.seats → (w : Word) → KnownBy s h e w → e.n ≤ 2147483647
+  amount : e.seat < k.seats → (w : Word) → KnownBy s h e w → e.n ≤ MOST_AMOUNT
   amount seat word.Got r = asked_few k.object e.n r.0.amount
   amount seat word.TryGot r = asked_few k.object e.n r.0.amount
   amount seat word.Queued r = asked_few k.object e.n r.amount
@@ -147,13 +138,13 @@ module _ (b : Base) (h : List Entry) (e : Entry) (range : IsInRange b.header) (c
       let few = free_few (free s h) (free_fits_base b h range can r.1) in
       omega (arith, n, few)
 
-  few_at : e.at < k.conditions → e.at ≤ 15
+  few_at : e.at < k.conditions → e.at ≤ LAST_CONDITION
   few_at l = let c = few_conditions k.object k.conditions range.opening in omega (arith, l, c)
 
-  none_at : e.at ≡ 0 → e.at ≤ 15
+  none_at : e.at ≡ 0 → e.at ≤ LAST_CONDITION
   none_at q = omega (arith, q)
 
-  condition : (w : Word) → KnownBy s h e w → e.at ≤ 15
+  condition : (w : Word) → KnownBy s h e w → e.at ≤ LAST_CONDITION
   condition word.Got r = none_at r.0.at
   condition word.TryGot r = none_at r.0.at
   condition word.Queued r = none_at r.at

@@ -3,8 +3,7 @@ use Rattle.std.proofs.Common.{◌≡◌, ◌≢◌, ⊎_elim, ℕ, ◌+◌, ◌*
 use Rattle.std.specs.Prelude.{codes}
 use Rattle.std.specs.List.{AllByRecursion}
 use Rattle.std.proofs.lemmas.Fmt.{length-decimal-le_wide}
-use Rattle.std.proofs.lemmas.List.{append-nil, length-append}
-use Rattle.std.proofs.lemmas.List.Splits.{join_with_byte-slice_split}
+use Rattle.std.proofs.lemmas.List.{length-append}
 use Rattle.history.specs.declared.base.LinePlace.{LinePlace}
 use Rattle.history.specs.declared.base.SeatBase.{SeatBase}
 use Rattle.history.specs.declared.entry.End.{End}
@@ -15,8 +14,9 @@ use Rattle.history.specs.declared.header.Header.{Header}
 use Rattle.history.specs.declared.header.Object.{Object}
 use Rattle.history.specs.declared.header.Object.TheVariants.{Lock, ReadWrite, Semaphore, Latch}
 use Rattle.history.specs.Base.{Base}
-use Rattle.history.specs.EntryWords.{CameBack, IsWritten, entry_words}
-use Rattle.history.specs.GoodBase.{Asks, GaveUp, Returns, most_folded, most_permits}
+use Rattle.history.specs.EntryWords.{IsWritten, entry_words}
+use Rattle.history.specs.declared.limits.TheConstants.{LAST_CONDITION, MOST_AMOUNT, MOST_BASE_PERMITS, MOST_FOLDED, MOST_HOLDS}
+use Rattle.history.specs.GoodBase.{Asks, GaveUp, Returns}
 use Rattle.history.specs.Header.{IsInRange, IsOpening}
 use Rattle.history.specs.Line.{coming_back}
 use Rattle.history.specs.Object.{opening_count}
@@ -27,53 +27,55 @@ use Rattle.history.proofs.EntryAgain.{plain_entry, words_again_read}
 use Rattle.history.proofs.Numbers.{digits_alone, number_at_again}
 use Rattle.history.proofs.Owners.{most_fits}
 use Rattle.history.proofs.Plain.{ArePlain, words_again}
+use Rattle.history.proofs.Readers.{same_value}
 use Rattle.history.proofs.WideNumbers.{wide_at_again, wide_plain}
 use Rattle.line_text.proofs.Lawful.{Lacks}
+use Rattle.line_text.proofs.Lists.{head_is}
 use Rattle.line_text.proofs.WholeLines.{line_lacks}
 use Rattle.history_text.specs.declared.base_line.BaseLine.{BaseLine}
 use Rattle.history_text.specs.declared.base_line.BaseLine.TheVariants.{Folded, Released, CountedDown, Seat, Stands, Sleeps}
-use Rattle.history_text.specs.BaseLines.{IsBaseLine, base_line, base_words, stood_by, waiting_by}
+use Rattle.history_text.specs.BaseLineLimits.{IsBaseLine, stood_by}
+use Rattle.history_text.specs.BaseLines.{base_line, base_words, waiting_by}
 use Rattle.history_text.specs.BaseReading.{base_line_at, beside_at, folded_at, has_at, sleeps_at, stands_at}
 use Rattle.history_text.specs.BaseRules.{MayFollow, MayHold, BaseSums}
 use Rattle.history_text.specs.EntryLines.{HasLine, counts_line, entry_line}
 use Rattle.history_text.proofs.Amounts.{few_conditions}
+use Rattle.history_text.proofs.Spelt.{came_back}
 use Rattle.history_text.proofs.EntryLemmas.{counts_line-words, counts_plain, entry_line-words, line_plain}
-
-abbrev pub ReadLine : Type 0
-ReadLine = BaseLine × Words
 
 -- ---- the words of a line
 
-folded_again : (x : BaseLine) (t : ℕ) (ws : Words) → 1 ≤ t → t ≤ most_folded → beside_at t ws ≡ Some (x, []) →
+folded_again : (x : BaseLine) (t : ℕ) (ws : Words) → 1 ≤ t → t ≤ MOST_FOLDED → beside_at t ws ≡ Some (x, []) →
     folded_at (decimal t ∷ ws) ≡ Some (x, [])
 unfolding folded_at
-folded_again x t ws some most is = rw (wide_at_again 1 most_folded t ws (omega (arith, most)) some most) is
+folded_again x t ws some most is = rw (wide_at_again 1 MOST_FOLDED t ws (omega (arith, most)) some most) is
 
-unheld_again : (t u : ℕ) → u ≤ most_permits →
+unheld_again : (t u : ℕ) → u ≤ MOST_BASE_PERMITS →
     beside_at t (codes "unheld" ∷ decimal u ∷ []) ≡ Some (Released t u, [])
 unfolding beside_at
-unheld_again t u most = rw (wide_at_again 0 most_permits u [] (omega (arith, most)) (omega arith) most) refl
+unheld_again t u most =
+    rw (wide_at_again 0 MOST_BASE_PERMITS u [] (omega (arith, most)) (omega arith) most) refl
 
-count_again : (t q : ℕ) → q ≤ 2147483647 →
+count_again : (t q : ℕ) → q ≤ MOST_AMOUNT →
     beside_at t (codes "count" ∷ decimal q ∷ []) ≡ Some (CountedDown t q, [])
 unfolding beside_at
-count_again t q most = rw (number_at_again 0 2147483647 q [] (omega (arith, most)) (omega arith) most) refl
+count_again t q most = rw (number_at_again 0 MOST_AMOUNT q [] (omega (arith, most)) (omega arith) most) refl
 
 alone_again : (t : ℕ) → beside_at t [] ≡ Some (Folded t, [])
 unfolding beside_at
 alone_again t = refl
 
-seat_again : (i : ℕ) (has : SeatBase) → i ≤ 255 → has.calls ≤ most_folded → has.exclusive ≤ 2147483647 →
-    has.shared ≤ most_permits
+seat_again : (i : ℕ) (has : SeatBase) → i ≤ 255 → has.calls ≤ MOST_FOLDED → has.exclusive ≤ MOST_HOLDS →
+    has.shared ≤ MOST_BASE_PERMITS
     → has_at (decimal i ∷ codes "calls" ∷ decimal has.calls ∷ codes "x" ∷ decimal has.exclusive ∷ codes "s"
     ∷ decimal has.shared ∷ []) ≡ Some (Seat i has, [])
 unfolding has_at
 seat_again i has small calls exclusive shared =
     rw (
       number_at_again 0 255 i _ (omega (arith, small)) (omega arith) small,
-      number_at_again 0 most_folded has.calls _ (omega (arith, calls)) (omega arith) calls,
-      number_at_again 0 2147483647 has.exclusive _ (omega (arith, exclusive)) (omega arith) exclusive,
-      wide_at_again 0 most_permits has.shared [] (omega (arith, shared)) (omega arith) shared,
+      number_at_again 0 MOST_FOLDED has.calls _ (omega (arith, calls)) (omega arith) calls,
+      number_at_again 0 MOST_HOLDS has.exclusive _ (omega (arith, exclusive)) (omega arith) exclusive,
+      wide_at_again 0 MOST_BASE_PERMITS has.shared [] (omega (arith, shared)) (omega arith) shared,
     ) refl
 
 stands_again : (p : LinePlace) (b : Bool) → p.who.seat ≤ 255 → IsWritten (waiting_by b p) →
@@ -93,14 +95,14 @@ stands_again p false small written same =
       words_again_read (waiting_by false p) written,
     ) (ap (λ (q : LinePlace). Some (Stands q, [])) (sym same))
 
-sleeps_again : (c i h : ℕ) → c ≤ 15 → i ≤ 255 → h ≤ 2147483647 →
+sleeps_again : (c i h : ℕ) → c ≤ LAST_CONDITION → i ≤ 255 → h ≤ MOST_HOLDS →
     sleeps_at (decimal c ∷ decimal i ∷ decimal h ∷ []) ≡ Some (Sleeps c (record { seat = i; holds = h }), [])
 unfolding sleeps_at
 sleeps_again c i h few small most =
     rw (
-      number_at_again 0 15 c _ (omega (arith, few)) (omega arith) few,
+      number_at_again 0 LAST_CONDITION c _ (omega (arith, few)) (omega arith) few,
       number_at_again 0 255 i _ (omega (arith, small)) (omega arith) small,
-      number_at_again 0 2147483647 h [] (omega (arith, most)) (omega arith) most,
+      number_at_again 0 MOST_HOLDS h [] (omega (arith, most)) (omega arith) most,
     ) refl
 
 base_again : (x : BaseLine) → IsBaseLine x → base_line_at (base_words x) ≡ Some (x, [])
@@ -175,34 +177,9 @@ base_line-words x is = words_kept (base_words x) (name_of x) (named x).0 (named 
 pub whole_base_line : (x : BaseLine) → IsBaseLine x → base_line_at (words_of (base_line x)) ≡ Some (x, [])
 whole_base_line x is = ap base_line_at (base_line-words x is) ∙ base_again x is
 
-inside : (x y : ReadLine) → Some x ≡ Some y → x ≡ y
-inside x y e = cc
-
-none_is : (x : ReadLine) → None ≡ Some x → ⊥
-none_is x e = cc
-
-pub base_unread : (line : List ℕ) → None ≡ base_line_at (words_of line) → (x : BaseLine) → IsBaseLine x →
-    line ≡ base_line x → ⊥
-base_unread line none x fits is =
-    none_is (x, []) (none ∙ ap (λ (t : List ℕ). base_line_at (words_of t)) is ∙ whole_base_line x fits)
-
-pub base_not_all_read : (line : List ℕ) (found : BaseLine) (w : List ℕ) (ws : Words) →
-    Some (found, w ∷ ws) ≡ base_line_at (words_of line) → (x : BaseLine) → IsBaseLine x →
-    line ≡ base_line x → ⊥
-base_not_all_read line found w ws some x fits is =
-    let same : w ∷ ws ≡ [] =
-    ap (λ (x : ReadLine). x.1) (inside (found, w ∷ ws) (x, [])
-    (some ∙ ap (λ (t : List ℕ). base_line_at (words_of t)) is ∙ whole_base_line x fits)) in
-    cc
-
-pub is_base_line : (line : List ℕ) (x : BaseLine) → words_of line ≡ base_words x ++ [] → line ≡ base_line x
-is_base_line line x words = sym (join_with_byte-slice_split 32 line)
-    ∙ ap line_of (words ∙ append-nil (base_words x))
-
 pub same_base_line : (x y : BaseLine) → IsBaseLine x → IsBaseLine y → base_line x ≡ base_line y → x ≡ y
 same_base_line x y p q e =
-    ap (λ (f : ReadLine). f.0) (inside (x, []) (y, [])
-    (sym (whole_base_line x p) ∙ ap (λ (t : List ℕ). base_line_at (words_of t)) e ∙ whole_base_line y q))
+    same_value base_line_at (base_line x) (base_line y) x y (whole_base_line x p) (whole_base_line y q) e
 
 pub base_lacks : (x : BaseLine) → IsBaseLine x → Lacks (base_line x)
 base_lacks x is = line_lacks (base_words x) (base_plain x is)
@@ -233,15 +210,11 @@ some_bytes (Seat i has) = omega arith
 some_bytes (Stands p) = omega arith
 some_bytes (Sleeps c x) = omega arith
 
-first_word : (x y : List ℕ) (xs ys : Words) → x ∷ xs ≡ y ∷ ys → x ≡ y
-first_word x y xs ys e = cc
-
 -- the words of two lines that are the same
 same_first : (x : BaseLine) (w : List ℕ) (ws : Words) → IsBaseLine x → ArePlain (w ∷ ws) →
     base_line x ≡ line_of (w ∷ ws) → name_of x ≡ w
 same_first x w ws is plain e =
-    first_word (name_of x) w (named x).0 ws (sym (named x).1 ∙ sym (base_line-words x is) ∙ ap words_of e
-    ∙ words_again w ws plain)
+    head_is (sym (named x).1 ∙ sym (base_line-words x is) ∙ ap words_of e ∙ words_again w ws plain)
 
 pub base_no_entry : (x : BaseLine) (h : Header) (k : ℕ) (e : Entry) → IsBaseLine x → k < 2 ^ 64 →
     IsInRange h → HasLine h e → base_line x ≡ entry_line k e → ⊥
@@ -276,13 +249,13 @@ short_weight (w ∷ ws) short = omega (arith, short.0, short_weight ws short.1)
 digits : (k n : ℕ) → 0 < k → n < 10 ^ k → n < 10 ^ 64 → length (decimal n) ≤ k
 digits = length-decimal-le_wide
 
-few_bytes : (n : ℕ) → n ≤ 2147483647 → length (decimal n) ≤ 10
+few_bytes : (n : ℕ) → n ≤ MOST_AMOUNT → length (decimal n) ≤ 10
 few_bytes n lt = digits 10 n (omega arith) (omega (arith, lt)) (omega (arith, lt))
 
-folded_bytes : (n : ℕ) → n ≤ most_folded → length (decimal n) ≤ 16
+folded_bytes : (n : ℕ) → n ≤ MOST_FOLDED → length (decimal n) ≤ 16
 folded_bytes n lt = digits 16 n (omega arith) (omega (arith, lt)) (omega (arith, lt))
 
-permit_bytes : (n : ℕ) → n ≤ most_permits → length (decimal n) ≤ 26
+permit_bytes : (n : ℕ) → n ≤ MOST_BASE_PERMITS → length (decimal n) ≤ 26
 permit_bytes n lt = digits 26 n (omega arith) (omega (arith, lt)) (omega (arith, lt))
 
 base_weight : (x : BaseLine) → IsBaseLine x →
@@ -322,24 +295,18 @@ base_short x is stands =
 
 -- ---- a line that may follow is spelt
 
-opening_few : (o : Object) (c : ℕ) → IsOpening o c → opening_count o ≤ 2147483647
+opening_few : (o : Object) (c : ℕ) → IsOpening o c → opening_count o ≤ MOST_AMOUNT
 opening_few (Lock p) c r = omega arith
 opening_few (ReadWrite p) c r = omega arith
 opening_few (Semaphore p n) c r = omega arith
 opening_few (Latch n) c r = omega (arith, r.1)
 
 few_held : (o : Object) (seats : ℕ) (t : BaseSums) (has : SeatBase) → MayHold o seats t has →
-    (has.exclusive ≤ 2147483647) × (has.shared ≤ most_permits)
+    (has.exclusive ≤ MOST_HOLDS) × (has.shared ≤ MOST_BASE_PERMITS)
 few_held (Lock p) seats t has may = (omega (arith, may.0), omega (arith, may.1))
 few_held (ReadWrite p) seats t has may = (omega (arith, may.0), omega (arith, may.1))
 few_held (Semaphore p c) seats t has may = (omega (arith, may.0), may.1)
 few_held (Latch c) seats t has may = (omega (arith, may.0), omega (arith, may.1))
-
-came_back : (how : End) → how ≢ end.None → CameBack how
-came_back end.None some = absurd (some refl)
-came_back end.Timeout some = tt
-came_back end.Interrupt some = tt
-came_back end.Signalled some = tt
 
 abbrev standing : ℕ → Mode → ℕ → Bool → ℕ → ℕ → End → LinePlace
 standing seat mode n back condition holds how =
@@ -372,7 +339,7 @@ asks_line b p range back asks =
     (omega (arith, range.seats, asks.seat), both.0, both.1)
 
 gave_few : (b : Base) (i c n : ℕ) → IsInRange b.header → GaveUp b i c n →
-    (i ≤ 255) × (c ≤ 15) × (n ≤ 2147483647)
+    (i ≤ 255) × (c ≤ LAST_CONDITION) × (n ≤ MOST_HOLDS)
 gave_few b i c n range gave = (
   omega (arith, range.seats, gave.seat),
   omega (arith, few_conditions b.header.object b.header.conditions range.opening, gave.condition),
@@ -395,8 +362,8 @@ returns_line b p range back returns =
     (record { words = (refl, came_back p.how returns.how); amount = few.2; condition = few.1 }) is in
     (few.0, both.0, both.1)
 
-pub may_follow_spelt : (t : BaseSums) (b : Base) (x : BaseLine) → IsInRange b.header → t.entries ≤ most_folded →
-    MayFollow t b x → IsBaseLine x
+pub may_follow_spelt : (t : BaseSums) (b : Base) (x : BaseLine) → IsInRange b.header →
+    t.entries ≤ MOST_FOLDED → MayFollow t b x → IsBaseLine x
 may_follow_spelt t b (Folded n) range few may = (may.0.some, may.0.most)
 may_follow_spelt t b (Released n u) range few may = (may.0.some, may.0.most, may.2)
 may_follow_spelt t b (CountedDown n q) range few may = (

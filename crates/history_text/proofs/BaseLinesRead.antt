@@ -162,7 +162,8 @@ module _ (t : BaseSums) (b : Base) (lines : ℕ) (is : IsUnderWay t b lines) whe
         base = ap (λ (k : Header). base_by k (lines_read (with_sums t x) (with_line b x))) header
             ∙ ap (base_by b.header) line ∙ base-append (opening_base b.header) xs (x ∷ [])
             ∙ ap (λ (z : Base). with_line z x) is.base;
-        told = ap sums_of line ∙ told-append no_sums xs (x ∷ []) ∙ ap (λ (z : BaseSums). with_sums z x) is.told;
+        told = ap sums_of line ∙ told-append no_sums xs (x ∷ [])
+            ∙ ap (λ (z : BaseSums). with_sums z x) is.told;
         count = omega (arith, ap (λ (l : List BaseLine). length l) line, length-append xs (x ∷ []), is.count);
       }
 

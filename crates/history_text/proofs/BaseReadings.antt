@@ -8,7 +8,8 @@ use Rattle.line_text.specs.Reading.{Begins}
 use Rattle.line_text.proofs.OneReading.{lacks, same_lines}
 use Rattle.history_text.specs.declared.base_line.BaseLine.{BaseLine}
 use Rattle.history_text.specs.declared.place.Head.{Head}
-use Rattle.history_text.specs.BaseLines.{IsBaseLine, base_line}
+use Rattle.history_text.specs.BaseLineLimits.{IsBaseLine}
+use Rattle.history_text.specs.BaseLines.{base_line}
 use Rattle.history_text.specs.HistoryText.{history_form}
 use Rattle.history_text.specs.NextLine.{IsBaseLineNext, LacksBaseLine, LinesRead}
 use Rattle.history_text.specs.TextLines.{Based, Entered, Line, SomeBeginsSo, line_text}

@@ -6,6 +6,7 @@ use lib.IntN.{negsuc}
 use Rattle.std.proofs.lemmas.Bool.{cases_eq, cases_lt}
 use Rattle.std.proofs.lemmas.Int.{ints}
 use Rattle.std.proofs.lemmas.List.{get_or_past, map-append}
+use Rattle.history.specs.declared.limits.TheConstants.{MOST_AMOUNT}
 use Rattle.history.specs.declared.arrival.Arrival.{Arrival}
 use Rattle.history.specs.declared.base.SeatBase.{SeatBase}
 use Rattle.history.specs.declared.base.Sleeper.{Sleeper}
@@ -24,6 +25,7 @@ use Rattle.history.specs.Ownership.{IsOwned, most_exclusive, most_shared}
 use Rattle.history.specs.Steps.{at_least_none}
 use Rattle.history.specs.Waiting.{seats_of, times}
 use Rattle.history.proofs.GoodBases.{waits_once}
+use Rattle.history.proofs.OneOwner.{total_less}
 use Rattle.history.proofs.Sums.{total_change, total_nothing, total_same}
 use Rattle.history.proofs.Times.{once_same, times-append, total_part}
 use Rattle.history_text.specs.declared.base_line.BaseLine.{BaseLine}
@@ -37,11 +39,7 @@ use Rattle.history_text.proofs.BaseTold.{SoFar, gave_moved, pos_kept, stands_mov
 use Rattle.history_text.proofs.BaseWhole.{follow_front}
 use Rattle.history_text.proofs.BaseWalk.{AtLine, AtSeats, AtSleepers, IsTold, base_told}
 
--- a sum that is less by one term, or by a part of it
-total_under : (n : ℕ) (f g : ℕ → ℕ) → ((i : ℕ) → f i ≤ g i) → total n f ≤ total n g
-total_under zero f g l = omega arith
-total_under (suc n) f g l = let ih = total_under n f g l in let m = l n in omega (arith, ih, m)
-
+-- a sum that is less by a part of one term
 total_less_by : (n : ℕ) (f g : ℕ → ℕ) (j c : ℕ) → j < n → ((i : ℕ) → f i ≤ g i) → f j + c ≤ g j →
     total n f + c ≤ total n g
 total_less_by zero f g j c l under at = absurd (omega arith)
@@ -50,7 +48,7 @@ total_less_by (suc n) f g j c l under at =
   where
     here : n ≡ j → total (suc n) f + c ≤ total (suc n) g
     here e =
-        let rest = total_under n f g under in
+        let rest = total_less n f g under in
         let d : f n + c ≤ g n = subst (λ m. f m + c ≤ g m) (sym e) at in
         omega (arith, rest, d)
 
@@ -87,13 +85,13 @@ permits_lowest (negsuc n) f u s e (inl l) =
 permits_lowest (negsuc n) f u s e (inr l) =
     let a : at_least_none (negsuc n) ≡ 0 = refl in omega (arith, ints, a)
 
-permits_highest : (c f : ℤ) (u s : ℕ) → f ≡ (c +ℤ pos u) -ℤ pos s → f ≤ℤ pos 2147483647 →
-    u + at_least_none c ≤ 2147483647 + s + at_least_none (neg_ℤ c)
+permits_highest : (c f : ℤ) (u s : ℕ) → f ≡ (c +ℤ pos u) -ℤ pos s → f ≤ℤ pos MOST_AMOUNT →
+    u + at_least_none c ≤ MOST_AMOUNT + s + at_least_none (neg_ℤ c)
 permits_highest (pos n) f u s e l = let a = pos_kept n in omega (arith, ints, a)
 permits_highest (negsuc n) f u s e l =
     let a : at_least_none (negsuc n) ≡ 0 = refl in
     let b : at_least_none (pos (suc n)) ≡ suc n = pos_kept (suc n) in
-    let d : u ≤ 2147483647 + s + suc n = omega (arith, ints) in
+    let d : u ≤ MOST_AMOUNT + s + suc n = omega (arith, ints) in
     omega (arith, a, b, d)
 
 none_if : (m : ℕ) → (0 < m → ⊥) → m ≡ 0
@@ -102,8 +100,8 @@ none_if (suc m) f = absurd (f (omega arith))
 
 module _ (g : Base) (range : IsInRange g.header) (good : IsGood g) where
   -- what a seat may hold
-  module _ (n : ℕ) (done : List BaseLine) (t : BaseSums) (b : Base) (so : SoFar done t b) (at : AtSeats g n t b)
-      (l : n < g.header.seats) where
+  module _ (n : ℕ) (done : List BaseLine) (t : BaseSums) (b : Base) (so : SoFar done t b)
+      (at : AtSeats g n t b) (l : n < g.header.seats) where
     has : SeatBase
     has = seat_of g n
 

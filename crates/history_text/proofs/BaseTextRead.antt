@@ -2,7 +2,7 @@
 use Rattle.std.proofs.Common.{◌≡◌, ℕ, ◌≤◌, true, List, [], ◌∷◌, ◌++◌, length, map, refl, sym, ap, subst, ◌∙◌, arith}
 use Rattle.std.proofs.lemmas.List.{map-append}
 use Rattle.history.specs.Base.{Base}
-use Rattle.history.specs.GoodBase.{most_folded}
+use Rattle.history.specs.declared.limits.TheConstants.{MOST_FOLDED}
 use Rattle.history.specs.Text.{ended}
 use Rattle.line_text.specs.Reading.{Begins}
 use Rattle.line_text.proofs.Growing.{broken, one_more}
@@ -56,7 +56,7 @@ module _ (text : List ℕ) (h : Head) (based : h.is_based ≡ true) where
 
 -- its numbers are small
 pub told_few : (h : Head) (b : Base) → IsToldBase h.header b →
-    (b.entries ≤ most_folded) × (calls_sum b.seats ≤ most_folded)
+    (b.entries ≤ MOST_FOLDED) × (calls_sum b.seats ≤ MOST_FOLDED)
 told_few h b is = let few = sum_few b is.good in let most = is.good.entries in (
   most,
   omega (

@@ -18,7 +18,8 @@ use Rattle.history.specs.declared.header.Object.{Object}
 use Rattle.history.specs.declared.header.Object.TheVariants.{Lock, ReadWrite, Semaphore, Latch}
 use Rattle.history.specs.Base.{Base, based, each_below, nothing, opening_base, seat_of, sleepers_of}
 use Rattle.history.specs.Counts.{free, held, total}
-use Rattle.history.specs.GoodBase.{AreCounted, AreHeld, GaveUp, IsGood, SleepsWell, StandsWell, most_folded, most_permits}
+use Rattle.history.specs.declared.limits.TheConstants.{MOST_AMOUNT, MOST_BASE_PERMITS, MOST_FOLDED}
+use Rattle.history.specs.GoodBase.{AreCounted, AreHeld, GaveUp, IsGood, SleepsWell, StandsWell}
 use Rattle.history.specs.Header.{IsInRange}
 use Rattle.history.specs.Object.{created, is_latch, is_lock, is_semaphore, opening_count}
 use Rattle.history.specs.Ownership.{IsOwned, most_exclusive, most_shared}
@@ -27,7 +28,7 @@ use Rattle.history.specs.Steps.{at_least_none}
 use Rattle.history.specs.Waiting.{IsOneWait, seats_of, times}
 use Rattle.history.proofs.Folding.{get_or-each, length-each}
 use Rattle.history.proofs.LineLemmas.{line_at_first}
-use Rattle.history.proofs.OpeningBase.{no_seat, opening_good}
+use Rattle.history.proofs.OpeningBase.{no_seat, nothing_summed, opening_good}
 use Rattle.history.proofs.SleepLemmas.{times-waiting}
 use Rattle.history.proofs.Sums.{total_nothing, total_same}
 use Rattle.history.proofs.Times.{each-append, once_other, once_same, one_if, pigeonhole_less, total_part}
@@ -58,15 +59,15 @@ pub record Summed (t : BaseSums) (b : Base) : Type 0 where
   pub exclusive : total b.header.seats (λ i. (seat_of b i).exclusive) ≡ t.exclusive
   pub shared : total b.header.seats (λ i. (seat_of b i).shared) ≡ t.shared
   pub few : t.calls ≤ t.entries
-  pub most : t.entries ≤ most_folded
+  pub most : t.entries ≤ MOST_FOLDED
 
 -- the permits of a semaphore so far
 pub record PermitsSoFar (created : ℤ) (t : BaseSums) (b : Base) : Type 0 where
   pub exclusive : (i : ℕ) → (seat_of b i).exclusive ≡ 0
-  pub shared : (i : ℕ) → (seat_of b i).shared ≤ most_permits
+  pub shared : (i : ℕ) → (seat_of b i).shared ≤ MOST_BASE_PERMITS
   pub lowest : t.shared ≤ t.unheld + at_least_none created
   pub highest : t.seats ≡ b.header.seats →
-      t.unheld + at_least_none created ≤ 2147483647 + t.shared + at_least_none (neg_ℤ created)
+      t.unheld + at_least_none created ≤ MOST_AMOUNT + t.shared + at_least_none (neg_ℤ created)
 
 abbrev pub HeldSoFar : Object → BaseSums → Base → Type 0
 HeldSoFar (Lock policy) t b = IsOwned (based b) []
@@ -205,11 +206,6 @@ no_sleepers k c =
 
 -- nothing was told
 module _ (k : Header) (range : IsInRange k) where
-  no_sum : (f : SeatBase → ℕ) → f nothing ≡ 0 → total k.seats (λ i. f (seat_of (opening_base k) i)) ≡ 0
-  no_sum f z =
-      total_same k.seats (λ i. f (seat_of (opening_base k) i)) (λ i. 0) (λ i. ap f (no_seat k i) ∙ z)
-      ∙ total_nothing k.seats
-
   held_none : (o : Object) → AreHeld o (opening_base k) → HeldSoFar o no_sums (opening_base k)
   held_none (Lock p) v = v
   held_none (ReadWrite p) v = v
@@ -240,9 +236,9 @@ module _ (k : Header) (range : IsInRange k) where
           length = length-each k.seats (λ i. nothing);
           seats = omega arith;
           rest = λ i l. no_seat k i;
-          calls = no_sum (λ x. x.calls) refl;
-          exclusive = no_sum (λ x. x.exclusive) refl;
-          shared = no_sum (λ x. x.shared) refl;
+          calls = nothing_summed k (λ x. x.calls) refl;
+          exclusive = nothing_summed k (λ x. x.exclusive) refl;
+          shared = nothing_summed k (λ x. x.shared) refl;
           few = omega arith;
           most = omega arith;
         };
@@ -497,8 +493,8 @@ module _ (done : List BaseLine) (t : BaseSums) (b : Base) (so : SoFar done t b) 
         exclusive = λ j. ⊎_elim (λ e. ap (λ (x : SeatBase). x.exclusive) (here j e) ∙ may.0)
             (λ ne. ap (λ (x : SeatBase). x.exclusive) (other j ne) ∙ v.exclusive j) (cases_eq j i);
         shared = λ j. ⊎_elim
-            (λ e. subst (λ (x : SeatBase). x.shared ≤ most_permits) (sym (here j e)) may.1)
-            (λ ne. subst (λ (x : SeatBase). x.shared ≤ most_permits) (sym (other j ne)) (v.shared j))
+            (λ e. subst (λ (x : SeatBase). x.shared ≤ MOST_BASE_PERMITS) (sym (here j e)) may.1)
+            (λ ne. subst (λ (x : SeatBase). x.shared ≤ MOST_BASE_PERMITS) (sym (other j ne)) (v.shared j))
             (cases_eq j i);
         lowest = may.2;
         highest = may.3;
@@ -806,7 +802,8 @@ folded_only (ReadWrite p) b n t = refl
 folded_only (Semaphore p c) b n t = absurd (cc)
 folded_only (Latch c) b n t = absurd (cc)
 
-released : (o : Object) (b : Base) (n u : ℕ) → is_semaphore o ≡ true → u ≤ most_permits → AreCounted o b →
+released : (o : Object) (b : Base) (n u : ℕ) → is_semaphore o ≡ true → u ≤ MOST_BASE_PERMITS →
+    AreCounted o b →
     AreCounted o (record b { entries = n; unheld = u })
     × (first_line o (record b { entries = n; unheld = u }) ≡ Released n u)
 released (Lock p) b n u t l v = absurd (cc)
@@ -823,8 +820,8 @@ counted_down (Semaphore p c) b n q t l v = absurd (cc)
 counted_down (Latch c) b n q t l v = ((v.0, l), refl)
 
 -- one line more
-pub goes_on : (done : List BaseLine) (t : BaseSums) (b : Base) (x : BaseLine) → SoFar done t b → MayFollow t b x →
-    SoFar (done ++ x ∷ []) (with_sums t x) (with_line b x)
+pub goes_on : (done : List BaseLine) (t : BaseSums) (b : Base) (x : BaseLine) → SoFar done t b →
+    MayFollow t b x → SoFar (done ++ x ∷ []) (with_sums t x) (with_line b x)
 goes_on done t b (Folded n) so may =
     first_told done t b so n t.unheld b.unheld b.count (Folded n) so.summed.unheld may.0
     (counted_same b.header.object b (record b { entries = n }) refl refl so.counted)
@@ -880,8 +877,8 @@ pos_kept n = by (ltb n 0) refl
     by false t = refl
 
 few_free : (c f : ℤ) (u s : ℕ) → f ≡ (c +ℤ pos u) -ℤ pos s → s ≤ u + at_least_none c →
-    u + at_least_none c ≤ 2147483647 + s + at_least_none (neg_ℤ c) →
-    ((pos 0 ≤ℤ f) ⊎ (c ≤ℤ f)) × (f ≤ℤ pos 2147483647)
+    u + at_least_none c ≤ MOST_AMOUNT + s + at_least_none (neg_ℤ c) →
+    ((pos 0 ≤ℤ f) ⊎ (c ≤ℤ f)) × (f ≤ℤ pos MOST_AMOUNT)
 few_free (pos zero) f u s e l m = (inl (omega (arith, ints)), omega (arith, ints))
 few_free (pos (suc n)) f u s e l m =
     let a : at_least_none (pos (suc n)) ≡ suc n = pos_kept (suc n) in
@@ -890,18 +887,19 @@ few_free (pos (suc n)) f u s e l m =
 few_free (negsuc n) f u s e l m =
     let a : at_least_none (pos (suc n)) ≡ suc n = pos_kept (suc n) in
     let b : at_least_none (negsuc n) ≡ 0 = refl in
-    let d : u ≤ 2147483647 + s + suc n = omega (arith, m, a, b) in
+    let d : u ≤ MOST_AMOUNT + s + suc n = omega (arith, m, a, b) in
     (inr (omega (arith, ints)), omega (arith, ints, d))
 
 -- a base that was told whole
-module _ (done : List BaseLine) (t : BaseSums) (b : Base) (so : SoFar done t b) (all : AllSeated b.header t) where
+module _ (done : List BaseLine) (t : BaseSums) (b : Base) (so : SoFar done t b)
+    (all : AllSeated b.header t) where
   held_whole : (o : Object) → b.header.object ≡ o → HeldSoFar o t b → AreHeld o b
   held_whole (Lock p) q v = v
   held_whole (ReadWrite p) q v = v
   held_whole (Semaphore p c) q v =
       record { exclusive = v.exclusive; shared = v.shared; lowest = few.0; highest = few.1 }
     where
-      few : ((pos 0 ≤ℤ free (based b) []) ⊎ (c ≤ℤ free (based b) [])) × (free (based b) [] ≤ℤ pos 2147483647)
+      few : ((pos 0 ≤ℤ free (based b) []) ⊎ (c ≤ℤ free (based b) [])) × (free (based b) [] ≤ℤ pos MOST_AMOUNT)
       few =
           few_free c (free (based b) []) t.unheld t.shared
           (ap (λ o. (created o +ℤ pos b.unheld) -ℤ pos (total b.header.seats (λ i. (seat_of b i).shared))) q

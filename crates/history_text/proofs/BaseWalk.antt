@@ -37,8 +37,8 @@ abbrev Goes : (BaseSums → Base → Type 0) → BaseSums → Base → List Base
 Goes P t b xs = AllRead b t xs × P (after_told t xs) (with_lines b xs)
 
 -- one part behind another
-goes-append : (P Q : BaseSums → Base → Type 0) (t : BaseSums) (b : Base) (xs ys : List BaseLine) → Goes P t b xs →
-    Goes Q (after_told t xs) (with_lines b xs) ys → Goes Q t b (xs ++ ys)
+goes-append : (P Q : BaseSums → Base → Type 0) (t : BaseSums) (b : Base) (xs ys : List BaseLine) →
+    Goes P t b xs → Goes Q (after_told t xs) (with_lines b xs) ys → Goes Q t b (xs ++ ys)
 goes-append P Q t b xs ys p q = (follow-append t b xs ys p.0 q.0, moved Q t b xs ys q.1)
 
 -- the base so far is this one's part
@@ -153,8 +153,8 @@ module _ (g : Base) (range : IsInRange g.header) (long : length g.seats ≡ g.he
       }
 
   -- one more asleep
-  after_sleeps : (c : ℕ) (x : Sleeper) (front : List Sleeper) (done : List BaseLine) (t : BaseSums) (b : Base) →
-      SoFar done t b → AtSleepers g c front t b → IsFree t x.seat → SleepsWell b c x →
+  after_sleeps : (c : ℕ) (x : Sleeper) (front : List Sleeper) (done : List BaseLine) (t : BaseSums)
+      (b : Base) → SoFar done t b → AtSleepers g c front t b → IsFree t x.seat → SleepsWell b c x →
       AtSleepers g c (front ++ x ∷ []) (with_sums t (Sleeps c x)) (with_line b (Sleeps c x))
   after_sleeps c x front done t b so at is_free well =
       record {
@@ -296,8 +296,8 @@ module _ (g : Base) (range : IsInRange g.header) (long : length g.seats ≡ g.he
       (seat : (n : ℕ) (done : List BaseLine) (t : BaseSums) (b : Base) → SoFar done t b → AtSeats g n t b →
       n < g.header.seats → (xs : List BaseLine) → Known t (Seat n (seat_of g n) ∷ xs) →
       MayFollow t b (Seat n (seat_of g n)) × Known (with_sums t (Seat n (seat_of g n))) xs)
-      (stand : (p : LinePlace) (front rest : List LinePlace) (done : List BaseLine) (t : BaseSums) (b : Base) →
-      SoFar done t b → AtLine g front t b → front ++ p ∷ rest ≡ g.line → (xs : List BaseLine) →
+      (stand : (p : LinePlace) (front rest : List LinePlace) (done : List BaseLine) (t : BaseSums)
+      (b : Base) → SoFar done t b → AtLine g front t b → front ++ p ∷ rest ≡ g.line → (xs : List BaseLine) →
       Known t (Stands p ∷ xs) → MayFollow t b (Stands p) × Known (with_sums t (Stands p)) xs)
       (sleep : (c : ℕ) (x : Sleeper) (front rest : List Sleeper) (done : List BaseLine) (t : BaseSums)
       (b : Base) → SoFar done t b → AtSleepers g c front t b → front ++ x ∷ rest ≡ sleepers_of g c →
@@ -307,8 +307,9 @@ module _ (g : Base) (range : IsInRange g.header) (long : length g.seats ≡ g.he
     abbrev With : (BaseSums → Base → Type 0) → List BaseLine → BaseSums → Base → Type 0
     With P xs t b = P t b × Known t xs
 
-    seats_go : (m n : ℕ) (done : List BaseLine) (t : BaseSums) (b : Base) (xs : List BaseLine) → SoFar done t b →
-        AtSeats g n t b → n + m ≡ g.header.seats → Known t (seat_lines n (drop n g.seats) ++ xs) →
+    seats_go : (m n : ℕ) (done : List BaseLine) (t : BaseSums) (b : Base) (xs : List BaseLine) →
+        SoFar done t b → AtSeats g n t b → n + m ≡ g.header.seats →
+        Known t (seat_lines n (drop n g.seats) ++ xs) →
         Goes (With (AtSeats g g.header.seats) xs) t b (seat_lines n (drop n g.seats))
     seats_go zero n done t b xs so at e known =
         let q : n ≡ g.header.seats = omega (arith, e) in
@@ -378,8 +379,8 @@ module _ (g : Base) (range : IsInRange g.header) (long : length g.seats ≡ g.he
         ys here rest)
 
     -- behind the seats
-    wait_goes : (done : List BaseLine) (t : BaseSums) (b : Base) → SoFar done t b → AtSeats g g.header.seats t b →
-        Known t (map Stands g.line ++ sleeper_lines 0 g.sleepers) →
+    wait_goes : (done : List BaseLine) (t : BaseSums) (b : Base) → SoFar done t b →
+        AtSeats g g.header.seats t b → Known t (map Stands g.line ++ sleeper_lines 0 g.sleepers) →
         Goes (AtSleepers g g.header.conditions []) t b (map Stands g.line ++ sleeper_lines 0 g.sleepers)
     wait_goes done t b so at known =
         let xs = map Stands g.line in

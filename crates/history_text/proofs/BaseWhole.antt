@@ -1,11 +1,9 @@
 -- Whatever lines of a base follow one another, more can follow until all seats are told: so some good base
 -- begins with them.
 use Rattle.std.proofs.Common.{◌≡◌, inl, inr, ⊎_elim, ℕ, zero, suc, ◌+◌, ◌-◌, ◌<◌, ◌≤◌, List, [], ◌∷◌, ◌++◌, refl, ap, sym, subst, arith}
-use Rattle.std.specs.Prelude.{ℤ, pos, neg_ℤ, FitsSigned}
-use Rattle.std.specs.Int.{w32}
-use lib.IntN.{negsuc}
+use Rattle.std.specs.Prelude.{neg_ℤ}
 use Rattle.std.proofs.lemmas.Bool.{cases_lt}
-use Rattle.std.proofs.lemmas.Int.{ints}
+use Rattle.history.specs.declared.limits.TheConstants.{MOST_AMOUNT}
 use Rattle.history.specs.declared.base.SeatBase.{SeatBase}
 use Rattle.history.specs.declared.header.Header.{Header}
 use Rattle.history.specs.declared.header.Object.{Object}
@@ -23,7 +21,8 @@ use Rattle.history_text.specs.BaseTelling.{Follow, base_by, sums_of}
 use Rattle.history_text.specs.ToldBases.{IsToldBase}
 use Rattle.history_text.specs.BaseLines.{base_lines}
 use Rattle.history_text.specs.BaseRules.{AllSeated, MayFollow, MayHold, BaseSums, with_sums, no_sums, with_line}
-use Rattle.history_text.proofs.BaseTold.{HeldSoFar, SoFar, Summed, goes_on, header_after, header_kept, pos_kept, told_so_far, whole_told}
+use Rattle.history_text.proofs.Amounts.{free_few}
+use Rattle.history_text.proofs.BaseTold.{HeldSoFar, SoFar, Summed, goes_on, header_after, header_kept, told_so_far, whole_told}
 
 -- lines behind lines
 pub told-append : (t : BaseSums) (xs ys : List BaseLine) →
@@ -50,15 +49,11 @@ abbrev needed : Object → BaseSums → ℕ
 needed (Lock policy) t = 0
 needed (ReadWrite policy) t = 0
 needed (Semaphore policy permits) t =
-    (t.unheld + at_least_none permits) - (2147483647 + t.shared + at_least_none (neg_ℤ permits))
+    (t.unheld + at_least_none permits) - (MOST_AMOUNT + t.shared + at_least_none (neg_ℤ permits))
 needed (Latch opening) t = 0
 
 abbrev next_seat : Object → BaseSums → SeatBase
 next_seat o t = record { calls = 0; exclusive = 0; shared = needed o t }
-
-few_created : (c : ℤ) → FitsSigned w32 c → at_least_none c ≤ 2147483647
-few_created (pos n) f = let e = pos_kept n in omega (arith, ints, e, f)
-few_created (negsuc n) f = let e : at_least_none (negsuc n) ≡ 0 = refl in omega (arith, e)
 
 may_hold : (t : BaseSums) (b : Base) → Summed t b → (o : Object) → b.header.object ≡ o → HeldSoFar o t b →
     AreCounted o b → IsOpening o b.header.conditions → MayHold o b.header.seats t (next_seat o t)
@@ -71,7 +66,7 @@ may_hold t b sums (ReadWrite p) q v counted opening = (
 )
 may_hold t b sums (Semaphore p c) q v counted opening = (
   refl,
-  (let u = sums.unheld in let l = counted.0 in let f = few_created c opening.1 in omega (arith, u, l, f)),
+  (let u = sums.unheld in let l = counted.0 in let f = free_few c opening.1 in omega (arith, u, l, f)),
   (let l = v.lowest in omega (arith, l)),
   λ e. omega arith,
 )

@@ -9,7 +9,7 @@ use Rattle.history.specs.Text.{ended}
 use Rattle.history_text.specs.declared.base_line.BaseLine.{BaseLine}
 use Rattle.history_text.specs.declared.base_line.BaseLine.TheVariants.{Seat, Sleeps}
 use Rattle.history_text.specs.BaseLines.{base_line, seat_lines, sleeper_lines}
-use Rattle.history_text.specs.BaseText.{lines_text}
+use Rattle.history_text.specs.Pieces.{lines_text}
 
 -- one line more is written
 pub line_written : (out new : List ℕ) (x : BaseLine) (rest : List BaseLine) (all : List ℕ) →

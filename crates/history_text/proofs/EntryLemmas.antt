@@ -1,8 +1,7 @@
 -- What the line of an entry spells is read again.
-use Rattle.std.proofs.Common.{◌≡◌, ℕ, ◌-◌, ◌^◌, ◌<◌, List, [], ◌∷◌, ◌++◌, Some, None, refl, sym, ap, ◌∙◌, arith, decimal, append_assoc}
+use Rattle.std.proofs.Common.{◌≡◌, ℕ, ◌-◌, ◌^◌, ◌<◌, List, [], ◌∷◌, ◌++◌, Some, refl, sym, ap, ◌∙◌, arith, decimal, append_assoc}
 use Rattle.std.specs.Prelude.{codes}
 use Rattle.std.proofs.lemmas.Bool.{le-leb}
-use Rattle.std.proofs.lemmas.List.{append-nil}
 use Rattle.std.proofs.lemmas.List.Splits.{join_with_byte-slice_split}
 use Rattle.history.specs.declared.entry.Entry.{Entry}
 use Rattle.history.specs.declared.entry.End.{End}
@@ -12,11 +11,11 @@ use Rattle.history.specs.declared.entry.Word.TheVariants as word
 use Rattle.history.specs.declared.header.Header.{Header}
 use Rattle.history.specs.EntryWords.{entry_words, spelt}
 use Rattle.history.specs.Header.{IsInRange}
-use Rattle.history.specs.Reading.{Words}
 use Rattle.history.specs.Text.{line_of, words_of}
 use Rattle.history.proofs.EntryAgain.{plain_entry, words_again_read}
 use Rattle.history.proofs.Numbers.{number_again}
 use Rattle.history.proofs.Plain.{ArePlain, words_again, decimal_plain}
+use Rattle.history.proofs.Readers.{is_line_of, same_value}
 use Rattle.history_text.specs.EntryLines.{HasLine, entry_line, counts_line}
 use Rattle.history_text.specs.EntryReading.{counts_at, line_at}
 
@@ -82,43 +81,16 @@ whole_line h k e lt range fits =
     ∙ ap (line_at k h.seats) (words_again (decimal k) (decimal e.seat ∷ entry_words e)
     (line_plain h k e lt range fits)) ∙ line_again h k e lt range fits
 
-abbrev Found : Type 0
-Found = Entry × Words
-
-inside : (x y : Found) → Some x ≡ Some y → x ≡ y
-inside x y e = cc
-
-none_is : (x : Found) → None ≡ Some x → ⊥
-none_is x e = cc
-
-pub unread : (h : Header) (k : ℕ) (line : List ℕ) → k < 2 ^ 64 → IsInRange h →
-    None ≡ line_at k h.seats (words_of line) → (e : Entry) → HasLine h e → line ≡ entry_line k e → ⊥
-unread h k line lt range none e fits is =
-    none_is (e, []) (none ∙ ap (λ (t : List ℕ). line_at k h.seats (words_of t)) is
-    ∙ whole_line h k e lt range fits)
-
-pub not_all_read : (h : Header) (k : ℕ) (line : List ℕ) (found : Entry) (w : List ℕ) (ws : Words) →
-    k < 2 ^ 64 → IsInRange h → Some (found, w ∷ ws) ≡ line_at k h.seats (words_of line) → (e : Entry) →
-    HasLine h e → line ≡ entry_line k e → ⊥
-not_all_read h k line found w ws lt range some e fits is =
-    let same : w ∷ ws ≡ [] =
-    ap (λ (x : Found). x.1) (inside (found, w ∷ ws) (e, [])
-    (some ∙ ap (λ (t : List ℕ). line_at k h.seats (words_of t)) is ∙ whole_line h k e lt range fits)) in
-    cc
-
 pub is_entry_line : (line : List ℕ) (k : ℕ) (e : Entry) →
     words_of line ≡ (decimal k ∷ decimal e.seat ∷ entry_words e) ++ [] → line ≡ entry_line k e
 is_entry_line line k e words =
-    sym (join_with_byte-slice_split 32 line)
-    ∙ ap line_of (words ∙ append-nil (decimal k ∷ decimal e.seat ∷ entry_words e))
-    ∙ sym (entry_line-words k e)
+    is_line_of line (decimal k ∷ decimal e.seat ∷ entry_words e) words ∙ sym (entry_line-words k e)
 
 pub same_entry : (h : Header) (k : ℕ) (x y : Entry) → k < 2 ^ 64 → IsInRange h → HasLine h x → HasLine h y →
     entry_line k x ≡ entry_line k y → x ≡ y
 same_entry h k x y lt range p q e =
-    ap (λ (f : Found). f.0) (inside (x, []) (y, [])
-    (sym (whole_line h k x lt range p) ∙ ap (λ (t : List ℕ). line_at k h.seats (words_of t)) e
-    ∙ whole_line h k y lt range q))
+    same_value (line_at k h.seats) (entry_line k x) (entry_line k y) x y (whole_line h k x lt range p)
+    (whole_line h k y lt range q) e
 
 -- ---- the end line
 
@@ -140,27 +112,6 @@ whole_end a b l k =
     ap (λ (t : List ℕ). counts_at a b (words_of t)) (counts_line-words a b)
     ∙ ap (counts_at a b) (words_again (codes "end") (decimal a ∷ decimal b ∷ []) (counts_plain a b l k))
     ∙ counts_again a b l k
-
-abbrev FoundEnd : Type 0
-FoundEnd = Unit {0} × Words
-
-inside_end : (x y : FoundEnd) → Some x ≡ Some y → x ≡ y
-inside_end x y e = cc
-
-none_end : (x : FoundEnd) → None ≡ Some x → ⊥
-none_end x e = cc
-
-pub no_end : (line : List ℕ) (a b : ℕ) → a < 2 ^ 64 → b < 2 ^ 64 → None ≡ counts_at a b (words_of line) →
-    line ≡ counts_line a b → ⊥
-no_end line a b l k none is =
-    none_end (tt, []) (none ∙ ap (λ (t : List ℕ). counts_at a b (words_of t)) is ∙ whole_end a b l k)
-
-pub more_than_end : (line : List ℕ) (a b : ℕ) (u : Unit {0}) (w : List ℕ) (ws : Words) → a < 2 ^ 64 →
-    b < 2 ^ 64 → Some (u, w ∷ ws) ≡ counts_at a b (words_of line) → line ≡ counts_line a b → ⊥
-more_than_end line a b u w ws l k some is =
-    let same : w ∷ ws ≡ [] =
-    ap (λ (x : FoundEnd). x.1) (inside_end (u, w ∷ ws) (tt, [])
-    (some ∙ ap (λ (t : List ℕ). counts_at a b (words_of t)) is ∙ whole_end a b l k)) in cc
 
 pub is_counts_line : (line : List ℕ) (a b : ℕ) → words_of line ≡ codes "end" ∷ decimal a ∷ decimal b ∷ [] →
     line ≡ counts_line a b

@@ -5,7 +5,8 @@ use Rattle.history.specs.declared.base.SeatBase.{SeatBase}
 use Rattle.history.specs.declared.header.Header.{Header}
 use Rattle.history.specs.Base.{Base, based, each_below, nothing, opening_base, seat_of}
 use Rattle.history.specs.Counts.{total}
-use Rattle.history.specs.GoodBase.{IsBaseOf, IsGood, most_folded}
+use Rattle.history.specs.declared.limits.TheConstants.{MOST_FOLDED}
+use Rattle.history.specs.GoodBase.{IsBaseOf, IsGood}
 use Rattle.history.specs.Header.{IsInRange}
 use Rattle.history.specs.Legal.{calls}
 use Rattle.history.specs.Spelling.{part_of}
@@ -15,16 +16,18 @@ use Rattle.history.specs.Text.{ended}
 use Rattle.history_text.specs.declared.base_line.BaseLine.{BaseLine}
 use Rattle.history_text.specs.declared.base_line.BaseLine.TheVariants.{Folded, Released, CountedDown, Seat, Stands, Sleeps}
 use Rattle.history_text.specs.BaseFollowing.{AllFollow}
-use Rattle.history_text.specs.BaseLines.{IsBaseLine, base_lines}
+use Rattle.history_text.specs.BaseLineLimits.{IsBaseLine}
+use Rattle.history_text.specs.BaseLines.{base_lines}
 use Rattle.history_text.specs.BaseRules.{MayFollow, BaseSums, with_sums, no_sums}
-use Rattle.history_text.specs.BaseText.{IsHeadPut, calls_sum, lines_text}
+use Rattle.history_text.specs.BaseText.{IsHeadPut, calls_sum}
+use Rattle.history_text.specs.Pieces.{lines_text}
 use Rattle.history_text.specs.HistoryLines.{head_line, head_of, lines_told, name_of}
 use Rattle.history_text.proofs.BaseLineLemmas.{may_follow_spelt}
 use Rattle.history_text.proofs.BaseTheory.{IsGoodOf, good_follows}
 use Rattle.history_text.proofs.HistoryItems.{some_entries, told_some}
 
-few_then : (t : BaseSums) (b : Base) (x : BaseLine) → t.entries ≤ most_folded → MayFollow t b x →
-    (with_sums t x).entries ≤ most_folded
+few_then : (t : BaseSums) (b : Base) (x : BaseLine) → t.entries ≤ MOST_FOLDED → MayFollow t b x →
+    (with_sums t x).entries ≤ MOST_FOLDED
 few_then t b (Folded n) few may = may.0.most
 few_then t b (Released n u) few may = may.0.most
 few_then t b (CountedDown n q) few may = may.0.most
@@ -32,7 +35,7 @@ few_then t b (Seat i has) few may = few
 few_then t b (Stands p) few may = few
 few_then t b (Sleeps c x) few may = few
 
-follow_spelt : (t : BaseSums) (b : Base) (xs : List BaseLine) → IsInRange b.header → t.entries ≤ most_folded →
+follow_spelt : (t : BaseSums) (b : Base) (xs : List BaseLine) → IsInRange b.header → t.entries ≤ MOST_FOLDED →
     AllFollow b t xs → AllByRecursion IsBaseLine xs
 follow_spelt t b [] range few all = tt
 follow_spelt t b (x ∷ xs) range few all = (

@@ -9,7 +9,8 @@ use Rattle.history.specs.Spelling.{part_of}
 use Rattle.history.specs.Text.{ended}
 use Rattle.history.proofs.OpeningBase.{opening_good}
 use Rattle.history_text.specs.declared.base_line.BaseLine.{BaseLine}
-use Rattle.history_text.specs.BaseText.{IsHeadPut, lines_text}
+use Rattle.history_text.specs.BaseText.{IsHeadPut}
+use Rattle.history_text.specs.Pieces.{lines_text}
 use Rattle.history_text.specs.HistoryLines.{head_line, head_of, name_of}
 use Rattle.history_text.proofs.HeadWritten.{opening_written, sum_few}
 use Rattle.history_text.proofs.HistoryItems.{told_none}

@@ -12,7 +12,8 @@ use Rattle.history.specs.declared.header.Object.{Object}
 use Rattle.history.specs.declared.header.Object.TheVariants.{Lock, ReadWrite, Semaphore, Latch}
 use Rattle.history.specs.Base.{Base, opening_base}
 use Rattle.history.specs.Entries.{ended_calls}
-use Rattle.history.specs.GoodBase.{IsBaseOf, IsGood, most_folded}
+use Rattle.history.specs.declared.limits.TheConstants.{MOST_FOLDED}
+use Rattle.history.specs.GoodBase.{IsBaseOf, IsGood}
 use Rattle.line_text.specs.Form.{AreItems}
 use Rattle.history_text.specs.declared.base_line.BaseLine.{BaseLine}
 use Rattle.history_text.specs.declared.base_line.BaseLine.TheVariants.{Stands, Sleeps}
@@ -54,7 +55,7 @@ told_some b some = rw (some_entries b.entries some) refl
 pub told_none : (b : Base) → b.entries ≡ 0 → lines_told b ≡ []
 told_none b none = rw none refl
 
-pub base_few : (k : Header) (b : Base) → IsBaseOf k b → b.entries ≤ most_folded
+pub base_few : (k : Header) (b : Base) → IsBaseOf k b → b.entries ≤ MOST_FOLDED
 base_few k b of =
     ⊎_elim (λ (e : b ≡ opening_base k). (let z = ap (λ (a : Base). a.entries) e in omega (arith, z)))
     (λ (g : (1 ≤ b.entries) × IsGood b). g.1.entries) of.1

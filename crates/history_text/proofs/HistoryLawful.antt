@@ -12,11 +12,11 @@ use Rattle.history.proofs.Lists.{ended_calls_le}
 use Rattle.history.proofs.Numbers.{digits_alone}
 use Rattle.history.proofs.Plain.{words_again}
 use Rattle.line_text.proofs.Lawful.{Lacks, IsLawful}
-use Rattle.line_text.proofs.OneReading.{head_is, tail_is}
+use Rattle.line_text.proofs.Lists.{head_is, same_behind}
 use Rattle.line_text.proofs.WholeLines.{line_lacks, header_whole, header_one}
 use Rattle.history_text.specs.declared.base_line.BaseLine.{BaseLine}
 use Rattle.history_text.specs.declared.place.Head.{Head}
-use Rattle.history_text.specs.BaseLines.{IsBaseLine}
+use Rattle.history_text.specs.BaseLineLimits.{IsBaseLine}
 use Rattle.history_text.specs.EntryLines.{HasLine, entry_line, counts_line}
 use Rattle.history_text.specs.HistoryLines.{name_of}
 use Rattle.history_text.specs.TextLines.{Based, Entered, Line, SomeBeginsSo, SomeHas, calls_told, end_of, entries_told, line_text, lines_on, sum_of}
@@ -38,9 +38,6 @@ end_lacks : (a b : ℕ) → a < 2 ^ 64 → b < 2 ^ 64 → Lacks (counts_line a b
 end_lacks a b l k = subst Lacks (sym (counts_line-words a b))
     (line_lacks (codes "end" ∷ decimal a ∷ decimal b ∷ []) (counts_plain a b l k))
 
-first_word : (x y : List ℕ) (xs ys : List (List ℕ)) → x ∷ xs ≡ y ∷ ys → x ≡ y
-first_word x y xs ys e = cc
-
 pub entry_no_end : (h : Header) (k : ℕ) (e : Entry) (a b : ℕ) → IsInRange h → k < 2 ^ 64 → HasLine h e →
     a < 2 ^ 64 → b < 2 ^ 64 → entry_line k e ≡ counts_line a b → ⊥
 entry_no_end h k e a b range lt fits l m same =
@@ -50,7 +47,7 @@ entry_no_end h k e a b range lt fits l m same =
     let words =
     sym (words_again (decimal k) (decimal e.seat ∷ entry_words e) (line_plain h k e lt range fits))
     ∙ ap words_of lines ∙ words_again (codes "end") (decimal a ∷ decimal b ∷ []) (counts_plain a b l m) in
-    let number : codes "end" ≡ decimal k = sym (first_word _ _ _ _ words) in
+    let number : codes "end" ≡ decimal k = sym (head_is words) in
     omega (arith, digits_alone (codes "end") k 0 lt (omega arith) number)
 
 -- ---- the first line
@@ -59,14 +56,11 @@ head_whole : (is_based : Bool) (k : Header) → IsInRange k → Lacks (name_of i
 head_whole true k range = header_whole (codes "aqs-history 2 ") k refl range
 head_whole false k range = header_whole (codes "aqs-history 1 ") k refl range
 
-behind : (name : List ℕ) (a b : List ℕ) → name ++ a ≡ name ++ b → a ≡ b
-behind [] a b e = e
-behind (x ∷ name) a b e = behind name a b (tail_is x x (name ++ a) (name ++ b) e)
-
 other_name : (a b : List ℕ) → codes "aqs-history 1 " ++ a ≡ codes "aqs-history 2 " ++ b → ⊥
 other_name a b e =
-    let rest : 49 ∷ 32 ∷ a ≡ 50 ∷ 32 ∷ b = behind (codes "aqs-history ") (49 ∷ 32 ∷ a) (50 ∷ 32 ∷ b) e in
-    omega (arith, head_is _ _ _ _ rest)
+    let rest : 49 ∷ 32 ∷ a ≡ 50 ∷ 32 ∷ b =
+    same_behind (codes "aqs-history ") (49 ∷ 32 ∷ a) (50 ∷ 32 ∷ b) e in
+    omega (arith, head_is rest)
 
 abbrev headed : Bool → Header → Head
 headed x k = record { is_based = x; header = k }

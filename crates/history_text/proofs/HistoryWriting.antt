@@ -2,11 +2,8 @@
 use Rattle.std.proofs.Common.{◌≡◌, ℕ, ◌<◌, ◌≤◌, List, length, take, get_or, None, Some, inl, inr, ◌⊎◌, sym, ◌∙◌}
 use Rattle.std.specs.List.{slice_get}
 use Rattle.std.proofs.lemmas.List.{take_all}
-use Rattle.std.proofs.lemmas.Option.{slice_get_cases}
+use Rattle.std.proofs.lemmas.Option.{none-some, slice_get_cases}
 use Rattle.history.specs.declared.entry.Entry.{Entry}
-
-some_is_none : {X : Type 0} (x : X) → Some x ≡ None → ⊥
-some_is_none x e = cc
 
 -- past the last entry all are taken
 pub past : (xs : List Entry) (i : ℕ) → slice_get xs i ≡ None → take i xs ≡ xs
@@ -14,5 +11,5 @@ past xs i none = by (slice_get_cases xs i).1
   where
     by : ((x : Entry) × (i < length xs) × (slice_get xs i ≡ Some x) × (get_or xs i x ≡ x))
         ⊎ ((length xs ≤ i) × (slice_get xs i ≡ None)) → take i xs ≡ xs
-    by (inl p) = absurd (some_is_none p.0 (sym p.2 ∙ none))
+    by (inl p) = absurd (none-some p.0 (sym none ∙ p.2))
     by (inr p) = take_all i xs p.0

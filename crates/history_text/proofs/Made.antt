@@ -1,5 +1,6 @@
 -- An entry that a step makes is of the step's seat, and refuses for a fault that is recorded.
 use Rattle.std.proofs.Common.{◌≡◌, ℕ, Bool, true, false, cond, List, length, Some, None, refl, subst, arith}
+use Rattle.std.proofs.lemmas.Option.{same_Some}
 use Rattle.history.specs.declared.arrival.Arrival.{Arrival}
 use Rattle.history.specs.declared.entry.End.{End}
 use Rattle.history.specs.declared.entry.End.TheVariants as end
@@ -102,10 +103,7 @@ idle_made s h i Expire = made_plain i _ X 1 tt
 idle_made s h i Interrupt = made_plain i _ X 1 tt
 
 at_entry : (i : ℕ) (x e : Entry) → Some x ≡ Some e → IsMadeBy i x → IsMadeBy i e
-at_entry i x e q p = subst (IsMadeBy i) (same x e q) p
-  where
-    same : (x e : Entry) → Some x ≡ Some e → x ≡ e
-    same x e q = cc
+at_entry i x e q p = subst (IsMadeBy i) (same_Some x e q) p
 
 ended_made : (i : ℕ) (w : Word) (a : Arrival) (how : End) → RefusesByRecorded w → IsMadeBy i (ended i w a how)
 ended_made i w a how r = record { seat = refl; fault = r }

@@ -2,6 +2,7 @@
 use Rattle.std.proofs.Common.{◌≡◌, ◌≢◌, ℕ, ◌+◌, ◌<◌, Bool, true, false, eqb, List, [], ◌∷◌, ◌++◌, length, Ok, Err, None, refl, sym, ap, subst, ◌∙◌, arith, inl, inr}
 use Rattle.std.specs.Prelude.{codes}
 use Rattle.std.proofs.lemmas.Bool.{eqb-false}
+use Rattle.std.proofs.lemmas.List.{nil_from_length}
 use Rattle.history.specs.declared.entry.Entry.{Entry}
 use Rattle.history.specs.declared.header.Header.{Header}
 use Rattle.history.specs.Base.{Base}
@@ -50,10 +51,6 @@ both_lack text f (BadLine n) p q = absurd q
 
 -- ---- the lines behind a base
 
-empty : (xs : List ℕ) → length xs ≡ 0 → xs ≡ []
-empty [] p = cc
-empty (x ∷ xs) p = absurd (omega arith)
-
 module _ (k : Header) (p : Place) (rest : List ℕ) where
   abbrev lines : ℕ
   lines = p.lines + p.count
@@ -72,7 +69,7 @@ module _ (k : Header) (p : Place) (rest : List ℕ) where
   pub last_line : (line after : List ℕ) → rest ≡ line ++ 10 ∷ after → line ≡ counts_line number p.calls →
       length after ≡ 0 → IsEntryBehind k p rest (Ok None)
   last_line line after parts is none =
-      parts ∙ ap (λ (t : List ℕ). line ++ 10 ∷ t) (empty after none)
+      parts ∙ ap (λ (t : List ℕ). line ++ 10 ∷ t) (nil_from_length after none)
       ∙ ap (λ (t : List ℕ). ended t) is
 
   pub behind_last : (line after : List ℕ) → rest ≡ line ++ 10 ∷ after → line ≡ counts_line number p.calls →

@@ -1,20 +1,19 @@
 -- What is written of a history is the one text of its lines.
 use Rattle.std.proofs.Common.{◌≡◌, ℕ, ◌+◌, List, [], ◌∷◌, ◌++◌, length, map, reverse, refl, ap, sym, ◌∙◌, arith, append_assoc}
-use Rattle.std.proofs.lemmas.List.{length-reverse, reverse-append}
+use Rattle.std.proofs.lemmas.List.{length-reverse}
 use Rattle.history.specs.declared.entry.Entry.{Entry}
 use Rattle.history.specs.Base.{Base, based}
-use Rattle.history.specs.Entries.{ended_calls}
 use Rattle.history.specs.Legal.{calls}
 use Rattle.history.specs.Text.{ended}
-use Rattle.history.proofs.Lists.{calls-ended, ended_append}
+use Rattle.history.proofs.Lists.{calls-ended, ended_calls-reverse}
 use Rattle.line_text.specs.Form.{lines_of, text_of}
 use Rattle.history_text.specs.declared.base_line.BaseLine.{BaseLine}
 use Rattle.history_text.specs.BaseLines.{base_line}
-use Rattle.history_text.specs.BaseText.{calls_sum, lines_text}
+use Rattle.history_text.specs.BaseText.{calls_sum}
 use Rattle.history_text.specs.EntryLines.{counts_line, entry_line}
 use Rattle.history_text.specs.HistoryLines.{head_line, head_of, lines_told}
 use Rattle.history_text.specs.HistoryText.{history_form}
-use Rattle.history_text.specs.Pieces.{entry_lines, history_text}
+use Rattle.history_text.specs.Pieces.{entry_lines, history_text, lines_text}
 use Rattle.history_text.specs.TextLines.{Based, Line, end_of, lines_on, numbered}
 use Rattle.history_text.proofs.HistoryItems.{calls_on, ends_on}
 
@@ -28,12 +27,6 @@ lines_based (x ∷ xs) ys =
 lines_numbered : (n : ℕ) (es : List Entry) → lines_of history_form (numbered n es) ≡ entry_lines n es
 lines_numbered n [] = refl
 lines_numbered n (e ∷ es) = ap (λ (t : List ℕ). ended (entry_line n e) ++ t) (lines_numbered (n + 1) es)
-
-pub ended_calls-reverse : (es : List Entry) → ended_calls (reverse es) ≡ ended_calls es
-ended_calls-reverse [] = refl
-ended_calls-reverse (e ∷ es) =
-    ap (λ (l : List Entry). ended_calls l) (reverse-append (e ∷ []) es)
-    ∙ ended_append (reverse es) (e ∷ []) ∙ omega (arith, ended_calls-reverse es)
 
 -- the two counts, where the calls of a base are those of its seats
 end_counts : (b : Base) (h : List Entry) → calls_sum b.seats ≡ calls (based b) [] →

@@ -1,11 +1,12 @@
 -- The lines of a history text are short.
 use Rattle.std.proofs.Common.{◌≡◌, ℕ, ◌<◌, ◌≤◌, ◌^◌, Bool, true, false, List, [], ◌∷◌, ◌++◌, length, refl, ap, arith, decimal}
 use Rattle.std.specs.Prelude.{codes}
+use Rattle.history.specs.declared.limits.TheConstants.{LAST_CONDITION, MOST_AMOUNT}
 use Rattle.history.specs.declared.entry.End.{End}
 use Rattle.history.specs.declared.entry.End.TheVariants as end
 use Rattle.history.specs.declared.entry.Entry.{Entry}
 use Rattle.history.specs.declared.entry.Mode.{Mode}
-use Rattle.history.specs.declared.entry.Mode.TheVariants.{X, S}
+use Rattle.history.specs.declared.entry.Mode.TheVariants.{X}
 use Rattle.history.specs.declared.entry.Word.{Word}
 use Rattle.history.specs.declared.entry.Word.TheVariants as word
 use Rattle.history.specs.declared.entry.Word.TheVariants.{Back, Queued}
@@ -13,13 +14,13 @@ use Rattle.history.specs.declared.fault.Fault.{Fault}
 use Rattle.history.specs.declared.fault.Fault.TheVariants.{NotOwner, TooManyHolds, TooManyPermits, Interrupted, HoldsRead, OutOfPhase, NoSuchCondition, BadAmount, WrongMode, HistoryFull, OutOfMemory, TrimFull}
 use Rattle.history.specs.declared.header.Header.{Header}
 use Rattle.history.specs.declared.base.LinePlace.{LinePlace}
-use Rattle.history.specs.EntryWords.{IsWritten, end_word, entry_words, mode_word, spelt}
+use Rattle.history.specs.EntryWords.{IsWritten, end_word, entry_words, spelt}
 use Rattle.history.specs.Fault.{fault_name}
 use Rattle.history.specs.Header.{IsInRange}
 use Rattle.history.specs.Text.{ended}
 use Rattle.history.specs.Spelling.{part_of}
 use Rattle.line_text.specs.Short.{HasShortLines}
-use Rattle.line_text.proofs.Lengths.{AreShort, decimal_short, header_short, line_length}
+use Rattle.line_text.proofs.Lengths.{AreShort, decimal_short, header_short, line_length, mode_short}
 use Rattle.std.proofs.lemmas.List.{length-append}
 use Rattle.history_text.specs.declared.place.Head.{Head}
 use Rattle.history_text.specs.BaseLines.{waiting_by}
@@ -30,10 +31,6 @@ use Rattle.history_text.specs.HistoryText.{history_form}
 use Rattle.history_text.proofs.BaseLineLemmas.{base_short}
 use Rattle.history_text.proofs.EntryLemmas.{counts_line-words, entry_line-words}
 use Rattle.history_text.proofs.HistoryLawful.{ended_fit, number_fits, spelt_next}
-
-mode_short : (m : Mode) → length (mode_word m) ≤ 20
-mode_short X = omega arith
-mode_short S = omega arith
 
 end_word_short : (e : End) → length (end_word e) ≤ 20
 end_word_short end.None = omega arith
@@ -55,7 +52,7 @@ fault_short HistoryFull = omega arith
 fault_short OutOfMemory = omega arith
 fault_short TrimFull = omega arith
 
-pub words_short : (w : Word) (m : Mode) (n at : ℕ) (e : End) → n ≤ 2147483647 → at ≤ 15 →
+pub words_short : (w : Word) (m : Mode) (n at : ℕ) (e : End) → n ≤ MOST_AMOUNT → at ≤ LAST_CONDITION →
     AreShort (spelt w m n at e) × (length (spelt w m n at e) ≤ 4)
 words_short word.Got m n at e lt le =
     ((omega arith, (mode_short m, (decimal_short n (omega (arith, lt)), tt))), omega arith)

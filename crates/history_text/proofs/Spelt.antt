@@ -2,6 +2,7 @@
 use Rattle.std.proofs.Common.{◌≡◌, ◌≢◌, ◌⊎◌, inl, inr, ℕ, true, false, not, eqb, ltb, List, [], ◌∷◌, Some, Ok, refl, ap, sym, subst}
 use Rattle.std.specs.List.{AllByRecursion}
 use Rattle.std.proofs.lemmas.Bool.{or_parts, not-false, eqb-true}
+use Rattle.history.specs.declared.limits.TheConstants.{MOST_AMOUNT}
 use Rattle.history.specs.declared.arrival.Arrival.{Arrival}
 use Rattle.history.specs.declared.entry.End.{End}
 use Rattle.history.specs.declared.entry.End.TheVariants as end
@@ -37,14 +38,14 @@ latch_asks (Lock p) m n l q r = cc
 latch_asks (ReadWrite p) m n l q r = cc
 latch_asks (Semaphore p c) m n l q r = cc
 latch_asks (Latch c) m n l q r =
-    let parts = or_parts (ltb 2147483647 n) (not (eqb n 1)) r in
+    let parts = or_parts (ltb MOST_AMOUNT n) (not (eqb n 1)) r in
     (shared m q, eqb-true n 1 (not-false (eqb n 1) parts.1))
 
 gave_up : (e : End) → (e ≡ end.Timeout) ⊎ (e ≡ end.Interrupt) → GaveUp e
 gave_up e (inl q) = subst GaveUp (sym q) tt
 gave_up e (inr q) = subst GaveUp (sym q) tt
 
-came_back : (e : End) → e ≢ end.None → CameBack e
+pub came_back : (e : End) → e ≢ end.None → CameBack e
 came_back end.None p = absurd (p refl)
 came_back end.Timeout p = tt
 came_back end.Interrupt p = tt

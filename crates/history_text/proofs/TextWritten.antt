@@ -7,10 +7,9 @@ use Rattle.history.specs.declared.entry.Entry.{Entry}
 use Rattle.history.specs.Base.{Base, based}
 use Rattle.history.specs.Legal.{calls}
 use Rattle.history.specs.Text.{ended}
-use Rattle.history_text.specs.BaseText.{lines_text}
 use Rattle.history_text.specs.EntryLines.{counts_line, entry_line}
 use Rattle.history_text.specs.HistoryLines.{head_line, head_of, lines_told}
-use Rattle.history_text.specs.Pieces.{entry_lines, history_text}
+use Rattle.history_text.specs.Pieces.{entry_lines, history_text, lines_text}
 
 -- one more entry
 pub entry_lines-push : (k : ℕ) (xs : List Entry) (x : Entry) →

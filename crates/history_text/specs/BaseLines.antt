@@ -1,5 +1,5 @@
 -- The lines of a base, in the order in which a history text has them.
-use Rattle.std.specs.Prelude.{◌≡◌, ℕ, ◌+◌, ◌≤◌, Bool, true, false, List, [], ◌∷◌, ◌++◌, map, codes, decimal}
+use Rattle.std.specs.Prelude.{ℕ, ◌+◌, Bool, true, false, List, [], ◌∷◌, ◌++◌, map, codes, decimal}
 use Rattle.history.specs.declared.base.SeatBase.{SeatBase}
 use Rattle.history.specs.declared.base.Sleeper.{Sleeper}
 use Rattle.history.specs.declared.base.LinePlace.{LinePlace}
@@ -10,8 +10,7 @@ use Rattle.history.specs.declared.entry.Word.TheVariants.{Queued, Back}
 use Rattle.history.specs.declared.header.Object.{Object}
 use Rattle.history.specs.declared.header.Object.TheVariants.{Lock, ReadWrite, Semaphore, Latch}
 use Rattle.history.specs.Base.{Base}
-use Rattle.history.specs.EntryWords.{IsWritten, entry_words}
-use Rattle.history.specs.GoodBase.{most_folded, most_permits}
+use Rattle.history.specs.EntryWords.{entry_words}
 use Rattle.history.specs.Text.{line_of}
 use Rattle.history_text.specs.declared.base_line.BaseLine.{BaseLine}
 use Rattle.history_text.specs.declared.base_line.BaseLine.TheVariants.{Folded, Released, CountedDown, Seat, Stands, Sleeps}
@@ -39,41 +38,6 @@ base_words (Sleeps c x) = codes "sleeper" ∷ decimal c ∷ decimal x.seat ∷ d
 
 abbrev pub base_line : BaseLine → List ℕ
 base_line x = line_of (base_words x)
-
--- a waiter that waits for what its acquire asks for, and one that comes back from a condition
-abbrev pub queued : Entry → LinePlace
-queued e =
-    record {
-      who = record { seat = e.seat; mode = e.mode; n = e.n; back = false };
-      condition = 0;
-      holds = 0;
-      how = end.None;
-    }
-
-abbrev pub comes_back : Entry → LinePlace
-comes_back e =
-    record {
-      who = record { seat = e.seat; mode = X; n = 1; back = true };
-      condition = e.at;
-      holds = e.n;
-      how = e.end;
-    }
-
-abbrev pub stood_by : Bool → Entry → LinePlace
-stood_by true e = comes_back e
-stood_by false e = queued e
-
--- the numbers are within a line's limits, and what no word spells has its fixed value
-abbrev pub IsBaseLine : BaseLine → Type 0
-IsBaseLine (Folded t) = (1 ≤ t) × (t ≤ most_folded)
-IsBaseLine (Released t u) = (1 ≤ t) × (t ≤ most_folded) × (u ≤ most_permits)
-IsBaseLine (CountedDown t q) = (1 ≤ t) × (t ≤ most_folded) × (q ≤ 2147483647)
-IsBaseLine (Seat i has) =
-    (i ≤ 255) × (has.calls ≤ most_folded) × (has.exclusive ≤ 2147483647) × (has.shared ≤ most_permits)
-IsBaseLine (Stands p) =
-    (p.who.seat ≤ 255) × IsWritten (waiting_entry p)
-    × (p ≡ stood_by p.who.back (waiting_entry p))
-IsBaseLine (Sleeps c x) = (c ≤ 15) × (x.seat ≤ 255) × (x.holds ≤ 2147483647)
 
 -- the first line: how many entries were folded, and what else the object counts
 abbrev pub first_line : Object → Base → BaseLine

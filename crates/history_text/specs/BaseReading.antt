@@ -5,34 +5,34 @@ use Rattle.history.specs.declared.entry.Entry.{Entry}
 use Rattle.history.specs.declared.entry.Word.{Word}
 use Rattle.history.specs.declared.entry.Word.TheVariants.{Queued, Back}
 use Rattle.history.specs.EntryReading.{entry_at}
-use Rattle.history.specs.GoodBase.{most_folded, most_permits}
+use Rattle.history.specs.declared.limits.TheConstants.{LAST_CONDITION, MOST_AMOUNT, MOST_BASE_PERMITS, MOST_FOLDED, MOST_HOLDS}
 use Rattle.history.specs.Reading.{Words, ◌>>=◌, keyword_at, named_at, number_at, wide_at}
 use Rattle.history_text.specs.declared.base_line.BaseLine.{BaseLine}
 use Rattle.history_text.specs.declared.base_line.BaseLine.TheVariants.{Folded, Released, CountedDown, Seat, Stands, Sleeps}
-use Rattle.history_text.specs.BaseLines.{comes_back, queued}
+use Rattle.history_text.specs.BaseLineLimits.{comes_back, queued}
 
 -- what follows the number of folded entries
 unfoldable pub beside_at : ℕ → Words → Option (BaseLine × Words)
 beside_at entries [] = Some (Folded entries, [])
 beside_at entries (w ∷ ws) =
     if bytes_eq w (codes "unheld") then
-    (wide_at 0 most_permits ws >>= λ u. Some (Released entries u.0, u.1))
+    (wide_at 0 MOST_BASE_PERMITS ws >>= λ u. Some (Released entries u.0, u.1))
     else if bytes_eq w (codes "count") then
-    (number_at 0 2147483647 ws >>= λ q. Some (CountedDown entries q.0, q.1))
+    (number_at 0 MOST_AMOUNT ws >>= λ q. Some (CountedDown entries q.0, q.1))
     else None
 
 unfoldable pub folded_at : Words → Option (BaseLine × Words)
 folded_at words = do
-  t ← wide_at 1 most_folded words
+  t ← wide_at 1 MOST_FOLDED words
   beside_at t.0 t.1
 
 unfoldable pub has_at : Words → Option (BaseLine × Words)
 has_at words = do
   i ← number_at 0 255 words
-  calls ← named_at (codes "calls") 0 most_folded i.1
-  exclusive ← named_at (codes "x") 0 2147483647 calls.1
+  calls ← named_at (codes "calls") 0 MOST_FOLDED i.1
+  exclusive ← named_at (codes "x") 0 MOST_HOLDS calls.1
   name ← keyword_at (codes "s") exclusive.1
-  shared ← wide_at 0 most_permits name.1
+  shared ← wide_at 0 MOST_BASE_PERMITS name.1
   Some (Seat i.0 (record { calls = calls.0; exclusive = exclusive.0; shared = shared.0 }), shared.1)
 
 -- the waiter in the queue, from the entry whose words spell what it waits for
@@ -50,9 +50,9 @@ stands_at words = do
 
 unfoldable pub sleeps_at : Words → Option (BaseLine × Words)
 sleeps_at words = do
-  c ← number_at 0 15 words
+  c ← number_at 0 LAST_CONDITION words
   i ← number_at 0 255 c.1
-  h ← number_at 0 2147483647 i.1
+  h ← number_at 0 MOST_HOLDS i.1
   Some (Sleeps c.0 (record { seat = i.0; holds = h.0 }), h.1)
 
 -- a line of a base

@@ -6,8 +6,8 @@ use Rattle.history.specs.declared.header.Header.{Header}
 use Rattle.history.specs.declared.header.Object.{Object}
 use Rattle.history.specs.declared.header.Object.TheVariants.{Lock, ReadWrite, Semaphore, Latch}
 use Rattle.history.specs.Base.{Base, sleepers_of}
-use Rattle.history.specs.Could.{max_holds, max_shared}
-use Rattle.history.specs.GoodBase.{SleepsWell, StandsWell, most_folded, most_permits}
+use Rattle.history.specs.declared.limits.TheConstants.{MOST_AMOUNT, MOST_BASE_PERMITS, MOST_FOLDED, MOST_HOLDS, MOST_READ_WRITE_HOLDS}
+use Rattle.history.specs.GoodBase.{SleepsWell, StandsWell}
 use Rattle.history.specs.Object.{is_latch, is_lock, is_semaphore, opening_count}
 use Rattle.history.specs.Steps.{at_least_none}
 use Rattle.history_text.specs.declared.base_line.BaseLine.{BaseLine}
@@ -60,23 +60,23 @@ with_sums t (Sleeps c x) = record t { waits = set t.waits x.seat true; asleep = 
 -- opening number. After the last seat they are within the limit.
 abbrev pub MayHold : Object → ℕ → BaseSums → SeatBase → Type 0
 MayHold (Lock policy) seats t has =
-    (has.exclusive ≤ max_holds) × (has.shared ≡ 0) × ((t.exclusive ≡ 0) ⊎ (has.exclusive ≡ 0))
+    (has.exclusive ≤ MOST_HOLDS) × (has.shared ≡ 0) × ((t.exclusive ≡ 0) ⊎ (has.exclusive ≡ 0))
 MayHold (ReadWrite policy) seats t has =
-    (has.exclusive ≤ max_shared) × (t.shared + has.shared ≤ max_shared)
+    (has.exclusive ≤ MOST_READ_WRITE_HOLDS) × (t.shared + has.shared ≤ MOST_READ_WRITE_HOLDS)
     × ((has.exclusive ≡ 0) ⊎ ((t.exclusive ≡ 0) × (t.shared ≡ 0)))
     × ((has.shared ≡ 0) ⊎ (t.exclusive ≡ 0))
 MayHold (Semaphore policy permits) seats t has =
-    (has.exclusive ≡ 0) × (has.shared ≤ most_permits)
+    (has.exclusive ≡ 0) × (has.shared ≤ MOST_BASE_PERMITS)
     × (t.shared + has.shared ≤ t.unheld + at_least_none permits)
     × (t.seats + 1 ≡ seats →
-    t.unheld + at_least_none permits ≤ 2147483647 + (t.shared + has.shared) + at_least_none (neg_ℤ permits))
+    t.unheld + at_least_none permits ≤ MOST_AMOUNT + (t.shared + has.shared) + at_least_none (neg_ℤ permits))
 MayHold (Latch opening) seats t has = (has.exclusive ≡ 0) × (has.shared ≡ 0)
 
 -- the first line
 pub record IsFirst (t : BaseSums) (entries : ℕ) : Type 0 where
   pub none : t.entries ≡ 0
   pub some : 1 ≤ entries
-  pub most : entries ≤ most_folded
+  pub most : entries ≤ MOST_FOLDED
 
 -- a seat, in order
 pub record IsSeated (k : Header) (t : BaseSums) (i : ℕ) (has : SeatBase) : Type 0 where
@@ -99,7 +99,7 @@ IsFree t i = get_or t.waits i false ≡ false
 abbrev pub MayFollow : BaseSums → Base → BaseLine → Type 0
 MayFollow t b (Folded entries) = IsFirst t entries × (is_lock b.header.object ≡ true)
 MayFollow t b (Released entries unheld) =
-    IsFirst t entries × (is_semaphore b.header.object ≡ true) × (unheld ≤ most_permits)
+    IsFirst t entries × (is_semaphore b.header.object ≡ true) × (unheld ≤ MOST_BASE_PERMITS)
 MayFollow t b (CountedDown entries count) =
     IsFirst t entries × (is_latch b.header.object ≡ true) × (count ≤ opening_count b.header.object)
 MayFollow t b (Seat i has) = IsSeated b.header t i has

@@ -1,17 +1,11 @@
--- The text that is written for a base.
+-- The sums of a base whose text was written.
 use Rattle.std.specs.Prelude.{◌≡◌, ℕ, ◌+◌, ◌≤◌, List, [], ◌∷◌, ◌++◌}
 use Rattle.history.specs.declared.base.SeatBase.{SeatBase}
 use Rattle.history.specs.Base.{Base}
-use Rattle.history.specs.GoodBase.{most_folded}
+use Rattle.history.specs.declared.limits.TheConstants.{MOST_FOLDED}
 use Rattle.history.specs.Text.{ended}
-use Rattle.history_text.specs.declared.base_line.BaseLine.{BaseLine}
-use Rattle.history_text.specs.BaseLines.{base_line}
 use Rattle.history_text.specs.HistoryLines.{head_line, head_of, lines_told}
-
--- lines, each with its break
-abbrev pub lines_text : List BaseLine → List ℕ
-lines_text [] = []
-lines_text (x ∷ xs) = ended (base_line x) ++ lines_text xs
+use Rattle.history_text.specs.Pieces.{lines_text}
 
 -- the number of calls that all seats ended
 abbrev pub calls_sum : List SeatBase → ℕ
@@ -22,6 +16,6 @@ calls_sum (has ∷ rest) = has.calls + calls_sum rest
 pub record IsHeadPut (b : Base) (old new : List ℕ) (n c : ℕ) : Type 0 where
   pub lines : new ≡ old ++ (ended (head_line (head_of b)) ++ lines_text (lines_told b))
   pub folded : n ≡ b.entries
-  pub few : n ≤ most_folded
+  pub few : n ≤ MOST_FOLDED
   pub calls : c ≡ calls_sum b.seats
   pub some : c ≤ n

@@ -5,16 +5,18 @@ use Rattle.history.specs.declared.header.Header.{Header}
 use Rattle.history.specs.Base.{Base}
 use Rattle.history.specs.Entries.{HistoryView, or_opening}
 use Rattle.history.specs.Entry.{ends_call}
-use Rattle.history.specs.GoodBase.{most_folded}
+use Rattle.history.specs.declared.limits.TheConstants.{MOST_FOLDED}
 use Rattle.history.specs.Text.{HasNoBreak, ended}
 use Rattle.line_text.specs.declared.fault.ReadFault.{ReadFault}
+use Rattle.line_text.specs.declared.limits.TheConstants.{LINE_BYTES}
 use Rattle.line_text.specs.declared.fault.TextFault.{TextFault}
 use Rattle.line_text.specs.Reading.{Begins, IsReading}
 use Rattle.line_text.specs.Reading as reading
 use Rattle.history_text.specs.declared.base_line.BaseLine.{BaseLine}
 use Rattle.history_text.specs.declared.place.Head.{Head}
 use Rattle.history_text.specs.declared.place.Place.{Place}
-use Rattle.history_text.specs.BaseLines.{IsBaseLine, base_line}
+use Rattle.history_text.specs.BaseLineLimits.{IsBaseLine}
+use Rattle.history_text.specs.BaseLines.{base_line}
 use Rattle.history_text.specs.EntryLines.{HasLine, counts_line, entry_line}
 use Rattle.history_text.specs.HistoryLines.{lines_told}
 use Rattle.history_text.specs.ToldBases.{GoodBeginsSo, GoodHas}
@@ -31,7 +33,7 @@ pub record HasShortLine (rest : List ℕ) : Type 0 where
   pub after : List ℕ
   pub parts : rest ≡ line ++ 10 ∷ after
   pub whole : HasNoBreak line
-  pub few : length line < 256
+  pub few : length line < LINE_BYTES
 
 -- the first line of these bytes isn't a line of a base
 abbrev pub LacksBaseLine : List ℕ → Type 0
@@ -110,9 +112,9 @@ IsBaseAhead h ahead result =
 -- the numbers of a position right after the lines of a base are small
 pub record IsEarly (p : Place) : Type 0 where
   pub lines : p.lines < 2 ^ 62
-  pub folded : p.folded ≤ most_folded
+  pub folded : p.folded ≤ MOST_FOLDED
   pub count : p.count ≡ 0
-  pub calls : p.calls ≤ most_folded
+  pub calls : p.calls ≤ MOST_FOLDED
 
 -- what a text spells that continues in this way after the lines of its base
 abbrev pub AreAllRead : Head → Option Base → List ℕ → Place → Result HistoryView ReadFault → Type 0

@@ -4,9 +4,15 @@ use Rattle.history.specs.declared.entry.Entry.{Entry}
 use Rattle.history.specs.Base.{Base, based}
 use Rattle.history.specs.Legal.{calls}
 use Rattle.history.specs.Text.{ended}
-use Rattle.history_text.specs.BaseText.{lines_text}
+use Rattle.history_text.specs.declared.base_line.BaseLine.{BaseLine}
+use Rattle.history_text.specs.BaseLines.{base_line}
 use Rattle.history_text.specs.EntryLines.{counts_line, entry_line}
 use Rattle.history_text.specs.HistoryLines.{head_line, head_of, lines_told}
+
+-- the lines of a base, each with its break
+abbrev pub lines_text : List BaseLine → List ℕ
+lines_text [] = []
+lines_text (x ∷ xs) = ended (base_line x) ++ lines_text xs
 
 -- the lines of entries, the oldest first, numbered from `number` on
 abbrev pub entry_lines : ℕ → List Entry → List ℕ

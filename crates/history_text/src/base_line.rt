@@ -2,7 +2,8 @@
 
 ghost use Rattle.std.specs.Prelude.{◌≡◌, ◌++◌, OnOk, codes, decimal};
 ghost use Rattle.history.specs.EntryWords.{IsWritten};
-ghost use Rattle.history_text.specs.BaseLines.{IsBaseLine, base_line, waiting_entry};
+ghost use Rattle.history_text.specs.BaseLineLimits.{IsBaseLine};
+ghost use Rattle.history_text.specs.BaseLines.{base_line, waiting_entry};
 ghost use Rattle.history_text.specs.declared.base_line.BaseLine.TheVariants.{Seat, Sleeps, Stands};
 
 use history::base::{LinePlace, SeatBase, Sleeper};

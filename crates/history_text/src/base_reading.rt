@@ -1,33 +1,29 @@
 //! Reading a line of a base.
 
 ghost use Rattle.std.specs.Prelude.{◌≡◌, ◌≢◌, ◌≤◌, ◌∷◌, ◌++◌, codes, decimal, IfSome, IfNone};
-ghost use Rattle.history.specs.GoodBase.{most_folded};
+ghost use Rattle.history.specs.declared.limits.TheConstants.{MOST_FOLDED};
 ghost use Rattle.history.specs.Reading.{with_rest};
 ghost use Rattle.history_text.specs.declared.base_line.BaseLine.{BaseLine};
-ghost use Rattle.history_text.specs.BaseLines.{IsBaseLine, base_line, base_words};
+ghost use Rattle.history_text.specs.BaseLineLimits.{IsBaseLine};
+ghost use Rattle.history_text.specs.BaseLines.{base_line, base_words};
 ghost use Rattle.history_text.specs.BaseReading.{base_line_at, beside_at, folded_at, has_at, sleeps_at, standing_of, stands_at};
 
 use crate::base_line::BaseLine;
 use history::arrival::Arrival;
 use history::base::{LinePlace, SeatBase, Sleeper};
 use history::entry::{End, Entry, Mode, Word};
+use history::limits::{
+    LAST_CONDITION, MOST_AMOUNT, MOST_BASE_PERMITS, MOST_FOLDED, MOST_HOLDS, MOST_SEATS,
+};
 use history::words::Words;
 
-/// The greatest number of folded entries, of permits, of holds of a lock, of a seat and of a condition.
-const MOST_FOLDED: u128 = 1_000_000_000_000_000;
-
-const MOST_PERMITS: u128 = 10_000_000_000_000_000_000_000_000;
-
-const MOST_HOLDS: u64 = 2_147_483_647;
-
-const LAST_SEAT: u64 = 255;
-
-const LAST_CONDITION: u64 = 15;
+/// The greatest number of a seat.
+const LAST_SEAT: u64 = MOST_SEATS as u64 - 1;
 
 /// Reads what follows the number of folded entries.
 #[tactic(auto, unfolding(crate::specs::BaseReading::beside_at))]
 fn beside(words: &mut Words<'_>, entries: u128) -> Option<BaseLine>
-    requires { (1 ≤ entries) × (entries ≤ most_folded) }
+    requires { (1 ≤ entries) × (entries ≤ MOST_FOLDED) }
     ensures is { with_rest result words.new ≡ beside_at entries words.old }
     ensures found { IfSome result (λ x. IsBaseLine x
         × (codes "base" ∷ decimal entries ∷ words.old ≡ base_words x ++ words.new)) }
@@ -36,10 +32,10 @@ fn beside(words: &mut Words<'_>, entries: u128) -> Option<BaseLine>
         return Some(BaseLine::Folded(entries));
     };
     if word == b"unheld".as_slice() {
-        let unheld = words.wide(0, MOST_PERMITS)?;
+        let unheld = words.wide(0, MOST_BASE_PERMITS)?;
         Some(BaseLine::Released(entries, unheld))
     } else if word == b"count".as_slice() {
-        let count = words.number(0, MOST_HOLDS)?;
+        let count = words.number(0, MOST_AMOUNT as u64)?;
         Some(BaseLine::CountedDown(entries, count as u32))
     } else {
         None
@@ -66,9 +62,9 @@ fn has(words: &mut Words<'_>) -> Option<BaseLine>
     words.expect(b"calls")?;
     let calls = words.number(0, MOST_FOLDED as u64)?;
     words.expect(b"x")?;
-    let exclusive = words.number(0, MOST_HOLDS)?;
+    let exclusive = words.number(0, MOST_HOLDS as u64)?;
     words.expect(b"s")?;
-    let shared = words.wide(0, MOST_PERMITS)?;
+    let shared = words.wide(0, MOST_BASE_PERMITS)?;
     let has = SeatBase {
         calls,
         exclusive: exclusive as u32,
@@ -126,9 +122,9 @@ fn sleeps(words: &mut Words<'_>) -> Option<BaseLine>
     ensures found { IfSome result (λ x. IsBaseLine x
         × (codes "sleeper" ∷ words.old ≡ base_words x ++ words.new)) }
 {
-    let condition = words.number(0, LAST_CONDITION)?;
+    let condition = words.number(0, LAST_CONDITION as u64)?;
     let seat = words.number(0, LAST_SEAT)?;
-    let holds = words.number(0, MOST_HOLDS)?;
+    let holds = words.number(0, MOST_HOLDS as u64)?;
     let sleeper = Sleeper {
         seat: seat as u16,
         holds: holds as u32,

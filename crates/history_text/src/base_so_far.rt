@@ -3,7 +3,7 @@
 ghost use Rattle.std.specs.Prelude.{◌≡◌, ◌⊎◌, ◌↔◌, ◌≤◌, ◌<◌, ◌+◌, IsTrue};
 ghost use Rattle.history.specs.declared.header.Object.TheVariants.{Semaphore};
 ghost use Rattle.history.specs.declared.header.Policy.{Policy};
-ghost use Rattle.history.specs.GoodBase.{most_folded};
+ghost use Rattle.history.specs.declared.limits.TheConstants.{MOST_FOLDED, MOST_READ_WRITE_HOLDS};
 ghost use Rattle.history.specs.Header.{IsInRange};
 ghost use Rattle.history_text.specs.declared.base_line.BaseLine.TheVariants.{Seat, Sleeps, Stands};
 ghost use Rattle.history_text.specs.BaseRules.{AllSeated, IsFirst, IsFree, IsSeated, MayFollow, MayHold, with_sums, no_sums};
@@ -12,15 +12,10 @@ use crate::base_line::BaseLine;
 use crate::waiting_rules::{above_none, below_none, gave_up, is_lock, stands_well};
 use history::base::{Base, LinePlace, SeatBase, Sleeper, opening_count};
 use history::header::{Header, Object};
+use history::limits::{
+    MOST_AMOUNT, MOST_BASE_PERMITS, MOST_FOLDED, MOST_HOLDS, MOST_READ_WRITE_HOLDS,
+};
 use std::marker::Model;
-
-const MOST_FOLDED: u128 = 1_000_000_000_000_000;
-
-const MOST_PERMITS: u128 = 10_000_000_000_000_000_000_000_000;
-
-const MOST_HOLDS: u32 = 2_147_483_647;
-
-const MOST_SHARED: u128 = 65_535;
 
 /// The sums over the lines of a base that were read, and who waits.
 #[derive(Debug, Drop)]
@@ -37,8 +32,8 @@ pub struct BaseSoFar {
 }
 
 impl Model for BaseSoFar {
-    ghost use Rattle.std.specs.Prelude.{◌≤◌, ◌≡◌, length};
-    ghost use Rattle.history.specs.GoodBase.{most_folded, most_permits};
+    ghost use Rattle.std.specs.Prelude.{◌≤◌, ◌≡◌, ◌*◌, length};
+    ghost use Rattle.history.specs.declared.limits.TheConstants.{MOST_BASE_PERMITS, MOST_FOLDED, MOST_HOLDS};
     ghost use Rattle.history_text.specs.BaseRules.{BaseSums};
 
     ghost Value = { BaseSums };
@@ -55,8 +50,8 @@ impl Model for BaseSoFar {
       condition = a.condition;
     } };
 
-    ghost invariant = { λ a. (a.entries ≤ most_folded) × (a.unheld ≤ most_permits) × (a.calls ≤ a.entries)
-        × (a.exclusive ≤ 2147483647) × (a.shared ≤ 20000000000000000000000000) };
+    ghost invariant = { λ a. (a.entries ≤ MOST_FOLDED) × (a.unheld ≤ MOST_BASE_PERMITS)
+        × (a.calls ≤ a.entries) × (a.exclusive ≤ MOST_HOLDS) × (a.shared ≤ 2 * MOST_BASE_PERMITS) };
 }
 
 impl BaseSoFar {
@@ -89,7 +84,7 @@ impl BaseSoFar {
             BaseLine::Released(entries, unheld) => {
                 self.begins(*entries)
                     && matches!(base.header.object, Object::Semaphore(_, _))
-                    && *unheld <= MOST_PERMITS
+                    && *unheld <= MOST_BASE_PERMITS
             }
             BaseLine::CountedDown(entries, count) => {
                 self.begins(*entries)
@@ -137,13 +132,14 @@ impl BaseSoFar {
     }
 
     fn lets_read(&self, has: &SeatBase) -> bool
-        ensures { IsTrue result ↔ ((has.now.exclusive ≤ 65535) × (self.now.shared + has.now.shared ≤ 65535)
+        ensures { IsTrue result ↔ ((has.now.exclusive ≤ MOST_READ_WRITE_HOLDS)
+            × (self.now.shared + has.now.shared ≤ MOST_READ_WRITE_HOLDS)
             × ((has.now.exclusive ≡ 0) ⊎ ((self.now.exclusive ≡ 0) × (self.now.shared ≡ 0)))
             × ((has.now.shared ≡ 0) ⊎ (self.now.exclusive ≡ 0))) }
     {
-        has.exclusive <= 65_535
-            && has.shared <= MOST_SHARED
-            && self.shared + has.shared <= MOST_SHARED
+        has.exclusive <= MOST_READ_WRITE_HOLDS
+            && has.shared <= MOST_READ_WRITE_HOLDS as u128
+            && self.shared + has.shared <= MOST_READ_WRITE_HOLDS as u128
             && (has.exclusive == 0 || (self.exclusive == 0 && self.shared == 0))
             && (has.shared == 0 || self.exclusive == 0)
     }
@@ -152,7 +148,7 @@ impl BaseSoFar {
         ensures { (policy : Policy) →
             IsTrue result ↔ MayHold (Semaphore policy permits) seats self.now has.now }
     {
-        if has.exclusive != 0 || MOST_PERMITS < has.shared {
+        if has.exclusive != 0 || MOST_BASE_PERMITS < has.shared {
             return false;
         }
         let held = self.shared + has.shared;
@@ -161,7 +157,7 @@ impl BaseSoFar {
             return false;
         }
         u32::from(self.seats) + 1 != u32::from(seats)
-            || given <= 2_147_483_647 + held + below_none(permits)
+            || given <= MOST_AMOUNT as u128 + held + below_none(permits)
     }
 
     fn all_seated(&self, header: &Header) -> bool
@@ -214,7 +210,7 @@ impl BaseSoFar {
     /// Returns how many entries were folded, and how many calls their seats ended.
     pub fn sums(&self) -> (u64, u64)
         ensures sums { (result.0 ≡ self.now.entries) × (result.1 ≡ self.now.calls) }
-        ensures few { (self.now.entries ≤ most_folded) × (self.now.calls ≤ most_folded) }
+        ensures few { (self.now.entries ≤ MOST_FOLDED) × (self.now.calls ≤ MOST_FOLDED) }
     {
         (self.entries as u64, self.calls)
     }

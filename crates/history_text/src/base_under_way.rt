@@ -25,11 +25,9 @@ use history::fault::Fault;
 use history::header::Header;
 use history::text::first_line;
 use line_text::fault::TextFault;
+use line_text::limits::LINE_BYTES;
 use std::alloc::Global;
 use std::marker::Model;
-
-/// The most bytes of a good line.
-const MOST_BYTES: usize = 256;
 
 /// A base of an object, as far as its lines were read. There is a good base whose lines begin with these.
 #[derive(Drop)]
@@ -88,7 +86,7 @@ impl BaseUnderWay {
         let Some((line, after)) = first_line(rest) else {
             return Err(TextFault::CutShort);
         };
-        if line.len() >= MOST_BYTES {
+        if line.len() >= LINE_BYTES {
             return Err(TextFault::BadLine(*lines + 2));
         }
         match base_line_of(line) {
@@ -112,7 +110,8 @@ impl BaseUnderWay {
     /// Takes a line with which a good base can go on. It allocates nothing.
     fn take(&mut self, line: &BaseLine)
         requires { GoodBeginsSo self.old.header (self.old.lines ++ line.now ∷ []) }
-        ensures taken { self.new ≡ record { header = self.old.header; lines = self.old.lines ++ line.now ∷ [] } }
+        ensures taken { self.new
+            ≡ record { header = self.old.header; lines = self.old.lines ++ line.now ∷ [] } }
         ensures few { length self.new.lines ≤ 513 }
     {
         self.so_far.pass(&self.base, line);

@@ -2,8 +2,10 @@
 
 ghost use Rattle.std.specs.Prelude.{◌≡◌, ◌∷◌, ◌++◌, ◌<◌, ◌≤◌, ◌^◌, [], OnOk, length, map};
 ghost use Rattle.std.specs.List.{AllByRecursion};
-ghost use Rattle.history_text.specs.BaseLines.{IsBaseLine, base_lines, first_line, seat_lines, sleeper_lines};
-ghost use Rattle.history_text.specs.BaseText.{calls_sum, lines_text};
+ghost use Rattle.history_text.specs.BaseLineLimits.{IsBaseLine};
+ghost use Rattle.history_text.specs.BaseLines.{base_lines, first_line, seat_lines, sleeper_lines};
+ghost use Rattle.history_text.specs.BaseText.{calls_sum};
+ghost use Rattle.history_text.specs.Pieces.{lines_text};
 ghost use Rattle.history_text.specs.declared.base_line.BaseLine.TheVariants.{Stands, Sleeps};
 
 use crate::base_line::{BaseLine, put_base_line};

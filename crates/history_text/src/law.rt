@@ -9,6 +9,7 @@ ghost use Rattle.history.specs.GoodBase.{IsBaseOf, IsGood};
 ghost use Rattle.history.specs.Header.{IsInRange};
 ghost use Rattle.history.specs.Legal.{AreSeated, IsLegal};
 ghost use Rattle.line_text.specs.Form.{text_of};
+ghost use Rattle.line_text.specs.declared.limits.TheConstants.{LINE_BYTES};
 ghost use Rattle.line_text.specs.Reading.{IsCutShort, Reading};
 ghost use Rattle.line_text.specs.Short.{HasShortLines};
 ghost use Rattle.history_text.specs.HistoryLines.{head_of};
@@ -46,7 +47,7 @@ pub fn legal_histories_fit()
 
 /// No line of a history text has 256 bytes or more.
 pub fn lines_are_short()
-    ensures { HasShortLines history_form 256 }
+    ensures { HasShortLines history_form LINE_BYTES }
 {}
 
 /// The one text of a history on a good base of an object in range has these lines in order: its first line,

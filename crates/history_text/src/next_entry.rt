@@ -1,7 +1,7 @@
 //! Reading the lines of a history text after its base, one after another.
 
 ghost use Rattle.std.specs.Prelude.{◌≡◌, ◌+◌, ◌<◌, ◌≤◌, ◌^◌, [], codes, Err, length, IfOk, IfSome, IfErr, IsErrOf};
-ghost use Rattle.history.specs.GoodBase.{most_folded};
+ghost use Rattle.history.specs.declared.limits.TheConstants.{MOST_FOLDED};
 ghost use Rattle.history.specs.Header.{IsInRange};
 ghost use Rattle.history.specs.Text.{HasNoBreak};
 ghost use Rattle.line_text.specs.Reading.{Begins, IsReading};
@@ -71,7 +71,7 @@ fn entry_by_words(
     place: Place,
 ) -> Result<Option<(Entry, usize)>, TextFault>
     requires range { IsInRange header.now }
-    requires folded { place.folded ≤ most_folded }
+    requires folded { place.folded ≤ MOST_FOLDED }
     requires few { place.count ≤ header.now.cap }
     requires lines { place.lines + place.count + 3 < 2 ^ 64 }
     ensures line { IsEntryBehind header.now place rest.now result }
@@ -110,7 +110,7 @@ pub fn next_entry(
     place: Place,
 ) -> Result<Option<(Entry, usize)>, TextFault>
     requires range { IsInRange header.now }
-    requires folded { place.folded ≤ most_folded }
+    requires folded { place.folded ≤ MOST_FOLDED }
     requires few { place.count ≤ header.now.cap }
     requires lines { place.lines + place.count + 3 < 2 ^ 64 }
     ensures line { IsEntryBehind header.now place rest.now result }

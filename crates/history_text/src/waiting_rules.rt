@@ -12,6 +12,7 @@ ghost use Rattle.history.specs.Steps.{at_least_none};
 use history::base::{Base, LinePlace, SeatBase};
 use history::entry::{End, Mode};
 use history::header::Object;
+use history::limits::{MOST_AMOUNT, MOST_HOLDS, MOST_READ_WRITE_HOLDS};
 
 /// Returns whether it is a lock or a read-write lock.
 pub(crate) fn is_lock(object: Object) -> bool
@@ -70,7 +71,7 @@ fn is_bad_number(object: Object, n: u32) -> bool
     ensures { result ≡ is_bad_number object n }
 {
     match object {
-        Object::Semaphore(_, _permits) => 2_147_483_647 < n,
+        Object::Semaphore(_, _permits) => MOST_AMOUNT < n,
         _ => n != 1,
     }
 }
@@ -79,8 +80,8 @@ fn most_exclusive(object: Object) -> u32
     ensures { result ≡ most_exclusive object }
 {
     match object {
-        Object::Lock(_) => 2_147_483_647,
-        Object::ReadWrite(_) => 65_535,
+        Object::Lock(_) => MOST_HOLDS,
+        Object::ReadWrite(_) => MOST_READ_WRITE_HOLDS,
         Object::Semaphore(_, _) | Object::Latch(_) => 0,
     }
 }

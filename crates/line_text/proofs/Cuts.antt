@@ -6,7 +6,8 @@ use Rattle.line_text.specs.Form.{Form, lines_of, AreItems}
 use Rattle.line_text.specs.Reading.{IsText, IsCutShort}
 use Rattle.line_text.proofs.Lawful.{Lacks, IsLawful, Stand}
 use Rattle.line_text.proofs.Growing.{broken}
-use Rattle.line_text.proofs.OneReading.{head_is, tail_is, first_line, one_further}
+use Rattle.line_text.proofs.Lists.{head_is, tail_is}
+use Rattle.line_text.proofs.OneReading.{first_line, one_further}
 
 pub line_from : (xs : List ℕ) → Lacks xs → HasNoBreak xs
 line_from xs h = All-from_recursion _ xs h
@@ -24,9 +25,9 @@ cut_more y x l rest f more other same (inr p) = inr (p.0, rw (same, p.1) refl, p
 cut_at : (line rest front more : List ℕ) → Lacks line → front ++ more ≡ line ++ 10 ∷ rest →
     Cut line rest front more
 cut_at line rest [] more q e = inl tt
-cut_at [] rest (x ∷ f) more q e = inr (f, ap (λ (b : ℕ). b ∷ f) (head_is _ _ _ _ e), tail_is _ _ _ _ e)
+cut_at [] rest (x ∷ f) more q e = inr (f, ap (λ (b : ℕ). b ∷ f) (head_is e), tail_is e)
 cut_at (y ∷ l) rest (x ∷ f) more q e =
-    cut_more y x l rest f more q.0 (head_is _ _ _ _ e) (cut_at l rest f more q.1 (tail_is _ _ _ _ e))
+    cut_more y x l rest f more q.0 (head_is e) (cut_at l rest f more q.1 (tail_is e))
 
 none_left : (after more : List ℕ) → after ++ more ≡ [] → more ≡ []
 none_left [] more e = e

@@ -1,5 +1,5 @@
 -- A fault that was passed on.
-use Rattle.std.proofs.Common.{◌≡◌, ℕ, List, Result, Ok, Err, sym, subst}
+use Rattle.std.proofs.Common.{◌≡◌, ℕ, List, Result, Ok, Err, ap}
 use Rattle.std.proofs.lemmas.Bool.{false≢true}
 use Rattle.std.specs.Result.{IsErr, IsErrAnd}
 use Rattle.line_text.specs.declared.fault.TextFault.{TextFault}
@@ -8,12 +8,14 @@ use Rattle.line_text.specs.declared.fault.ReadFault.TheVariants.{Text}
 use Rattle.line_text.specs.Form.{Form}
 use Rattle.line_text.specs.Reading.{IsReading, Reads}
 
+-- the error of a result
+pub err_is : {T E : Type 0} (r : Result T E) (e : E) → IsErr r × IsErrAnd r (λ f. f ≡ e) → r ≡ Err e
+err_is (Ok x) e passed = absurd (false≢true passed.0)
+err_is {E = E} (Err f) e passed = ap (λ (x : E). Err x) passed.1
+
 -- a fault of the text is what a reading answers
 pub fault_passed : {H I T : Type 0} (form : Form H I) (Keeps : T → Type 0) (text : List ℕ)
     (r : Result T ReadFault) (fault : TextFault) → IsErr r × IsErrAnd r (λ e. e ≡ Text fault) →
     IsReading form text (Err fault)
     → Reads form Keeps text r
-fault_passed form Keeps text (Ok read) fault passed is = absurd (false≢true passed.0)
-fault_passed form Keeps text (Err e) fault passed is =
-    subst (λ (f : ReadFault). Reads form Keeps text (Err f))
-    (sym passed.1) is
+fault_passed form Keeps text r fault passed is = rw (err_is r (Text fault) passed) is

@@ -7,11 +7,14 @@ use Rattle.std.specs.Prelude.{FitsSigned}
 use Rattle.std.proofs.lemmas.Fmt.{length-decimal-le}
 use Rattle.std.proofs.lemmas.Int.{ints}
 use Rattle.std.proofs.lemmas.List.{length-append}
+use Rattle.history.specs.declared.entry.Mode.{Mode}
+use Rattle.history.specs.declared.entry.Mode.TheVariants.{X, S}
 use Rattle.history.specs.declared.header.Header.{Header}
 use Rattle.history.specs.declared.header.Object.{Object}
 use Rattle.history.specs.declared.header.Object.TheVariants.{Lock, ReadWrite, Semaphore, Latch}
 use Rattle.history.specs.declared.header.Policy.{Policy}
 use Rattle.history.specs.declared.header.Policy.TheVariants.{Fair, NonFair, Strict}
+use Rattle.history.specs.EntryWords.{mode_word}
 use Rattle.history.specs.Header.{IsInRange, IsOpening}
 use Rattle.history.specs.Spelling.{object_words, part_of, part_words, policy_word}
 use Rattle.history.specs.Text.{line_of}
@@ -33,6 +36,10 @@ line_length (w ∷ v ∷ words) short =
       line_length (v ∷ words) short.1,
       length-append w (32 ∷ line_of (v ∷ words)),
     )
+
+pub mode_short : (m : Mode) → length (mode_word m) ≤ 20
+mode_short X = omega arith
+mode_short S = omega arith
 
 -- ---- header lines
 

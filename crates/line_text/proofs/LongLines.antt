@@ -11,7 +11,8 @@ use Rattle.line_text.specs.Reading.{Begins, IsReading, Reading}
 use Rattle.line_text.specs.Short.{HasShortLines}
 use Rattle.line_text.proofs.Cuts.{line_from}
 use Rattle.line_text.proofs.Lawful.{IsLawful, Lacks}
-use Rattle.line_text.proofs.OneReading.{head_is, lacks, one, tail_is}
+use Rattle.line_text.proofs.Lists.{head_is, tail_is}
+use Rattle.line_text.proofs.OneReading.{lacks, one}
 use Rattle.line_text.proofs.WholeLines.{lacks_append}
 
 -- ---- bytes
@@ -25,9 +26,9 @@ lacks_take (suc n) (x ∷ xs) p = (p.0, lacks_take n xs p.1)
 too_long : (line front rest after : List ℕ) → Lacks front → length line < length front →
     front ++ rest ≡ line ++ 10 ∷ after → ⊥
 too_long line [] rest after p lt e = absurd (omega (arith, lt))
-too_long [] (y ∷ front) rest after p lt e = p.0 (head_is _ _ _ _ e)
+too_long [] (y ∷ front) rest after p lt e = p.0 (head_is e)
 too_long (x ∷ line) (y ∷ front) rest after p lt e =
-    too_long line front rest after p.1 (omega (arith, lt)) (tail_is _ _ _ _ e)
+    too_long line front rest after p.1 (omega (arith, lt)) (tail_is e)
 
 -- up to the first break, if there is one
 abbrev Broken : List ℕ → Type 0

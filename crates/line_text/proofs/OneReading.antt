@@ -8,32 +8,27 @@ use Rattle.line_text.specs.Form.{Form, lines_of, AreItems}
 use Rattle.line_text.specs.Reading.{Begins, HasBadHeader, IsBadLine, Reading, IsReading}
 use Rattle.line_text.proofs.Lawful.{Lacks, IsLawful, Stand}
 use Rattle.line_text.proofs.Growing.{broken, AreItems-push}
+use Rattle.line_text.proofs.Lists.{head_is, tail_is}
 
 pub lacks : (xs : List ℕ) → HasNoBreak xs → Lacks xs
 lacks xs h = recursion_from_All _ xs h
 
-pub head_is : (x y : ℕ) (xs ys : List ℕ) → x ∷ xs ≡ y ∷ ys → x ≡ y
-head_is x y xs ys e = cc
-
-pub tail_is : (x y : ℕ) (xs ys : List ℕ) → x ∷ xs ≡ y ∷ ys → xs ≡ ys
-tail_is x y xs ys e = cc
-
 -- two lines, each up to its break
 pub same_lines : (a b r s : List ℕ) → Lacks a → Lacks b → a ++ 10 ∷ r ≡ b ++ 10 ∷ s → (a ≡ b) × (r ≡ s)
-same_lines [] [] r s p q e = (refl, tail_is 10 10 r s e)
-same_lines [] (y ∷ b) r s p q e = absurd (q.0 (sym (head_is _ _ _ _ e)))
-same_lines (x ∷ a) [] r s p q e = absurd (p.0 (head_is _ _ _ _ e))
+same_lines [] [] r s p q e = (refl, tail_is e)
+same_lines [] (y ∷ b) r s p q e = absurd (q.0 (sym (head_is e)))
+same_lines (x ∷ a) [] r s p q e = absurd (p.0 (head_is e))
 same_lines (x ∷ a) (y ∷ b) r s p q e =
-    let h = head_is _ _ _ _ e in
-    let t = same_lines a b r s p.1 q.1 (tail_is _ _ _ _ e) in
+    let h = head_is e in
+    let t = same_lines a b r s p.1 q.1 (tail_is e) in
     (rw (h, t.0) refl, t.1)
 
 -- a line is not whole without its break
 pub no_line : (a r t : List ℕ) → Lacks t → t ≡ a ++ 10 ∷ r → ⊥
 no_line [] r [] q e = cc
 no_line (x ∷ a) r [] q e = cc
-no_line [] r (y ∷ t) q e = q.0 (head_is _ _ _ _ e)
-no_line (x ∷ a) r (y ∷ t) q e = no_line a r t q.1 (tail_is _ _ _ _ e)
+no_line [] r (y ∷ t) q e = q.0 (head_is e)
+no_line (x ∷ a) r (y ∷ t) q e = no_line a r t q.1 (tail_is e)
 
 -- ---- how a text ends behind its good lines
 

@@ -1,12 +1,12 @@
 -- A text that begins with a seat is cut at its first space.
 use Rattle.std.proofs.Common.{◌≡◌, ◌≢◌, ℕ, suc, ◌+◌, ◌<◌, true, ltb, List, [], ◌∷◌, ◌++◌, length, take, drop, Some, refl, sym, ap, ◌∙◌, add-one, arith, position, ◌==◌}
 use Rattle.std.specs.List.{position_or_len}
-use Rattle.std.proofs.lemmas.Bool.{eqb-true, ltb-true, lt-ltb, ne_eqb}
+use Rattle.std.proofs.lemmas.Bool.{and_parts, eqb-true, ltb-true, lt-ltb, ne_eqb}
 use Rattle.std.proofs.lemmas.List.{take-append-drop, take_at, length-append}
 use Rattle.std.proofs.lemmas.List.Quantifiers.{position-Some}
+use Rattle.std.proofs.lemmas.Option.{same_Some}
 use Rattle.std.proofs.Math.Seq.{drop-cons}
 use Rattle.history.proofs.Plain.{is_plain}
-use Rattle.line_text.proofs.WholeLines.{both}
 
 pub first_space : (xs : List ℕ) (i : ℕ) → position (λ b. b == 32) xs ≡ Some i →
     xs ≡ take i xs ++ 32 ∷ drop (i + 1) xs
@@ -19,10 +19,10 @@ first_space xs i found =
 -- ---- a text that begins with a plain word and a space
 
 plain_head : (b : ℕ) (w : List ℕ) → is_plain (b ∷ w) ≡ true → 32 < b
-plain_head b w plain = ltb-true 32 b (both (ltb 32 b) (is_plain w) plain).0
+plain_head b w plain = ltb-true 32 b (and_parts (ltb 32 b) (is_plain w) plain).0
 
 plain_tail : (b : ℕ) (w : List ℕ) → is_plain (b ∷ w) ≡ true → is_plain w ≡ true
-plain_tail b w plain = (both (ltb 32 b) (is_plain w) plain).1
+plain_tail b w plain = (and_parts (ltb 32 b) (is_plain w) plain).1
 
 -- the first space stands behind it
 space_behind : (w s : List ℕ) → is_plain w ≡ true → position_or_len (λ b. b == 32) (w ++ 32 ∷ s) ≡ length w
@@ -44,10 +44,7 @@ word_length text w s plain is =
 pub word_before : (text w s : List ℕ) (at : ℕ) → is_plain w ≡ true → text ≡ w ++ 32 ∷ s →
     position (λ b. b == 32) text ≡ Some at → take at text ≡ w
 word_before text w s at plain is found =
-    rw is (take_at w (32 ∷ s) at (same (length w) at (sym (word_length text w s plain is) ∙ found)))
-  where
-    same : (m n : ℕ) → Some m ≡ Some n → m ≡ n
-    same m n e = cc
+    rw is (take_at w (32 ∷ s) at (same_Some (length w) at (sym (word_length text w s plain is) ∙ found)))
 
 pub one_before : (byte : ℕ) (rest w s : List ℕ) → is_plain w ≡ true → 0 < length w →
     byte ∷ 32 ∷ rest ≡ w ++ 32 ∷ s → byte ∷ [] ≡ w

@@ -1,7 +1,7 @@
 -- A text under way goes on, or ends.
 use Rattle.std.proofs.Common.{false, ◌≡◌, ℕ, ◌+◌, ◌-◌, ◌<◌, List, [], ◌∷◌, ◌++◌, length, length-append, append-nil, drop, take, ap, refl, ◌∙◌, arith, inr, eqb}
 use Rattle.std.proofs.lemmas.Bool.{eqb-false}
-use Rattle.std.proofs.lemmas.List.{take_rest}
+use Rattle.std.proofs.lemmas.List.{nil_from_length, take_rest}
 use Rattle.std.proofs.Math.Seq.{drop-append_seam}
 use Rattle.history.specs.Text.{ended}
 use Rattle.line_text.specs.declared.fault.TextFault.TheVariants.{BadLine}
@@ -56,10 +56,6 @@ IsEnd {H} {I} form so_far rest line =
     (text : List ℕ) (items : List I) → AreRead form text so_far items rest → form.MayEnd so_far.header items
     × (line ≡ form.end_line items)
 
-empty : (xs : List ℕ) → length xs ≡ 0 → xs ≡ []
-empty [] p = cc
-empty (x ∷ xs) p = absurd (omega arith)
-
 pub all_read : {H I : Type 0} (form : Form H I) (text : List ℕ)
     (so_far : SoFar H I) (rest line after : List ℕ) → rest ≡ line ++ 10 ∷ after →
     IsEnd form so_far rest line → length after ≡ 0
@@ -67,7 +63,7 @@ pub all_read : {H I : Type 0} (form : Form H I) (text : List ℕ)
 all_read form text so_far rest line after parts end none items read =
     let is = end text items read in
     let last : ended (form.end_line items) ++ after ≡ ended (form.end_line items) =
-    ap (λ (t : List ℕ). ended (form.end_line items) ++ t) (empty after none)
+    ap (λ (t : List ℕ). ended (form.end_line items) ++ t) (nil_from_length after none)
     ∙ append-nil (ended (form.end_line items)) in
     record {
       begins = rw last at (at_end form text so_far.header items rest line after read.begins parts

@@ -1,28 +1,26 @@
 -- Lines of words that hold neither spaces nor breaks hold no break.
-use Rattle.std.proofs.Common.{◌≡◌, ℕ, Bool, true, false, not, ltb, eqb, ◌&&◌, List, [], ◌∷◌, ◌++◌, sym, ap, ◌∙◌, arith, Some}
+use Rattle.std.proofs.Common.{◌≡◌, ℕ, Bool, true, not, ltb, eqb, List, [], ◌∷◌, ◌++◌, arith}
 use Rattle.std.specs.List.{list_all}
-use Rattle.std.proofs.lemmas.Bool.{ltb-true, eqb-false, not-true}
+use Rattle.std.proofs.lemmas.Bool.{ltb-true, eqb-false, not-true, and_parts}
 use Rattle.history.specs.declared.header.Header.{Header}
 use Rattle.history.specs.Header.{IsInRange}
 use Rattle.history.specs.Spelling.{part_words, part_of}
 use Rattle.history.specs.HeaderReading.{header_at}
-use Rattle.history.specs.Text.{line_of, words_of}
+use Rattle.history.specs.Text.{line_of}
 use Rattle.history.proofs.Plain.{is_plain, ArePlain}
 use Rattle.history.proofs.PartLemmas.{part_again, plain_part}
+use Rattle.history.proofs.Readers.{same_value}
 use Rattle.line_text.proofs.Lawful.{Lacks}
+use Rattle.line_text.proofs.Lists.{same_behind}
 
 pub lacks_append : (a b : List ℕ) → Lacks a → Lacks b → Lacks (a ++ b)
 lacks_append [] b p q = q
 lacks_append (x ∷ a) b p q = (p.0, lacks_append a b p.1 q)
 
-pub both : (a b : Bool) → (a && b) ≡ true → (a ≡ true) × (b ≡ true)
-both true b e = (cc, e)
-both false b e = absurd cc
-
 plain_lacks : (w : List ℕ) → is_plain w ≡ true → Lacks w
 plain_lacks [] e = tt
 plain_lacks (b ∷ bs) e =
-    let t = both (ltb 32 b) (is_plain bs) e in
+    let t = and_parts (ltb 32 b) (is_plain bs) e in
     ((λ same. omega (arith, ltb-true 32 b t.0, same)), plain_lacks bs t.1)
 
 pub line_lacks : (ws : List (List ℕ)) → ArePlain ws → Lacks (line_of ws)
@@ -41,8 +39,8 @@ has_no_break w = list_all (λ b. not (eqb b 10)) w
 pub literal_lacks : (w : List ℕ) → has_no_break w ≡ true → Lacks w
 literal_lacks [] e = tt
 literal_lacks (b ∷ bs) e =
-    let t =
-    both (not (eqb b 10)) (has_no_break bs) e in (eqb-false b 10 (not-true _ t.0), literal_lacks bs t.1)
+    let t = and_parts (not (eqb b 10)) (has_no_break bs) e in
+    (eqb-false b 10 (not-true _ t.0), literal_lacks bs t.1)
 
 -- ---- header lines
 
@@ -51,24 +49,10 @@ pub header_whole : (name : List ℕ) (h : Header) → has_no_break name ≡ true
 header_whole name h whole fits =
     lacks_append name (part_of h) (literal_lacks name whole) (line_lacks (part_words h) (plain_part h fits))
 
-tail_is : (x y : ℕ) (xs ys : List ℕ) → x ∷ xs ≡ y ∷ ys → xs ≡ ys
-tail_is x y xs ys e = cc
-
--- what stands behind one beginning
-pub same_behind : (name a b : List ℕ) → name ++ a ≡ name ++ b → a ≡ b
-same_behind [] a b e = e
-same_behind (x ∷ name) a b e = same_behind name a b (tail_is x x (name ++ a) (name ++ b) e)
-
-abbrev Found : Type 0
-Found = Header × List (List ℕ)
-
-same_part : (h g : Header) → IsInRange h → IsInRange g → part_of h ≡ part_of g → h ≡ g
+-- a header has one spelling
+pub same_part : (h g : Header) → IsInRange h → IsInRange g → part_of h ≡ part_of g → h ≡ g
 same_part h g p q e =
-    ap (λ (x : Found). x.0) (inside (h, []) (g, []) (sym (part_again h p)
-    ∙ ap (λ (t : List ℕ). header_at (words_of t)) e ∙ part_again g q))
-  where
-    inside : (x y : Found) → Some x ≡ Some y → x ≡ y
-    inside x y e = cc
+    same_value header_at (part_of h) (part_of g) h g (part_again h p) (part_again g q) e
 
 pub header_one : (name : List ℕ) (h g : Header) → IsInRange h → IsInRange g →
     name ++ part_of h ≡ name ++ part_of g → h ≡ g

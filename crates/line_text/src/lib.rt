@@ -11,5 +11,6 @@
 pub mod at_once;
 pub mod fault;
 pub mod header_line;
+pub mod limits;
 pub mod once;
 pub mod seat;

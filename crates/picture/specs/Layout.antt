@@ -69,13 +69,6 @@ layout_of k from to =
       seats = k.seats;
     }
 
--- a layout with at most as many entries and seats as a history can have
-pub record IsLayout (l : Layout) : Type 0 where
-  pub few : l.from + l.shown < 2 ^ 32
-  pub step : l.step ≤ 20
-  pub top : l.top ≤ 160
-  pub seats : l.seats ≤ 65535
-
 -- a bar of entries that a history can have
 pub record IsShort (b : Bar) : Type 0 where
   pub order : b.first ≤ b.last

@@ -7,3 +7,4 @@ pub mod Grid
 pub mod Curve
 pub mod Head
 pub mod Document
+pub mod inner

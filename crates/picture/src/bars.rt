@@ -2,7 +2,8 @@
 
 ghost use Rattle.std.specs.Prelude.{◌≡◌, ◌<◌, ◌^◌, ◌++◌, OnOk};
 ghost use Rattle.std.specs.List.{All};
-ghost use Rattle.picture.specs.Layout.{IsLayout, IsShort};
+ghost use Rattle.picture.specs.Layout.{IsShort};
+ghost use Rattle.picture.specs.inner.{IsLayout};
 ghost use Rattle.picture.specs.Bars.{bar_line, bar_lines, inside, label, shape_of};
 
 use crate::layout::{Layout, Rect};

@@ -1,7 +1,7 @@
 //! The SVG document.
 
 ghost use Rattle.std.specs.Prelude.{◌≡◌, ◌<◌, ◌≤◌, ◌^◌, ◌++◌, IfOk, OnOk};
-ghost use Rattle.picture.specs.Layout.{IsLayout};
+ghost use Rattle.picture.specs.inner.{IsLayout};
 ghost use Rattle.picture.specs.Document.{IsPicture, ground, svg_text, wrong_mark};
 ghost use Rattle.picture.specs.View.{view_of};
 

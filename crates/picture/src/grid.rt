@@ -1,7 +1,7 @@
 //! The rows of the seats, the scale below them, and the mark of an illegal entry.
 
 ghost use Rattle.std.specs.Prelude.{◌≡◌, ◌<◌, ◌≤◌, ◌+◌, ◌^◌, ◌++◌, OnOk, zero};
-ghost use Rattle.picture.specs.Layout.{IsLayout};
+ghost use Rattle.picture.specs.inner.{IsLayout};
 ghost use Rattle.picture.specs.Grid.{pitch_of, row, rows, shade, tick, ticks, wrong_at};
 
 use crate::layout::{Layout, Rect};

@@ -4,7 +4,7 @@ ghost use Rattle.std.specs.Prelude.{◌≡◌, ◌<◌, ◌++◌, ◌^◌, OnOk}
 ghost use Rattle.history.specs.Header.{IsInRange};
 ghost use Rattle.history.specs.Spelling.{part_of};
 ghost use Rattle.picture.specs.Head.{chosen, cut, head, opening_tag, shown_line, shown_part, title, wrong_part};
-ghost use Rattle.picture.specs.Layout.{IsLayout};
+ghost use Rattle.picture.specs.inner.{IsLayout};
 ghost use Rattle.picture.specs.View.{view_of};
 
 use crate::layout::Layout;

@@ -1,7 +1,8 @@
 //! Positions in a picture, in pixels.
 
 ghost use Rattle.std.specs.Prelude.{◌≡◌, ◌<◌, ◌≤◌, ◌^◌};
-ghost use Rattle.picture.specs.Layout.{IsLayout, IsShort, bottom_of, height_of, layout_of, lower_by, rect_of, right_of, step_of, top_of, width_of, x_of, y_of};
+ghost use Rattle.picture.specs.Layout.{IsShort, bottom_of, height_of, layout_of, lower_by, rect_of, right_of, step_of, top_of, width_of, x_of, y_of};
+ghost use Rattle.picture.specs.inner.{IsLayout};
 
 use drawing::bar::Bar;
 use drawing::kind::Kind;

@@ -2,7 +2,7 @@
 
 ghost use Rattle.std.specs.Prelude.{◌≡◌, ◌<◌, ◌^◌, ◌++◌, OnOk};
 ghost use Rattle.std.specs.List.{All};
-ghost use Rattle.picture.specs.Layout.{IsLayout};
+ghost use Rattle.picture.specs.inner.{IsLayout};
 ghost use Rattle.picture.specs.Marks.{IsEarly, mark_line, mark_lines, shape_of};
 
 use crate::layout::Layout;

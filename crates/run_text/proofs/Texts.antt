@@ -13,10 +13,9 @@ use Rattle.history.specs.Header.{IsInRange}
 use Rattle.history.specs.Legal.{calls}
 use Rattle.history.specs.Text.{ended}
 use Rattle.history.proofs.GoodBases.{good_waits}
-use Rattle.history_text.specs.BaseText.{lines_text}
 use Rattle.history_text.specs.EntryLines.{counts_line}
 use Rattle.history_text.specs.HistoryLines.{head_line, head_of, lines_told}
-use Rattle.history_text.specs.Pieces.{entry_lines}
+use Rattle.history_text.specs.Pieces.{entry_lines, lines_text}
 use Rattle.history_text.proofs.Lists.{each-reverse}
 use Rattle.history_text.proofs.Spelt.{all_spelt_on}
 use Rattle.script.specs.Script.{Named}

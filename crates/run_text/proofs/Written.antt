@@ -4,7 +4,7 @@ use Rattle.std.specs.Io.KnownBytes.{Appends}
 use Rattle.std.specs.List.{concat}
 use Rattle.std.proofs.lemmas.List.{take-append-drop, take_more}
 use Rattle.std.proofs.lemmas.List.Folds.{concat-append}
-use Rattle.streams.specs.Whole.{AppendsFront}
+use Rattle.streams.specs.Writing.{AppendsFront}
 use Rattle.driver.specs.LineWriter.{IsGathered}
 use Rattle.driver.proofs.Gathering.{front_longer, front_more}
 

@@ -7,10 +7,9 @@ use Rattle.history.specs.Entries.{IsBasedWell, base_on, start_on}
 use Rattle.history.specs.Header.{IsInRange}
 use Rattle.history.specs.Legal.{IsLegal, calls}
 use Rattle.history.specs.Text.{ended}
-use Rattle.history_text.specs.BaseText.{lines_text}
 use Rattle.history_text.specs.EntryLines.{counts_line}
 use Rattle.history_text.specs.HistoryLines.{head_line, head_of, lines_told}
-use Rattle.history_text.specs.Pieces.{history_text}
+use Rattle.history_text.specs.Pieces.{history_text, lines_text}
 use Rattle.script.specs.Script.{Named}
 use Rattle.workers.specs.declared.report.ObjectReport.{ObjectReport}
 

@@ -4,9 +4,9 @@ ghost use Rattle.std.specs.Prelude.{◌≡◌, ◌≤◌, ◌↔◌, [], false, 
 ghost use Rattle.std.specs.Io.KnownBytes.{Appends};
 ghost use Rattle.driver.specs.LineWriter.{Gathers};
 ghost use Rattle.history.specs.EntryWords.{IsSpelt};
-ghost use Rattle.history.specs.GoodBase.{most_folded};
+ghost use Rattle.history.specs.declared.limits.TheConstants.{MOST_FOLDED};
 ghost use Rattle.history_text.specs.Pieces.{entry_lines};
-ghost use Rattle.streams.specs.Whole.{AppendsFront};
+ghost use Rattle.streams.specs.Writing.{AppendsFront};
 
 use driver::line_writer::LineWriter;
 use history::entries::History;
@@ -24,7 +24,7 @@ pub(crate) fn write_entries<W: Sink>(
     requires writer { W.failed writer.old ≡ false }
     requires none { lines.old.bytes ≡ [] }
     requires spelt { All IsSpelt (reverse history.now.entries) }
-    requires few { first ≤ most_folded }
+    requires few { first ≤ MOST_FOLDED }
     ensures ok { OnOk result (Appends (W.held writer.old) (W.held writer.new)
         (entry_lines first (reverse history.now.entries))) }
     ensures none { OnOk result (lines.new.bytes ≡ []) }
@@ -45,7 +45,7 @@ fn put_entries<W: Sink>(
 ) -> Result<(), DeviceFailed>
     requires writer { W.failed writer.old ≡ false }
     requires spelt { All IsSpelt (reverse history.now.entries) }
-    requires few { first ≤ most_folded }
+    requires few { first ≤ MOST_FOLDED }
     ensures adds { Gathers (W.held writer.old) lines.old.bytes result (W.held writer.new) lines.new.bytes
         (entry_lines first (reverse history.now.entries)) }
     ensures failing { IsTrue (W.failed writer.new) ↔ IsErr result }

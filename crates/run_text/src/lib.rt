@@ -8,6 +8,6 @@
 
 mod entry_lines;
 mod part;
-mod whole;
+mod report_text;
 
-pub use whole::RunText;
+pub use report_text::RunText;

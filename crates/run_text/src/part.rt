@@ -5,7 +5,7 @@ ghost use Rattle.std.specs.Io.KnownBytes.{Appends};
 ghost use Rattle.history.specs.Entries.{IsBasedWell, base_on};
 ghost use Rattle.history.specs.Header.{IsInRange};
 ghost use Rattle.run_text.specs.RunText.{IsJudged, base_of, foot_text, head_text, part_text};
-ghost use Rattle.streams.specs.Whole.{AppendsFront};
+ghost use Rattle.streams.specs.Writing.{AppendsFront};
 ghost use Rattle.streams.specs.declared.stream_fault.StreamFault.TheVariants.{Memory};
 
 use crate::entry_lines::write_entries;
@@ -20,7 +20,7 @@ use std::marker::Model;
 use streams::sink::Sink;
 use streams::source::DeviceFailed;
 use streams::stream_fault::StreamFault;
-use streams::whole::write_all;
+use streams::writing::write_all;
 use workers::ObjectReport;
 
 /// The text of one object of a run. All its memory is reserved.
@@ -38,7 +38,7 @@ pub(crate) struct PartText {
 impl Model for PartText {
     ghost use Rattle.std.specs.Prelude.{◌++◌, ◌≤◌, ℕ, List, All, reverse};
     ghost use Rattle.history.specs.EntryWords.{IsSpelt};
-    ghost use Rattle.history.specs.GoodBase.{most_folded};
+    ghost use Rattle.history.specs.declared.limits.TheConstants.{MOST_FOLDED};
     ghost use Rattle.history_text.specs.Pieces.{entry_lines};
 
     ghost Value = { List ℕ };
@@ -46,7 +46,7 @@ impl Model for PartText {
     ghost view = { λ p.
         p.head.items ++ entry_lines p.first (reverse p.history.entries) ++ p.foot.items };
 
-    ghost invariant = { λ p. All IsSpelt (reverse p.history.entries) × (p.first ≤ most_folded) };
+    ghost invariant = { λ p. All IsSpelt (reverse p.history.entries) × (p.first ≤ MOST_FOLDED) };
 }
 
 /// The lines before the entries, and what they count.

@@ -4,7 +4,8 @@ use Rattle.history.specs.Text.{line_of, words_of}
 use Rattle.history.specs.Reading.{Words}
 use Rattle.history.proofs.Numbers.{number_at_again}
 use Rattle.history.proofs.Plain.{ArePlain, words_again, decimal_plain}
-use Rattle.steps.proofs.StepLemmas.{asked_again, condition_again, mode_plain}
+use Rattle.history.proofs.EntryAgain.{mode_plain}
+use Rattle.steps.proofs.StepLemmas.{asked_again, condition_again}
 use Rattle.monitor.specs.declared.how.How.TheVariants.{Plain, Interruptible, Timed}
 use Rattle.script.specs.declared.action.Action.{Action}
 use Rattle.script.specs.declared.action.Action.TheVariants.{Acquire, TryAcquire, Release, AwaitOn, Signal, SignalAll, Drain, Trim}

@@ -1,5 +1,6 @@
 pub mod CallLemmas
 pub mod Cutting
+pub mod Firsts
 pub mod NameLemmas
 pub mod ObjectLemmas
 pub mod SayingLemmas

@@ -6,11 +6,7 @@ use Rattle.std.proofs.lemmas.List.Elements.{recursion_from_All}
 use Rattle.std.proofs.lemmas.Slice.Eq.{bytes_eq-Decides}
 use Rattle.indexmap.specs.IndexMap.{insert_entry}
 use Rattle.history.specs.declared.header.Header.{Header}
-use Rattle.history.specs.Header.{IsInRange}
-use Rattle.history.specs.HeaderReading.{header_at}
 use Rattle.history.specs.Spelling.{part_of}
-use Rattle.history.proofs.PartLemmas.{part_again}
-use Rattle.history.proofs.Readers.{same_value}
 use Rattle.serde_json.specs.Data.{Data, string, array}
 use Rattle.serde_json.specs.View.{view, items_of}
 use Rattle.serde_json.specs.declared.value.Value.{Value}
@@ -39,11 +35,6 @@ two_texts d vs a b name part o two is spelt first second =
     let both = parts (view a) (view b) (string o.0) (string (part_of o.1))
     (ap (λ (ws : List Value). array (items_of (map view ws))) (sym two) ∙ sym is ∙ spelt) in
     (same_text name o.0 (sym first ∙ both.0), same_text part (part_of o.1) (sym second ∙ both.1))
-
--- a header has one spelling
-pub same_header : (g h : Header) → IsInRange g → IsInRange h → part_of g ≡ part_of h → g ≡ h
-same_header g h first second e =
-    same_value header_at (part_of g) (part_of h) g h (part_again g first) (part_again h second) e
 
 abbrev Entry : Type 0
 Entry = String Global × Header

@@ -1,5 +1,5 @@
 -- What a value is whose parts are known.
-use Rattle.std.proofs.Common.{◌≡◌, ℕ, suc, List, [], ◌∷◌, Some, length, option_map, String, refl, sym, ap, ◌∙◌}
+use Rattle.std.proofs.Common.{◌≡◌, suc, List, [], ◌∷◌, Some, length, option_map, String, refl, sym, ap, ◌∙◌}
 use Rattle.std.specs.declared.alloc.Global.{Global}
 use Rattle.serde_json.specs.Data.{Data, null, boolean, number, string, array, object, Items}
 use Rattle.serde_json.specs.Events.{items_len, members_len}
@@ -11,9 +11,6 @@ use Rattle.serde_json.proofs.Views.{members_len-members_view}
 pub members_count : (d : Data) (es : List (String Global × Value)) → Some (members_view es) ≡ as_object d →
     option_map members_len (as_object d) ≡ Some (length es)
 members_count d es e = ap (option_map members_len) (sym e) ∙ ap Some (members_len-members_view es)
-
-pub same_count : (m n : ℕ) → Some m ≡ Some n → m ≡ n
-same_count m n e = cc
 
 pub is_array : (d : Data) (items : Items) → Some items ≡ as_array d → d ≡ array items
 is_array null items e = absurd cc

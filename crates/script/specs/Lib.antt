@@ -1,3 +1,4 @@
+pub mod Building
 pub mod CallReading
 pub mod CallText
 pub mod Name

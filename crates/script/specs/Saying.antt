@@ -8,6 +8,7 @@ use Rattle.serde_json.specs.View.{items_of}
 use Rattle.script.specs.CallText.{Spells}
 use Rattle.script.specs.Script.{Named, WorkerView, IsObject}
 use Rattle.script.specs.declared.call.Call.{Call}
+use Rattle.script.specs.declared.limits.TheConstants.{MOST_CALLS, MOST_OBJECTS, MOST_ROUNDS, MOST_THREADS}
 
 -- an object with exactly two keys, and their values
 pub record HasMembers (value : Data) (first : List ℕ) (a : Data) (second : List ℕ) (b : Data) : Type 0 where
@@ -37,13 +38,13 @@ pub record StopsAt {T : Type 0} (Says : List T → Data → T → Type 0) (value
   pub here : slice_get values place ≡ Some value
   pub bad : IsBad said value
 
--- lists of 1 to 64 objects and of 1 to 256 threads
+-- lists of at least 1 object and 1 thread
 pub record IsTop (value : Data) (objects threads : List Data) : Type 0 where
   pub first : Data
   pub second : Data
   pub members : HasMembers value (codes "objects") first (codes "threads") second
-  pub object_list : IsList 1 64 first objects
-  pub thread_list : IsList 1 256 second threads
+  pub object_list : IsList 1 MOST_OBJECTS first objects
+  pub thread_list : IsList 1 MOST_THREADS second threads
 
 abbrev pub object_value : Named → Data
 object_value o = array (items_of (string o.0 ∷ string (part_of o.1) ∷ []))
@@ -59,13 +60,13 @@ abbrev pub SaysCall : List Named → ℕ → List Call → Data → Call → Typ
 SaysCall objects threads before value call =
     (text : List ℕ) × (value ≡ string text) × Spells objects threads call text
 
--- 1 to 1000000 rounds of a list of at most 10000
+-- at least 1 round of a list of calls
 pub record IsRounds (value : Data) (repeat : ℕ) (calls : List Data) : Type 0 where
   pub first : Data
   pub members : HasMembers value (codes "calls") first (codes "repeat") (number (unsigned repeat))
-  pub call_list : IsList 0 10000 first calls
+  pub call_list : IsList 0 MOST_CALLS first calls
   pub some_round : 1 ≤ repeat
-  pub few_rounds : repeat ≤ 1000000
+  pub few_rounds : repeat ≤ MOST_ROUNDS
 
 -- rounds of calls
 pub record SaysWorker (objects : List Named) (threads : ℕ) (before : List WorkerView) (value : Data)

@@ -3,6 +3,7 @@ use Rattle.std.specs.Prelude.{◌≡◌, ℕ, ◌<◌, ◌≤◌, List, map, len
 use Rattle.std.specs.declared.alloc.Global.{Global}
 use Rattle.history.specs.declared.header.Header.{Header}
 use Rattle.history.specs.Header.{IsInRange}
+use Rattle.script.specs.declared.limits.TheConstants.{MOST_CALLS, MOST_OBJECTS, MOST_ROUNDS, MOST_THREADS}
 use Rattle.script.specs.Name.{IsName}
 use Rattle.script.specs.declared.call.Call.{Call}
 use Rattle.script.specs.declared.call.Call.TheVariants.{On, Interrupt}
@@ -29,11 +30,11 @@ abbrev pub IsCall : ℕ → ℕ → Call → Type 0
 IsCall objects threads (On place action) = place < objects
 IsCall objects threads (Interrupt thread) = thread < threads
 
--- 1 to 1000000 rounds of at most 10000 calls
+-- at least 1 round, of calls
 pub record IsWorker (objects threads : ℕ) (w : WorkerView) : Type 0 where
   pub some_round : 1 ≤ w.repeat
-  pub rounds : w.repeat ≤ 1000000
-  pub few_calls : length w.calls ≤ 10000
+  pub rounds : w.repeat ≤ MOST_ROUNDS
+  pub few_calls : length w.calls ≤ MOST_CALLS
   pub calls : All (IsCall objects threads) w.calls
 
 -- its name is good, its header is in range, and its object has as many seats as there are threads
@@ -42,11 +43,11 @@ pub record IsObject (threads : ℕ) (o : Named) : Type 0 where
   pub in_range : IsInRange o.1
   pub seats : o.1.seats ≡ threads
 
--- 1 to 64 objects, 1 to 256 workers
+-- at least 1 object, and 1 worker
 pub record IsScript (s : ScriptView) : Type 0 where
   pub some_object : 1 ≤ length s.objects
-  pub few_objects : length s.objects ≤ 64
+  pub few_objects : length s.objects ≤ MOST_OBJECTS
   pub some_worker : 1 ≤ length s.workers
-  pub few_workers : length s.workers ≤ 256
+  pub few_workers : length s.workers ≤ MOST_THREADS
   pub objects : All (IsObject (length s.workers)) s.objects
   pub workers : All (IsWorker (length s.objects) (length s.workers)) s.workers

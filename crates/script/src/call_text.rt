@@ -7,11 +7,12 @@ ghost use Rattle.script.specs.Name.{IsName};
 ghost use Rattle.script.specs.Script.{named};
 ghost use Rattle.script.specs.declared.action.Action.{Action};
 ghost use Rattle.script.specs.declared.call.Call.{Call};
+ghost use Rattle.script.specs.declared.limits.TheConstants.{MOST_THREADS};
 
 use crate::action::Action;
 use crate::action_text::action;
 use crate::call::Call;
-use crate::name::{INTERRUPT, place_of};
+use crate::name::{INTERRUPT, position_of};
 use history::header::Header;
 use history::number::number_of;
 use history::words::Words;
@@ -32,7 +33,7 @@ fn action_of(text: &[u8]) -> Option<Action>
 
 /// Returns the number of a thread, which must be below `threads`.
 fn thread_of(text: &[u8], threads: usize) -> Option<u16>
-    requires { threads ≤ 256 }
+    requires { threads ≤ MOST_THREADS }
     ensures found { IfSome result (λ t. (t < threads) × (text.now ≡ decimal t)) }
     ensures none { IfNone result ((t : ℕ) → t < threads → text.now ≢ decimal t) }
 {
@@ -50,7 +51,7 @@ pub(crate) fn call_of(
     objects: &IndexMap<String, Header>,
     threads: usize,
 ) -> Option<Call>
-    requires threads { threads ≤ 256 }
+    requires threads { threads ≤ MOST_THREADS }
     requires names { All (λ o. IsName o.0) (named objects.now.entries) }
     ensures found { IfSome result (λ c. Spells (named objects.now.entries) threads c text.now) }
     ensures none { IfNone result ((c : Call) → ¬ (Spells (named objects.now.entries) threads c text.now)) }
@@ -59,6 +60,6 @@ pub(crate) fn call_of(
     if name == INTERRUPT {
         return Some(Call::Interrupt(thread_of(rest.as_bytes(), threads)?));
     }
-    let place = place_of(name, objects)?;
+    let place = position_of(name, objects)?;
     Some(Call::On(place, action_of(rest.as_bytes())?))
 }

@@ -5,10 +5,12 @@
 
 mod action;
 mod action_text;
+mod building;
 mod call;
 mod call_text;
 mod fault;
 mod json;
+pub mod limits;
 mod name;
 mod objects;
 mod reading;

@@ -30,7 +30,7 @@ pub(crate) fn is_name(name: &str) -> bool
 }
 
 /// Returns the place of the object with this name.
-pub(crate) fn place_of(name: &str, objects: &IndexMap<String, Header>) -> Option<usize>
+pub(crate) fn position_of(name: &str, objects: &IndexMap<String, Header>) -> Option<usize>
     ensures found { IfSome result (λ i. (h : Header)
         × (slice_get (named objects.now.entries) i ≡ Some (name.now, h))) }
     ensures none { IfNone result (All (λ o. o.0 ≢ name.now) (named objects.now.entries)) }

@@ -8,7 +8,7 @@ ghost use Rattle.script.specs.Script.{Named, named, IsObject};
 
 use crate::fault::ScriptFault;
 use crate::json::{list_of, text_of};
-use crate::name::{is_name, place_of};
+use crate::name::{is_name, position_of};
 use history::header::Header;
 use indexmap::IndexMap;
 use serde_json::Value;
@@ -45,7 +45,7 @@ fn new_object<'a>(
         (view value.entry.now)) }
 {
     let (name, header) = named_header(value, threads)?;
-    match place_of(name, objects) {
+    match position_of(name, objects) {
         None => Some((name, header)),
         Some(_) => None,
     }

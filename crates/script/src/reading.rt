@@ -10,15 +10,12 @@ ghost use Rattle.std.specs.Prelude.{◌⊎◌};
 
 use crate::fault::ScriptFault;
 use crate::json::{list_of, members_of};
+use crate::limits::{MOST_OBJECTS, MOST_THREADS};
 use crate::objects::objects_of;
 use crate::script::Script;
 use crate::workers::workers_of;
 use serde_json::Value;
 use std::alloc::Global;
-
-const MOST_OBJECTS: usize = 64;
-
-const MOST_THREADS: usize = 256;
 
 /// The lists of a script.
 #[derive(Clone, Copy)]
@@ -87,5 +84,5 @@ pub fn read_script(alloc: Global, text: &[u8]) -> Result<Script, ScriptFault>
     };
     let objects = objects_of(alloc, top.objects, top.threads.len())?;
     let workers = workers_of(alloc, top.threads, &objects)?;
-    Ok(Script::new(objects, workers))
+    Ok(Script::of_good(objects, workers))
 }

@@ -21,20 +21,21 @@ impl Model for Worker {
 }
 
 impl Worker {
-    pub(crate) fn new(repeat: u32, calls: Vec<Call>) -> Self
+    /// Returns a worker with these rounds. [`Script::new`](crate::Script::new) looks at the limits.
+    pub fn new(repeat: u32, calls: Vec<Call>) -> Self
         ensures { result ≡ record { repeat = repeat; calls = calls.items } }
     {
         Worker { repeat, calls }
     }
 
-    /// Returns how often the thread makes its calls: 1 to 1000000 times.
+    /// Returns how often the thread makes its calls: in a script 1 to 1000000 times.
     pub fn repeat(&self) -> u32
         ensures { result ≡ self.now.repeat }
     {
         self.repeat
     }
 
-    /// Returns the calls of one round in their order, at most 10000.
+    /// Returns the calls of one round in their order: in a script at most 10000.
     pub fn calls(&self) -> &[Call]
         ensures { result.now ≡ self.now.calls }
     {

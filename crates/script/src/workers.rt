@@ -8,20 +8,18 @@ ghost use Rattle.script.specs.Reading.{IsCallsFault, IsThreadFault, IsThreadsFau
 ghost use Rattle.script.specs.Saying.{Say, SaysCall, SaysWorker, IsRounds};
 ghost use Rattle.script.specs.Script.{named, WorkerView};
 ghost use Rattle.script.specs.declared.call.Call.{Call};
+ghost use Rattle.script.specs.declared.limits.TheConstants.{MOST_THREADS};
 
 use crate::call::Call;
 use crate::call_text::call_of;
 use crate::fault::ScriptFault;
 use crate::json::{list_of, members_of, number_of, text_of};
+use crate::limits::{MOST_CALLS, MOST_ROUNDS};
 use crate::worker::Worker;
 use history::header::Header;
 use indexmap::IndexMap;
 use serde_json::Value;
 use std::alloc::Global;
-
-const MOST_ROUNDS: u64 = 1_000_000;
-
-const MOST_CALLS: usize = 10_000;
 
 /// Reads the number of rounds and the calls of a thread.
 fn rounds_of(value: &Value) -> Option<(u32, &[Value])>
@@ -46,7 +44,7 @@ fn calls_of(
     threads: usize,
     thread: usize,
 ) -> Result<Vec<Call>, ScriptFault>
-    requires threads { threads ≤ 256 }
+    requires threads { threads ≤ MOST_THREADS }
     requires names { All (λ o. IsName o.0) (named objects.now.entries) }
     ensures ok { IfOk result (λ cs. Say (SaysCall (named objects.now.entries) threads) []
         (map view values.now) cs.items) }
@@ -65,7 +63,7 @@ fn calls_of(
 
 /// Returns the call that a value spells.
 fn call_in(value: &Value, objects: &IndexMap<String, Header>, threads: usize) -> Option<Call>
-    requires threads { threads ≤ 256 }
+    requires threads { threads ≤ MOST_THREADS }
     requires names { All (λ o. IsName o.0) (named objects.now.entries) }
     ensures found { IfSome result (λ c. (before : List Call) →
         SaysCall (named objects.now.entries) threads before (view value.now) c) }
@@ -83,7 +81,7 @@ fn worker_of(
     threads: usize,
     thread: usize,
 ) -> Result<Worker, ScriptFault>
-    requires threads { threads ≤ 256 }
+    requires threads { threads ≤ MOST_THREADS }
     requires names { All (λ o. IsName o.0) (named objects.now.entries) }
     ensures ok { IfOk result (λ w. (before : List WorkerView) → SaysWorker (named objects.now.entries) threads
         before (view value.now) w) }
@@ -102,7 +100,7 @@ pub(crate) fn workers_of(
     values: &[Value],
     objects: &IndexMap<String, Header>,
 ) -> Result<Vec<Worker>, ScriptFault>
-    requires threads { length values.now ≤ 256 }
+    requires threads { length values.now ≤ MOST_THREADS }
     requires names { All (λ o. IsName o.0) (named objects.now.entries) }
     ensures ok { IfOk result (λ ws. Say (SaysWorker (named objects.now.entries) (length values.now)) []
         (map view values.now) ws.items) }

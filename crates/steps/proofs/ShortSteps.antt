@@ -1,14 +1,11 @@
 -- The lines of a steps text are short.
 use Rattle.std.proofs.Common.{◌≡◌, ℕ, ◌<◌, ◌≤◌, ◌^◌, List, [], ◌∷◌, length, arith, decimal}
 use Rattle.std.specs.Prelude.{codes}
-use Rattle.history.specs.declared.entry.Mode.{Mode}
-use Rattle.history.specs.declared.entry.Mode.TheVariants.{X, S}
 use Rattle.history.specs.declared.step.Step.{Step}
 use Rattle.history.specs.declared.step.Step.TheVariants.{Acquire, Try, TryFair, EntryInterrupt, Give, Look, Expire, Interrupt, Await, Signal, SignalAll, Drain}
-use Rattle.history.specs.EntryWords.{mode_word}
 use Rattle.history.specs.Text.{ended}
 use Rattle.line_text.specs.Short.{HasShortLines}
-use Rattle.line_text.proofs.Lengths.{AreShort, decimal_short, header_short, line_length}
+use Rattle.line_text.proofs.Lengths.{AreShort, decimal_short, header_short, line_length, mode_short}
 use Rattle.std.proofs.lemmas.List.{length-append}
 use Rattle.frame.specs.declared.acts.Act.{Act}
 use Rattle.frame.specs.declared.acts.Act.TheVariants.{Do, Trim}
@@ -18,10 +15,6 @@ use Rattle.steps.specs.declared.header.Format.TheVariants.{One, Two}
 use Rattle.steps.specs.declared.header.StepsHeader.{StepsHeader}
 use Rattle.steps.specs.StepLines.{HasAmounts, IsAct, IsStep, act_line, end_line, name_of, step_line, step_words}
 use Rattle.steps.specs.StepsText.{steps_form}
-
-pub mode_short : (m : Mode) → length (mode_word m) ≤ 20
-mode_short X = omega arith
-mode_short S = omega arith
 
 words_short : (s : Step) → HasAmounts s → AreShort (step_words s) × (length (step_words s) ≤ 3)
 words_short (Acquire m n) lt =

@@ -1,15 +1,14 @@
 -- What a step line spells is read again.
-use Rattle.std.proofs.Common.{◌≡◌, ℕ, ◌-◌, ◌^◌, ◌<◌, true, List, [], ◌∷◌, ◌++◌, Some, None, refl, sym, ap, ◌∙◌, arith, decimal}
+use Rattle.std.proofs.Common.{◌≡◌, ℕ, ◌-◌, ◌^◌, ◌<◌, [], ◌∷◌, Some, refl, ap, ◌∙◌, arith, decimal}
 use Rattle.std.proofs.lemmas.Bool.{le-leb}
-use Rattle.std.proofs.lemmas.List.{append-nil}
-use Rattle.std.proofs.lemmas.List.Splits.{join_with_byte-slice_split}
-use Rattle.history.specs.Text.{line_of, words_of}
+use Rattle.history.specs.Text.{words_of}
 use Rattle.history.specs.EntryWords.{mode_word}
 use Rattle.history.specs.Reading.{Words}
 use Rattle.history.specs.declared.entry.Mode.{Mode}
 use Rattle.history.specs.declared.entry.Mode.TheVariants.{X, S}
 use Rattle.history.proofs.Numbers.{number_again}
-use Rattle.history.proofs.Plain.{is_plain, ArePlain, words_again, decimal_plain}
+use Rattle.history.proofs.EntryAgain.{mode_plain}
+use Rattle.history.proofs.Plain.{ArePlain, words_again, decimal_plain}
 use Rattle.history.specs.declared.step.Step.{Step}
 use Rattle.history.specs.declared.step.Step.TheVariants.{Acquire, Try, TryFair, EntryInterrupt, Give, Look, Expire, Interrupt, Await, Signal, SignalAll, Drain}
 use Rattle.steps.specs.StepLines.{step_words, step_line, IsStep, HasAmounts}
@@ -53,10 +52,6 @@ line_again seats s small fits =
       step_again s.1 fits.1,
     ) refl
 
-pub mode_plain : (m : Mode) → is_plain (mode_word m) ≡ true
-mode_plain X = refl
-mode_plain S = refl
-
 step_plain : (s : Step) → HasAmounts s → ArePlain (step_words s)
 step_plain (Acquire m n) lt = (refl, (mode_plain m, (decimal_plain n (omega (arith, lt)), tt)))
 step_plain (Try m n) lt = (refl, (mode_plain m, (decimal_plain n (omega (arith, lt)), tt)))
@@ -75,39 +70,8 @@ pub line_plain : (seats : ℕ) (s : ℕ × Step) → seats < 2 ^ 32 → IsStep s
     ArePlain (decimal s.0 ∷ step_words s.1)
 line_plain seats s small fits = (decimal_plain s.0 (omega (arith, fits.0)), step_plain s.1 fits.1)
 
-abbrev Found : Type 0
-Found = (ℕ × Step) × Words
-
-rest_is : (x y : Found) → Some x ≡ Some y → x.1 ≡ y.1
-rest_is x y e = ap (λ (p : Found). p.1) (inside x y e)
-  where
-    inside : (x y : Found) → Some x ≡ Some y → x ≡ y
-    inside x y e = cc
-
-none_is : (x : Found) → None ≡ Some x → ⊥
-none_is x e = cc
-
 pub whole_line : (seats : ℕ) (s : ℕ × Step) → seats < 2 ^ 32 → IsStep seats s →
     line_at seats (words_of (step_line s)) ≡ Some (s, [])
 whole_line seats s small fits =
     ap (line_at seats) (words_again (decimal s.0) (step_words s.1) (line_plain seats s small fits))
     ∙ line_again seats s small fits
-
-pub unread : (seats : ℕ) (line : List ℕ) → seats < 2 ^ 32 → None ≡ line_at seats (words_of line) →
-    (s : ℕ × Step) → IsStep seats s → line ≡ step_line s → ⊥
-unread seats line small none s fits is =
-    none_is (s, []) (none ∙ ap (λ (p : List ℕ). line_at seats (words_of p)) is ∙ whole_line
-    seats s small fits)
-
-pub not_all_read : (seats : ℕ) (line : List ℕ) (found : ℕ × Step) (w : List ℕ) (ws : Words) →
-    seats < 2 ^ 32 → Some (found, w ∷ ws) ≡ line_at seats (words_of line) → (s : ℕ × Step) →
-    IsStep seats s → line ≡ step_line s → ⊥
-not_all_read seats line found w ws small some s fits is =
-    let e : w ∷ ws ≡ [] =
-    rest_is (found, w ∷ ws) (s, []) (some ∙ ap (λ (p : List ℕ). line_at seats (words_of p)) is
-    ∙ whole_line seats s small fits) in cc
-
-pub is_step_line : (line : List ℕ) (s : ℕ × Step) → words_of line ≡ (decimal s.0 ∷ step_words s.1) ++ [] →
-    line ≡ step_line s
-is_step_line line s e = sym (join_with_byte-slice_split 32 line)
-    ∙ ap line_of (e ∙ append-nil (decimal s.0 ∷ step_words s.1))

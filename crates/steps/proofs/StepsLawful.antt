@@ -1,5 +1,5 @@
 -- The lines of a steps text can be told apart.
-use Rattle.std.proofs.Common.{◌≡◌, ℕ, ◌<◌, ◌^◌, true, List, [], ◌∷◌, ◌++◌, length, Some, refl, sym, ap, ◌∙◌, arith, decimal}
+use Rattle.std.proofs.Common.{◌≡◌, ℕ, ◌<◌, ◌^◌, true, List, [], ◌∷◌, ◌++◌, length, refl, sym, ap, ◌∙◌, arith, decimal}
 use Rattle.std.specs.Prelude.{codes}
 use Rattle.history.specs.declared.header.Header.{Header}
 use Rattle.history.specs.declared.step.Step.{Step}
@@ -8,8 +8,10 @@ use Rattle.history.specs.Spelling.{part_of}
 use Rattle.history.specs.Text.{words_of}
 use Rattle.history.proofs.Numbers.{digits_alone}
 use Rattle.history.proofs.Plain.{ArePlain, words_again, decimal_plain}
+use Rattle.history.proofs.Readers.{same_value}
 use Rattle.line_text.proofs.Lawful.{IsLawful, Lacks}
-use Rattle.line_text.proofs.WholeLines.{has_no_break, line_lacks, header_whole, header_one, same_behind}
+use Rattle.line_text.proofs.Lists.{head_is, same_behind}
+use Rattle.line_text.proofs.WholeLines.{has_no_break, line_lacks, header_whole, header_one}
 use Rattle.frame.specs.declared.acts.Act.{Act}
 use Rattle.frame.specs.declared.acts.Act.TheVariants.{Do, Trim}
 use Rattle.steps.specs.declared.header.Format.{Format}
@@ -23,27 +25,18 @@ use Rattle.steps.proofs.StepLemmas.{line_plain, whole_line}
 end_words : (k : ℕ) → k < 2 ^ 32 → ArePlain (codes "end" ∷ decimal k ∷ [])
 end_words k lt = (refl, (decimal_plain k (omega arith), tt))
 
-abbrev Found : Type 0
-Found = (ℕ × Step) × List (List ℕ)
-
 same_step : (seats : ℕ) (s r : ℕ × Step) → seats < 2 ^ 32 → IsStep seats s → IsStep seats r →
     step_line s ≡ step_line r → s ≡ r
 same_step seats s r small p q e =
-    ap (λ (x : Found). x.0) (inside (s, []) (r, []) (sym (whole_line seats s small p)
-    ∙ ap (λ (t : List ℕ). line_at seats (words_of t)) e ∙ whole_line seats r small q))
-  where
-    inside : (x y : Found) → Some x ≡ Some y → x ≡ y
-    inside x y e = cc
-
-first_word : (x y : List ℕ) (xs ys : List (List ℕ)) → x ∷ xs ≡ y ∷ ys → x ≡ y
-first_word x y xs ys e = cc
+    same_value (line_at seats) (step_line s) (step_line r) s r (whole_line seats s small p)
+    (whole_line seats r small q) e
 
 step_no_end : (seats : ℕ) (s : ℕ × Step) (k : ℕ) → seats < 2 ^ 32 → IsStep seats s → k < 2 ^ 32 →
     step_line s ≡ end_line k → ⊥
 step_no_end seats s k small fits lt e =
     let words = sym (words_again (decimal s.0) (step_words s.1) (line_plain seats s small fits))
     ∙ ap words_of e ∙ words_again (codes "end") (decimal k ∷ []) (end_words k lt) in
-    let seat : codes "end" ≡ decimal s.0 = sym (first_word _ _ _ _ words) in
+    let seat : codes "end" ≡ decimal s.0 = sym (head_is words) in
     omega (arith, digits_alone (codes "end") s.0 0 (omega (arith, fits.0)) (omega arith) seat)
 
 trim_words : ArePlain (codes "trim" ∷ [])
@@ -53,7 +46,7 @@ step_no_trim : (seats : ℕ) (s : ℕ × Step) → seats < 2 ^ 32 → IsStep sea
 step_no_trim seats s small fits e =
     let words = sym (words_again (decimal s.0) (step_words s.1) (line_plain seats s small fits))
     ∙ ap words_of e ∙ words_again (codes "trim") [] trim_words in
-    let seat : codes "trim" ≡ decimal s.0 = sym (first_word _ _ _ _ words) in
+    let seat : codes "trim" ≡ decimal s.0 = sym (head_is words) in
     omega (arith, digits_alone (codes "trim") s.0 0 (omega (arith, fits.0)) (omega arith) seat)
 
 act_whole : (h : StepsHeader) (a : Act) → IsInRange h.header → IsAct h a → Lacks (act_line a)
@@ -73,12 +66,9 @@ same_act h Trim (Do i step) header p q e =
     absurd (step_no_trim h.header.seats (i, step) (omega (arith, header.seats)) q (sym e))
 same_act h Trim Trim header p q e = refl
 
-first_byte : (x y : ℕ) (xs ys : List ℕ) → x ∷ xs ≡ y ∷ ys → x ≡ y
-first_byte x y xs ys e = cc
-
 trim_no_end : (k : ℕ) → k < 2 ^ 32 → codes "trim" ≡ end_line k → ⊥
 trim_no_end k lt e =
-    let letter : 116 ≡ 101 = first_byte _ _ _ _ e in
+    let letter : 116 ≡ 101 = head_is e in
     omega (arith, letter)
 
 act_no_end : (h : StepsHeader) (a : Act) (k : ℕ) → IsInRange h.header → IsAct h a → k < 2 ^ 32 →
@@ -100,7 +90,7 @@ first_whole h fits = header_whole (name_of h.format) h.header (name_whole h.form
 other_names : (a b : List ℕ) → codes "aqs-steps 1 " ++ a ≡ codes "aqs-steps 2 " ++ b → ⊥
 other_names a b e =
     let digit : 49 ≡ 50 =
-    first_byte _ _ _ _ (same_behind (codes "aqs-steps ") (49 ∷ 32 ∷ a) (50 ∷ 32 ∷ b) e) in
+    head_is (same_behind (codes "aqs-steps ") (49 ∷ 32 ∷ a) (50 ∷ 32 ∷ b) e) in
     omega (arith, digit)
 
 first_one_by : (f g : Format) (h k : Header) → IsInRange h → IsInRange k →

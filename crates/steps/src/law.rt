@@ -2,6 +2,7 @@
 
 ghost use Rattle.std.specs.Prelude.{◌≡◌, ◌≢◌, [], ◌++◌, List, ℕ};
 ghost use Rattle.frame.specs.declared.acts.Act.{Act};
+ghost use Rattle.line_text.specs.declared.limits.TheConstants.{LINE_BYTES};
 ghost use Rattle.line_text.specs.Reading.{IsReading, IsText, IsCutShort, Reading};
 ghost use Rattle.line_text.specs.Short.{HasShortLines};
 ghost use Rattle.steps.specs.declared.header.StepsHeader.{StepsHeader};
@@ -21,5 +22,5 @@ pub fn cut_short()
 
 /// No line of a steps text has 256 bytes or more.
 pub fn lines_are_short()
-    ensures { HasShortLines steps_form 256 }
+    ensures { HasShortLines steps_form LINE_BYTES }
 {}

@@ -13,6 +13,7 @@ pub mod next_line;
 mod step_line;
 pub mod steps_text;
 
+pub use crate::end_line::MOST_ACTS;
 pub use crate::law::{cut_short, lines_are_short, one_reading};
 pub use crate::step_line::{asked, condition};
 pub use crate::steps_text::{StepsText, read_steps};

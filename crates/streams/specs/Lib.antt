@@ -1,6 +1,7 @@
 pub mod MemorySink
 pub mod MemorySource
+pub mod ReadingOn
 pub mod Streams
 pub mod Turns
-pub mod Whole
+pub mod Writing
 pub mod Window

@@ -5,7 +5,8 @@ use Rattle.line_text.specs.Form.{Form}
 use Rattle.line_text.specs.Reading.{Begins, IsReading}
 use Rattle.streams.specs.declared.stream_fault.StreamFault.{StreamFault}
 use Rattle.streams.specs.declared.stream_fault.StreamFault.TheVariants.{Text, ReadFailed, WriteFailed, Memory}
-use Rattle.streams.specs.Whole.{AppendsFront, IsTooLong}
+use Rattle.streams.specs.ReadingOn.{IsTooLong}
+use Rattle.streams.specs.Writing.{AppendsFront}
 use Rattle.streams.specs.Window.{room}
 
 -- The source's bytes, and what the sink held before and holds after. If the text has the form, a value is

@@ -2,6 +2,8 @@
 use Rattle.std.specs.Prelude.{◌≡◌, ◌≤◌, ◌+◌, ℕ, List, ◌++◌, length, take, Option, None, Some}
 use Rattle.std.specs.Io.KnownBytes.{Consumes}
 use Rattle.history.specs.Text.{HasNoBreak}
+use Rattle.line_text.specs.declared.limits.TheConstants.{LINE_BYTES}
+use Rattle.streams.specs.declared.limits.TheConstants.{ROOM}
 
 -- The bytes in the window, how many dropped bytes are before them, and how many places its memory has.
 pub record Seen : Type 0 where
@@ -9,13 +11,9 @@ pub record Seen : Type 0 where
   pub passed : ℕ
   pub places : ℕ
 
--- how many bytes of an incomplete line stay
-abbrev pub kept_of_line : ℕ
-kept_of_line = 256
-
 -- how many places a window has
 abbrev pub room : ℕ
-room = 65792
+room = ROOM
 
 -- A read returned n bytes, which follow those that were in the window.
 pub record Grows (old new : List ℕ) (left after : Option (List ℕ)) (n : ℕ) : Type 0 where
@@ -31,7 +29,7 @@ pub record IsAhead (ahead window left : List ℕ) : Type 0 where
   pub rest : List ℕ
   pub parts : ahead ≡ line ++ (rest ++ left)
   pub one_line : HasNoBreak line
-  pub seen : window ≡ take kept_of_line line ++ rest
+  pub seen : window ≡ take LINE_BYTES line ++ rest
 
 -- the bytes in the window and left after it stay, if they are known, except for bytes of a long line
 abbrev pub StaysAhead : List ℕ → Option (List ℕ) → List ℕ → Option (List ℕ) → Type 0
@@ -44,7 +42,7 @@ pub record IsFront (ahead window left : List ℕ) : Type 0 where
   pub line : List ℕ
   pub parts : ahead ≡ line ++ left
   pub one_line : HasNoBreak line
-  pub seen : window ≡ take kept_of_line line
+  pub seen : window ≡ take LINE_BYTES line
 
 abbrev pub IsFrontAhead : List ℕ → Option (List ℕ) → List ℕ → Option (List ℕ) → Type 0
 IsFrontAhead old None window after = Unit {0}

@@ -7,12 +7,14 @@
 #![tactic(auto)]
 
 pub mod device;
+pub mod limits;
 pub mod memory_sink;
 pub mod memory_source;
+pub mod reading_on;
 pub mod rest;
 pub mod sink;
 pub mod source;
 pub mod stream_fault;
 mod turns;
-pub mod whole;
 pub mod window;
+pub mod writing;

@@ -2,7 +2,7 @@
 
 ghost use Rattle.std.specs.Prelude.{◌≡◌, ◌↔◌, false, IsTrue, OnOk, IfErr, IfOk, IsErrOf};
 ghost use Rattle.std.specs.Io.KnownBytes.{Consumes, IsAtEnd};
-ghost use Rattle.streams.specs.Whole.{IsOfReading};
+ghost use Rattle.streams.specs.ReadingOn.{IsOfReading};
 
 use crate::source::Source;
 use crate::stream_fault::StreamFault;

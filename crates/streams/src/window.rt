@@ -3,21 +3,18 @@
 ghost use Rattle.std.specs.Prelude.{◌≡◌, ◌+◌, ◌<◌, ◌≤◌, ◌-◌, ◌↔◌, ℕ, List, Option, [], false, drop, length, take, IsTrue, IsErrOf, IfOk, IfErr, IfSome, OnOk, OnErr};
 ghost use Rattle.std.specs.Io.KnownBytes.{IsAtEnd, Keeps};
 ghost use Rattle.history.specs.Text.{HasNoBreak};
-ghost use Rattle.streams.specs.Whole.{IsOfReading, IsTooLong};
-ghost use Rattle.streams.specs.Window.{Grows, IsFrontAhead, IsShorter, StaysAhead, kept_of_line, room};
+ghost use Rattle.line_text.specs.declared.limits.TheConstants.{LINE_BYTES};
+ghost use Rattle.streams.specs.ReadingOn.{IsOfReading, IsTooLong};
+ghost use Rattle.streams.specs.Window.{Grows, IsFrontAhead, IsShorter, StaysAhead, room};
 ghost use Rattle.streams.specs.declared.stream_fault.StreamFault.TheVariants.{Memory, ReadFailed};
 
+use crate::limits::ROOM;
 use crate::source::Source;
 use crate::stream_fault::StreamFault;
 use history::text::first_line;
+use line_text::limits::LINE_BYTES;
 use std::alloc::{AllocError, Global};
 use std::marker::Model;
-
-/// How many bytes of an incomplete line stay in a window. No good line of a text has as many.
-const KEPT_OF_LINE: usize = 256;
-
-/// The most bytes in a window: a piece of 65,536, after what stays of a line.
-const ROOM: usize = 65_792;
 
 /// A window on the bytes of a source, which moves on as they are used. What is in it was read from the
 /// source, and what was used is dropped.
@@ -86,11 +83,11 @@ impl Window {
 
     /// Drops all but the first bytes of a line.
     fn keep_front(&mut self)
-        ensures bytes { self.new.bytes ≡ take kept_of_line self.old.bytes }
-        ensures few { length self.new.bytes ≤ kept_of_line }
+        ensures bytes { self.new.bytes ≡ take LINE_BYTES self.old.bytes }
+        ensures few { length self.new.bytes ≤ LINE_BYTES }
         ensures places { self.new.places ≡ self.old.places }
     {
-        let kept = (self.end - self.at).min(KEPT_OF_LINE);
+        let kept = (self.end - self.at).min(LINE_BYTES);
         self.end = self.at + kept;
     }
 
@@ -131,8 +128,8 @@ impl Window {
     /// the source does. Otherwise only the beginning of the line stays.
     fn read_piece<R: Source>(&mut self, reader: &mut R) -> Result<bool, StreamFault>
         requires reader { R.failed reader.old ≡ false }
-        requires room { kept_of_line < self.old.places }
-        requires front { length self.old.bytes ≤ kept_of_line }
+        requires room { LINE_BYTES < self.old.places }
+        requires front { length self.old.bytes ≤ LINE_BYTES }
         ensures all { IfOk result (λ all. IsTrue all → (first : Option (List ℕ)) (old : List ℕ) →
             IsFrontAhead old first self.old.bytes (R.left reader.old) →
             StaysAhead old first self.new.bytes (R.left reader.new)) }
@@ -141,7 +138,7 @@ impl Window {
             IsFrontAhead old first self.new.bytes (R.left reader.new)) }
         ensures kept { OnErr result ((self.new.bytes ≡ self.old.bytes)
             × Keeps (R.left reader.old) (R.left reader.new)) }
-        ensures few { IfOk result (λ all. all ≡ false → length self.new.bytes ≤ kept_of_line) }
+        ensures few { IfOk result (λ all. all ≡ false → length self.new.bytes ≤ LINE_BYTES) }
         ensures less { IfOk result (λ all. all ≡ false → IsShorter (R.left reader.old) (R.left reader.new)) }
         ensures held { length self.new.bytes ≤ self.new.places }
         ensures whole { IfOk result (λ all. IsTrue all → HasNoBreak self.new.bytes →
@@ -169,7 +166,7 @@ impl Window {
     /// Reads are counted. Only if the source has more bytes than can be counted, `Memory` is returned.
     pub fn read_line<R: Source>(&mut self, reader: &mut R) -> Result<(), StreamFault>
         requires reader { R.failed reader.old ≡ false }
-        requires room { kept_of_line < self.old.places }
+        requires room { LINE_BYTES < self.old.places }
         ensures ahead { StaysAhead self.old.bytes (R.left reader.old) self.new.bytes (R.left reader.new) }
         ensures ready { (HasNoBreak self.old.bytes → ⊥) → (self.new ≡ self.old) × (reader.new ≡ reader.old) }
         ensures few { length self.new.bytes ≤ self.new.places }

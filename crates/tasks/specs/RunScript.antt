@@ -5,7 +5,7 @@ use Rattle.run_text.specs.RunText.{run_text}
 use Rattle.script.specs.Reading.{IsFault, Reads}
 use Rattle.script.specs.Script.{ScriptView}
 use Rattle.streams.specs.declared.stream_fault.StreamFault.TheVariants.{Text, ReadFailed, WriteFailed, Memory as StreamMemory}
-use Rattle.streams.specs.Whole.{AppendsFront}
+use Rattle.streams.specs.Writing.{AppendsFront}
 use Rattle.tasks.specs.declared.fault.Fault.{Fault}
 use Rattle.tasks.specs.declared.fault.Fault.TheVariants.{Usage, BadFrom, BadTo, Memory, Stream, Script, Run}
 use Rattle.workers.specs.declared.fault.RunFault.TheVariants.{GateShut, NotStarted, Memory as RunMemory}

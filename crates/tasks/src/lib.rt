@@ -2,8 +2,8 @@
 //! prints, and its exit status.
 #![tactic(auto)]
 
+pub mod ending;
 pub mod fault;
 pub mod perform;
 pub mod run_script;
 pub mod task;
-pub mod told;

@@ -1,28 +1,24 @@
-use Rattle.std.proofs.Common.{◌≡◌, ◌∙◌, ap, arith, refl, sym}
+use Rattle.std.proofs.Common.{◌≡◌, ◌∙◌, ap, arith, sym}
 use Rattle.streams.specs.declared.stream_fault.StreamFault.TheVariants.{Memory}
 use Rattle.history.specs.declared.header.Header.{Header}
 use Rattle.history.specs.Base.{Base}
-use Rattle.history_text.specs.HistoryText.{history_form}
+use Rattle.line_text.proofs.Faults.{err_is}
 use Rattle.driver.specs.AuditText.{audit_text}
 use Rattle.driver.specs.HistoryReader.{base_held}
 use Rattle.driver.proofs.Audits.{told_so}
-use Rattle.driver.proofs.Ending.{memory_of}
-use Rattle.driver.proofs.EntriesAhead.{entries_fault_passed}
 use Rattle.driver.proofs.Judging.{base_kept}
 use Rattle.driver.proofs.audit_stream.audit_of.Goals as goal
 
 pub returns-in_err-judged-clause-err : goal.returns-in_err-judged-clause-err
 returns-in_err-judged-clause-err g c =
     let passed = c.from_residual-in_err-judged in
-    entries_fault_passed (g.R.Source.left c.args.reader.now) c.in_ok-entries.entries
-    (g.R.Source.left c.open.new.reader) (g.R.Source.left c.judged_of.new.reader) passed.result
-    c.in_err-judged.field-0.0 passed.ensures c.in_ok-entries.ensures.ok c.in_err-judged.ensures.err
+    rw (err_is passed.result c.in_err-judged.field-0.0 passed.ensures)
+    (c.in_err-judged.ensures.err (g.R.Source.left c.args.reader.now) c.in_ok-entries.ensures.ok)
 
 pub returns-in_err-text-clause-err : goal.returns-in_err-text-clause-err
 returns-in_err-text-clause-err g c =
     let passed = c.from_residual-in_err-text in
-    memory_of history_form (g.R.Source.left c.args.reader.now)
-    (g.R.Source.left c.judged_of.new.reader) passed.result Memory passed.ensures refl
+    rw (err_is passed.result Memory passed.ensures)
     (c.in_ok-judged.ensures.memory (g.R.Source.left c.args.reader.now) c.in_ok-entries.ensures.ok)
 
 pub returns-clause-memory : goal.returns-clause-memory

@@ -1,5 +1,5 @@
 use Rattle.std.proofs.Common.{◌≡◌, ◌+◌, ℕ, List, length, refl, ◌∙◌}
-use Rattle.std.specs.Prelude.{Result, Ok, Err, IfOk}
+use Rattle.std.proofs.lemmas.Result.{IfOk-weaker}
 use Rattle.audit.specs.declared.sums.Totals.{Totals}
 use Rattle.audit.specs.declared.verdict.Verdict.TheVariants.{Legal}
 use Rattle.audit.specs.Totals.{totals_of}
@@ -9,10 +9,6 @@ use Rattle.history.specs.Base.{Base, based}
 use Rattle.history.specs.Legal.{calls}
 use Rattle.driver.specs.AuditText.{audit_text, legal_text}
 use Rattle.driver.proofs.audit_text.audit_text.Goals as goal
-
-weaker : {T E : Type 0} {P Q : T → Type 0} (r : Result T E) → ((x : T) → P x → Q x) → IfOk r P → IfOk r Q
-weaker (Ok x) more p = more x p
-weaker (Err e) more p = p
 
 legal_said : (b : Base) (h : List Entry) (object : Object) (folded entries counted : ℕ) (t : Totals) →
     b.header.object ≡ object → folded ≡ b.entries → entries ≡ b.entries + length h →
@@ -27,4 +23,4 @@ returns-in-Legal c = λ b h same base long ended judged.
     let said =
     legal_said b h c.args.object c.args.folded c.args.entries c.args.calls c.in-Legal.totals same base long
     ended is.1 in
-    rw c.in-Legal.is (weaker c.legal_text.result (λ text is. is ∙ said) c.legal_text.ensures)
+    rw c.in-Legal.is (IfOk-weaker c.legal_text.result _ _ (λ text is. is ∙ said) c.legal_text.ensures)

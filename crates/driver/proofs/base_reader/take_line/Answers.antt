@@ -2,7 +2,9 @@ use Rattle.std.proofs.Common.{Err, List, [], ◌∷◌, length, ap, arith}
 use Rattle.std.proofs.lemmas.List.{length-append}
 use Rattle.history_text.specs.declared.base_line.BaseLine.{BaseLine}
 use Rattle.line_text.specs.declared.fault.TextFault.{TextFault}
+use Rattle.line_text.proofs.Faults.{err_is}
 use Rattle.streams.specs.declared.stream_fault.StreamFault.{StreamFault}
+use Rattle.streams.specs.declared.stream_fault.StreamFault.TheVariants.{Text}
 use Rattle.driver.proofs.BaseAhead.{line_failed, line_taken, line_unread, short_kept}
 use Rattle.driver.proofs.base_reader.take_line.Goals as goal
 
@@ -10,19 +12,23 @@ pub returns-in_err-read_line-clause-taken : goal.returns-in_err-read_line-clause
 returns-in_err-read_line-clause-taken g c =
     let passed = c.from_residual in
     let failed = c.in_err-read_line.ensures in
-    line_unread c.args.base.now _ c.args.window.now.bytes _ (g.R.Source.left c.args.reader.now)
-    (g.R.Source.left c.read_line.new.reader) passed.result c.in_err-read_line.field-0.0 passed.ensures
-    failed.kinds (λ e. failed.memory (ap (λ (f : StreamFault). Err f) e))
+    rw (err_is passed.result c.in_err-read_line.field-0.0 passed.ensures)
+    (line_unread c.args.base.now c.args.base.now c.args.window.now.bytes c.args.window.now.bytes
+    (g.R.Source.left c.args.reader.now) (g.R.Source.left c.read_line.new.reader)
+    c.in_err-read_line.field-0.0 failed.kinds
+    (λ e. failed.memory (ap (λ (f : StreamFault). Err f) e)))
 
 pub returns-in_err-left-clause-taken : goal.returns-in_err-left-clause-taken
 returns-in_err-left-clause-taken g c =
     let passed = c.from_residual-in_err-left in
     let is = rw c.bytes.ensures.bytes at c.in_err-left.ensures.line in
     let cut = rw c.bytes.ensures.bytes at c.in_err-left.ensures.cut in
-    line_failed c.args.base.now c.args.window.now.bytes c.read_line.new.self.bytes
+    let fault = c.in_err-left.field-0.0 in
+    rw (err_is passed.result (Text fault) passed.ensures)
+    (line_failed c.args.base.now c.args.window.now.bytes c.read_line.new.self.bytes
     (g.R.Source.left c.args.reader.now) (g.R.Source.left c.read_line.new.reader)
-    c.in_ok-read_line.ensures.ahead _ _ passed.result c.in_err-left.field-0.0 passed.ensures is.1
-    (λ e. c.in_ok-read_line.ensures.whole (cut (ap (λ (f : TextFault). Err f) e)))
+    c.in_ok-read_line.ensures.ahead c.args.base.now c.read_line.new.self.bytes fault is.1
+    (λ e. c.in_ok-read_line.ensures.whole (cut (ap (λ (f : TextFault). Err f) e))))
 
 pub returns-in_default-clause-taken : goal.returns-in_default-clause-taken
 returns-in_default-clause-taken g c =

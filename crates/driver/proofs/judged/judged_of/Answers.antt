@@ -9,7 +9,8 @@ use Rattle.history.specs.Base.{Base, based}
 use Rattle.history.specs.Entries.{or_opening}
 use Rattle.driver.specs.HistoryReader.{base_held}
 use Rattle.driver.specs.Judged.{kept_with}
-use Rattle.driver.proofs.EntriesAhead.{entries_fault_on, entries_memory, entries_memory_at_end, entries_no_further}
+use Rattle.line_text.proofs.Faults.{err_is}
+use Rattle.driver.proofs.EntriesAhead.{entries_memory, entries_memory_at_end, entries_no_further}
 use Rattle.driver.proofs.Judging.{all_judged, judging_on}
 use Rattle.driver.proofs.ReadingAhead.{goes_on}
 use Rattle.history_text.specs.HistoryLines.{head_of}
@@ -79,10 +80,9 @@ pub returns-in_err-entry-clause-err : goal.returns-in_err-entry-clause-err
 returns-in_err-entry-clause-err g c =
     let was = c.loop-kept in
     let passed = c.from_residual in
-    entries_fault_on c.args.entries.now was.entries c.next.new.self (g.R.Source.left c.args.reader.now)
-    (g.R.Source.left was.reader) (g.R.Source.left c.next.new.reader)
-    (reverse was.invariant.judging.entries) passed.result c.in_err-entry.field-0.0 passed.ensures
-    c.in_err-entry.ensures.next was.invariant.judging.read
+    let j = was.invariant.judging in
+    rw (err_is passed.result c.in_err-entry.field-0.0 passed.ensures) (λ text were.
+    c.in_err-entry.ensures.next text (reverse j.entries) (j.read text were))
 
 pub returns-in-Err-clause-err : goal.returns-in-Err-clause-err
 returns-in-Err-clause-err g c =

@@ -1,6 +1,6 @@
 use Rattle.std.proofs.Common.{◌<◌, length, reverse, sym, arith}
 use Rattle.std.proofs.lemmas.Option.{slice_get_within}
-use Rattle.driver.proofs.Kept.{all_kept, one_kept}
+use Rattle.driver.proofs.KeepingEntries.{all_kept, one_kept}
 use Rattle.driver.proofs.replay.keep_entries.Goals as goal
 
 pub loop-entry-preserved : goal.loop-entry-preserved

@@ -3,14 +3,14 @@ use Rattle.std.proofs.lemmas.List.Elements.{All-append}
 use Rattle.frame.specs.Acts.{IsOfSeats}
 use Rattle.history.specs.declared.header.Header.{Header}
 use Rattle.history.specs.EntryWords.{IsSpelt}
+use Rattle.line_text.proofs.Faults.{err_is}
 use Rattle.steps.specs.declared.header.StepsHeader.{StepsHeader}
 use Rattle.steps.specs.StepsText.{steps_form, steps_so_far}
 use Rattle.driver.specs.Logged.{logged}
 use Rattle.driver.specs.StepReader.{progress}
 use Rattle.driver.proofs.Doing.{of_seats, spelt_on}
 use Rattle.driver.proofs.Driven.{answering_none, answering_act, answering_all, one_entry_more}
-use Rattle.driver.proofs.Ending.{fault_on, memory_on}
-use Rattle.driver.proofs.StepsAhead.{fault_passed_on, no_text}
+use Rattle.driver.proofs.StepsAhead.{no_text}
 use Rattle.driver.proofs.ReadingAhead.{goes_on, memory_at_end, memory_behind}
 use Rattle.driver.proofs.replay.replay.Goals as goal
 
@@ -100,10 +100,9 @@ loop-log-init g c = record {
 pub returns-in_err-act-clause-err : goal.returns-in_err-act-clause-err
 returns-in_err-act-clause-err g c =
     let passed = c.from_residual in
-    fault_on steps_form (progress c.args.steps.now (g.R.Source.left c.args.reader.now)) _
-    (progress c.next.new.self (g.R.Source.left c.next.new.reader)) c.loop-log.invariant.answering.acts
-    (g.R.Source.left c.next.new.reader) passed.result c.in_err-act.field-0.0 passed.ensures
-    c.in_err-act.ensures.next c.loop-log.invariant.answering.read
+    let a = c.loop-log.invariant.answering in
+    rw (err_is passed.result c.in_err-act.field-0.0 passed.ensures) (λ text were.
+    c.in_err-act.ensures.next text a.acts (a.read text were))
 
 pub returns-in_err-answer_act-clause-err : goal.returns-in_err-answer_act-clause-err
 returns-in_err-answer_act-clause-err g c =
@@ -111,8 +110,8 @@ returns-in_err-answer_act-clause-err g c =
     let next = rw c.in-Some.is at c.in_ok-act.ensures.next in
     let first = progress c.args.steps.now (g.R.Source.left c.args.reader.now) in
     let passed = c.from_residual-in_err-answer_act in
-    memory_on steps_form first (g.R.Source.left c.next.new.reader) passed.result c.in_err-answer_act.field-0.0
-    passed.ensures c.in_err-answer_act.ensures.err
+    let full = err_is passed.result c.in_err-answer_act.field-0.0 passed.ensures in
+    rw (full, c.in_err-answer_act.ensures.err)
     (memory_behind steps_form first
     (a.acts ++ c.in-Some.act ∷ []) (steps_so_far c.next.new.self.header c.next.new.self.count)
     c.next.new.self.bytes (g.R.Source.left c.next.new.reader) c.in_ok-act.ensures.held
@@ -131,11 +130,10 @@ pub returns-in_err-read_to_fault-clause-err : goal.returns-in_err-read_to_fault-
 returns-in_err-read_to_fault-clause-err g c =
     let a = c.loop-log.invariant.answering in
     let next = rw c.in-Some.is at c.in_ok-act.ensures.next in
-    fault_passed_on steps_form (progress c.args.steps.now (g.R.Source.left c.args.reader.now))
-    (progress c.next.new.self (g.R.Source.left c.next.new.reader)) (a.acts ++ c.in-Some.act ∷ [])
-    (g.R.Source.left c.read_to_fault.new.reader) c.from_residual-in_err-read_to_fault.result
-    c.in_err-read_to_fault.field-0.0 c.from_residual-in_err-read_to_fault.ensures
-    c.in_err-read_to_fault.ensures.err (λ text were. next text a.acts (a.read text were))
+    let passed = c.from_residual-in_err-read_to_fault in
+    rw (err_is passed.result c.in_err-read_to_fault.field-0.0 passed.ensures) (λ text were.
+    c.in_err-read_to_fault.ensures.err text (a.acts ++ c.in-Some.act ∷ [])
+    (next text a.acts (a.read text were)))
 
 pub returns-then-count-gt-MOST_ACTS-clause-err : goal.returns-then-count-gt-MOST_ACTS-clause-err
 returns-then-count-gt-MOST_ACTS-clause-err g c = λ text were.

@@ -2,7 +2,7 @@ use Rattle.std.proofs.Common.{ap, refl}
 use Rattle.std.specs.Io.KnownBytes.{Appends}
 use Rattle.audit.specs.declared.verdict.Verdict.{Verdict}
 use Rattle.history_text.specs.HistoryText.{history_form}
-use Rattle.streams.specs.Whole.{AppendsFront}
+use Rattle.streams.specs.Writing.{AppendsFront}
 use Rattle.driver.specs.AuditStream.{IsToldOf}
 use Rattle.driver.proofs.Audits.{some_told, told_of}
 use Rattle.driver.proofs.Ending.{told_out, told_streams}

@@ -3,8 +3,8 @@ use Rattle.std.specs.List.{AllByRecursion}
 use Rattle.history.specs.declared.base.Sleeper.{Sleeper}
 use Rattle.history_text.specs.declared.base_line.BaseLine.{BaseLine}
 use Rattle.history_text.specs.declared.base_line.BaseLine.TheVariants.{Sleeps}
-use Rattle.history_text.specs.BaseLines.{IsBaseLine}
-use Rattle.history_text.specs.BaseText.{lines_text}
+use Rattle.history_text.specs.BaseLineLimits.{IsBaseLine}
+use Rattle.history_text.specs.Pieces.{lines_text}
 use Rattle.history_text.proofs.BaseWritten.{left_at, line_written}
 use Rattle.history_text.proofs.base_writing.put_asleep.Goals as goal
 

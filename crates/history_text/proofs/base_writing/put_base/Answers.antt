@@ -7,8 +7,9 @@ use Rattle.history.specs.declared.base.LinePlace.{LinePlace}
 use Rattle.history.specs.Base.{Base}
 use Rattle.history_text.specs.declared.base_line.BaseLine.{BaseLine}
 use Rattle.history_text.specs.declared.base_line.BaseLine.TheVariants.{Stands}
-use Rattle.history_text.specs.BaseLines.{IsBaseLine, first_line, seat_lines, sleeper_lines}
-use Rattle.history_text.specs.BaseText.{lines_text}
+use Rattle.history_text.specs.BaseLineLimits.{IsBaseLine}
+use Rattle.history_text.specs.BaseLines.{first_line, seat_lines, sleeper_lines}
+use Rattle.history_text.specs.Pieces.{lines_text}
 use Rattle.history_text.proofs.BaseWritten.{each_back, each_front, four_written}
 use Rattle.history_text.proofs.base_writing.put_base.Goals as goal
 

@@ -1,7 +1,8 @@
 use Rattle.std.proofs.Common.{◌≡◌, ◌++◌, ◌≤◌, length, drop}
 use Rattle.std.specs.List.{AllByRecursion}
-use Rattle.history_text.specs.BaseLines.{IsBaseLine, seat_lines}
-use Rattle.history_text.specs.BaseText.{lines_text}
+use Rattle.history_text.specs.BaseLineLimits.{IsBaseLine}
+use Rattle.history_text.specs.BaseLines.{seat_lines}
+use Rattle.history_text.specs.Pieces.{lines_text}
 use Rattle.history_text.proofs.base_writing.put_seats.Given as goal
 
 abbrev pub invariant-loop-seat : goal.invariant-loop-seat

@@ -2,8 +2,9 @@ use Rattle.std.proofs.Common.{◌+◌, ◌++◌, drop, map, subst, ap, sym, ◌�
 use Rattle.std.specs.List.{AllByRecursion}
 use Rattle.history_text.specs.declared.base_line.BaseLine.{BaseLine}
 use Rattle.history_text.specs.declared.base_line.BaseLine.TheVariants.{Sleeps}
-use Rattle.history_text.specs.BaseLines.{IsBaseLine, sleeper_lines}
-use Rattle.history_text.specs.BaseText.{lines_text}
+use Rattle.history_text.specs.BaseLineLimits.{IsBaseLine}
+use Rattle.history_text.specs.BaseLines.{sleeper_lines}
+use Rattle.history_text.specs.Pieces.{lines_text}
 use Rattle.history_text.proofs.BaseWritten.{each_back, each_front, lines_written, lists_left}
 use Rattle.history_text.proofs.base_writing.put_sleepers.Goals as goal
 

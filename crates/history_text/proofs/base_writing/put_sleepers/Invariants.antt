@@ -1,7 +1,8 @@
 use Rattle.std.proofs.Common.{◌≡◌, ◌++◌, ◌≤◌, length, drop, map}
 use Rattle.std.specs.List.{AllByRecursion}
-use Rattle.history_text.specs.BaseLines.{IsBaseLine, sleeper_lines}
-use Rattle.history_text.specs.BaseText.{lines_text}
+use Rattle.history_text.specs.BaseLineLimits.{IsBaseLine}
+use Rattle.history_text.specs.BaseLines.{sleeper_lines}
+use Rattle.history_text.specs.Pieces.{lines_text}
 use Rattle.history_text.proofs.base_writing.put_sleepers.Given as goal
 
 abbrev pub invariant-loop-condition : goal.invariant-loop-condition

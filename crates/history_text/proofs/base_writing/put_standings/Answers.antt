@@ -5,8 +5,8 @@ use Rattle.history.specs.declared.entry.End.TheVariants as end
 use Rattle.history.specs.declared.entry.Mode.TheVariants.{X}
 use Rattle.history_text.specs.declared.base_line.BaseLine.{BaseLine}
 use Rattle.history_text.specs.declared.base_line.BaseLine.TheVariants.{Stands}
-use Rattle.history_text.specs.BaseLines.{IsBaseLine}
-use Rattle.history_text.specs.BaseText.{lines_text}
+use Rattle.history_text.specs.BaseLineLimits.{IsBaseLine}
+use Rattle.history_text.specs.Pieces.{lines_text}
 use Rattle.history_text.proofs.BaseWritten.{left_at, line_written}
 use Rattle.history_text.proofs.base_writing.put_standings.Goals as goal
 

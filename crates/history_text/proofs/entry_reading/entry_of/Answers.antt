@@ -1,16 +1,24 @@
 use Rattle.std.proofs.Common.{arith, rules}
-use Rattle.history_text.proofs.EntryLemmas.{unread, not_all_read, is_entry_line}
+use Rattle.history.proofs.Readers.{unread, not_all_read}
+use Rattle.history_text.specs.EntryLines.{entry_line}
+use Rattle.history_text.specs.EntryReading.{line_at}
+use Rattle.history_text.proofs.EntryLemmas.{whole_line, is_entry_line}
 use Rattle.history_text.proofs.entry_reading.entry_of.Goals as goal
 
 pub returns-in_err-entry-clause-none : goal.returns-in_err-entry-clause-none
 returns-in_err-entry-clause-none c =
-    rw c.from_residual.ensures (unread c.args.header.now c.args.number c.args.line.now (omega arith)
-    c.requires (rw c.of-words.ensures at c.in_err-entry.ensures.is))
+    let h = c.args.header.now in
+    let k = c.args.number in
+    rw c.from_residual.ensures (λ e fits. unread (line_at k h.seats) c.args.line.now (entry_line k e) e
+    (whole_line h k e (omega arith) c.requires fits) (rw c.of-words.ensures at c.in_err-entry.ensures.is))
 
 pub returns-in-Some-clause-none : goal.returns-in-Some-clause-none
-returns-in-Some-clause-none c =
-    not_all_read c.args.header.now c.args.number c.args.line.now c.in_ok-entry.entry _ _ (omega arith)
-    c.requires (rw (c.of-words.ensures, c.in-Some.ensures) at c.in_ok-entry.ensures.is)
+returns-in-Some-clause-none c = λ e fits.
+    let h = c.args.header.now in
+    let k = c.args.number in
+    not_all_read (line_at k h.seats) c.args.line.now (entry_line k e) e c.in_ok-entry.entry _ _
+    (whole_line h k e (omega arith) c.requires fits) (rw (c.of-words.ensures, c.in-Some.ensures) at
+    c.in_ok-entry.ensures.is)
 
 pub returns-in-None-clause-found : goal.returns-in-None-clause-found
 returns-in-None-clause-found c =

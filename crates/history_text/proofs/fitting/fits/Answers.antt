@@ -1,7 +1,7 @@
 use Rattle.std.proofs.Common.{◌≡◌, ℕ, ◌+◌, ◌<◌, List, Option, Some, reverse, get_or, refl, subst, ◌∙◌, arith, below_more, rules}
 use Rattle.std.specs.List.{slice_get}
 use Rattle.std.proofs.lemmas.List.{length-reverse}
-use Rattle.std.proofs.lemmas.Option.{slice_get-get_or}
+use Rattle.std.proofs.lemmas.Option.{same_Some, slice_get-get_or}
 use Rattle.history.specs.declared.entry.Entry.{Entry}
 use Rattle.history.specs.declared.header.Header.{Header}
 use Rattle.history.specs.Base.{Base}
@@ -10,16 +10,13 @@ use Rattle.history_text.specs.EntryLines.{HasLine}
 use Rattle.history_text.specs.HistoryText.{HasBaseText}
 use Rattle.history_text.proofs.fitting.fits.Goals as goal
 
-some_is : (x y : Entry) → Some x ≡ Some y → x ≡ y
-some_is x y e = cc
-
 one_more : (h : Header) (xs : List Entry) (n : ℕ) (x : Entry) →
     ((k : ℕ) (e : Entry) → k < n → slice_get xs k ≡ Some e → HasLine h e) → Some x ≡ slice_get xs n →
     HasLine h x
     → (k : ℕ) (e : Entry) → k < n + 1 → slice_get xs k ≡ Some e → HasLine h e
 one_more h xs n x before at fits k e lt q =
     let P : ℕ → Type 0 = λ k. (e : Entry) → slice_get xs k ≡ Some e → HasLine h e in
-    below_more P n (λ k lt e q. before k e lt q) (λ e q. subst (HasLine h) (some_is x e (at ∙ q)) fits) k lt
+    below_more P n (λ k lt e q. before k e lt q) (λ e q. subst (HasLine h) (same_Some x e (at ∙ q)) fits) k lt
     e q
 
 pub loop-number-preserved : goal.loop-number-preserved

@@ -1,6 +1,6 @@
 use Rattle.std.proofs.Common.{◌≡◌, ◌+◌, ◌≤◌, List, [], length, reverse, ℕ}
 use Rattle.history.specs.Entries.{or_opening}
-use Rattle.history.specs.GoodBase.{most_folded}
+use Rattle.history.specs.declared.limits.TheConstants.{MOST_FOLDED}
 use Rattle.history.specs.Pages.{whole_pages}
 use Rattle.history_text.specs.NextLine.{AreEntriesRead}
 use Rattle.history_text.proofs.reading.read_entries.Given as goal
@@ -19,7 +19,7 @@ invariant-loop-history l = record {
   folded : l.place.folded ≡ l.fn.place.folded;
   count : l.place.count ≡ length l.history.entries;
   few : l.place.count ≤ l.head.header.cap;
-  calls : l.place.calls ≤ most_folded + length l.history.entries;
+  calls : l.place.calls ≤ MOST_FOLDED + length l.history.entries;
 }
 
 abbrev pub decreases-loop-history : goal.decreases-loop-history

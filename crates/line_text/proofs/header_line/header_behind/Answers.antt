@@ -2,7 +2,7 @@ use Rattle.std.proofs.Common.{◌≡◌, ◌≢◌, List, ℕ, ◌++◌, Option,
 use Rattle.history.specs.declared.header.Header.{Header}
 use Rattle.history.specs.Header.{IsInRange}
 use Rattle.history.specs.Spelling.{part_of}
-use Rattle.line_text.proofs.WholeLines.{same_behind}
+use Rattle.line_text.proofs.Lists.{same_behind}
 use Rattle.line_text.proofs.header_line.header_behind.Goals as goal
 
 none_behind : (r : Option Header) (name rest line : List ℕ) → line ≡ name ++ rest →

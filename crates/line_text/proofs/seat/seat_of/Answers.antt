@@ -1,5 +1,6 @@
-use Rattle.std.proofs.Common.{◌≡◌, ◌-◌, ◌+◌, [], ◌∷◌, ◌++◌, ap, sym, ◌∙◌, arith, drop, List, ℕ, None, Some}
+use Rattle.std.proofs.Common.{◌-◌, ◌+◌, [], ◌∷◌, ◌++◌, ap, sym, ◌∙◌, arith, drop, List, ℕ}
 use Rattle.std.proofs.lemmas.Fmt.{decimal_digit, decimal_nonempty}
+use Rattle.std.proofs.lemmas.Option.{none-some}
 use Rattle.history.proofs.Numbers.{digits_alone}
 use Rattle.history.proofs.Plain.{decimal_plain}
 use Rattle.line_text.proofs.Seats.{first_space, one_before, two_before, word_before, word_length}
@@ -34,12 +35,9 @@ returns-in_err-number_of_two-clause-none c =
     (sym c.in-Some-two_bytes.ensures.seat ∙ is) in
     c.in_err-number_of_two.ensures.none seat lt spelt)
 
-none_is_none : (n : ℕ) → None ≡ Some n → ⊥
-none_is_none n e = cc
-
 pub returns-in_err-at-clause-none : goal.returns-in_err-at-clause-none
 returns-in_err-at-clause-none c = rw c.from_residual-in_err-at.ensures (λ seat rest lt is.
-    none_is_none _ (c.in_err-at.ensures ∙ word_length c.args.text.now _ rest (decimal_plain seat lt) is))
+    none-some _ (c.in_err-at.ensures ∙ word_length c.args.text.now _ rest (decimal_plain seat lt) is))
 
 pub returns-in_err-number_of-clause-none : goal.returns-in_err-number_of-clause-none
 returns-in_err-number_of-clause-none c = rw c.from_residual-in_err-number_of.ensures (λ seat rest lt is.

@@ -4,7 +4,8 @@ use Rattle.history.specs.declared.header.Header.{Header}
 use Rattle.serde_json.specs.Data.{string}
 use Rattle.serde_json.specs.View.{view}
 use Rattle.script.specs.Name.{IsName}
-use Rattle.script.proofs.ObjectLemmas.{two_items, two_texts, same_header}
+use Rattle.line_text.proofs.WholeLines.{same_part}
+use Rattle.script.proofs.ObjectLemmas.{two_items, two_texts}
 use Rattle.script.proofs.objects.named_header.Goals as goal
 use Rattle.script.proofs.objects.named_header.Goals.{else-is_name-via-then-is_name+else-from-threads, else-is_name-via-else-is_name}
 
@@ -25,7 +26,7 @@ returns-else-is_name-clause-none c = λ o good is.
     c.in_ok-text_of.field-0.now o two has.is is c.in_ok-name.ensures.found c.in_ok-text_of.ensures.found in
     let read = c.in_ok-header.ensures.found in
     let header : c.in_ok-header.header ≡ o.1 =
-    same_header c.in_ok-header.header o.1 read.0 good.in_range
+    same_part c.in_ok-header.header o.1 read.0 good.in_range
     (sym read.1 ∙ c.as_bytes.ensures.value ∙ texts.1) in elim c.else-is_name.branch [
       | else-is_name-via-then-is_name+else-from-threads w ↦
           w.if-from-threads.false (w.from.ensures ∙ ap (λ (h : Header). h.seats) header ∙ good.seats)

@@ -15,8 +15,8 @@ workers_of-requires-clause-names c =
     c.in_ok-objects.objects.entries)
     c.in_ok-objects.ensures.ok
 
-pub new-requires : goal.new-requires
-new-requires c =
+pub of_good-requires : goal.of_good-requires
+of_good-requires c =
     let threads = c.in-Some.top.threads.now in
     let objects = named c.in_ok-objects.objects.entries in
     let workers = c.in_ok-workers.workers.items in

@@ -2,7 +2,7 @@ use Rattle.std.proofs.Common.{◌≡◌, ℕ, ◌<◌, ◌≤◌, ◌^◌, List,
 use Rattle.std.specs.Prelude.{IsTrue, nat_eq, codes}
 use Rattle.std.proofs.lemmas.Bool.{eqb-true, eq-eqb}
 use Rattle.std.proofs.lemmas.Fmt.{decimal_injective}
-use Rattle.line_text.proofs.WholeLines.{same_behind}
+use Rattle.line_text.proofs.Lists.{same_behind}
 use Rattle.steps.specs.StepLines.{end_line}
 use Rattle.steps.proofs.end_line.is_end.Goals as goal
 
@@ -23,4 +23,4 @@ counted line number found count is spelt fits le = (
 pub returns-in-Some-number_of : goal.returns-in-Some-number_of
 returns-in-Some-number_of c =
     counted c.args.line.now c.in-Some.number.now c.in-Some-number_of.found c.args.count c.in-Some.ensures
-    c.in-Some-number_of.ensures.found (omega arith) c.if-count-gt-MOST_STEPS.false
+    c.in-Some-number_of.ensures.found (omega arith) c.if-count-gt-MOST_ACTS.false

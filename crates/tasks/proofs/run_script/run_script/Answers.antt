@@ -1,7 +1,7 @@
 use Rattle.std.proofs.Common.{rules, ◌≡◌, Err, subst, sym}
 use Rattle.run_text.proofs.Judged.{histories_legal}
 use Rattle.std.specs.Io.KnownBytes.{Appends}
-use Rattle.streams.specs.Whole.{AppendsFront}
+use Rattle.streams.specs.Writing.{AppendsFront}
 use Rattle.tasks.specs.RunScript.{Runs}
 use Rattle.tasks.specs.declared.fault.Fault.TheVariants.{Run}
 use Rattle.tasks.proofs.Runs.{has_run, not_run}

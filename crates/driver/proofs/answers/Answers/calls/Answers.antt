@@ -4,9 +4,8 @@ use Rattle.history.specs.Base.{Base}
 use Rattle.history.specs.Entries.{IsBasedWell, ended_calls, or_opening, start_on}
 use Rattle.history.specs.GoodBase.{IsGood}
 use Rattle.history.proofs.AllCalls.{calls_told}
-use Rattle.history.proofs.Lists.{calls-ended, ended_append}
+use Rattle.history.proofs.Lists.{calls-ended, ended_append, ended_calls-reverse}
 use Rattle.driver.specs.Answers.{AllAnswers, all_of}
-use Rattle.history_text.proofs.Pieces.{ended_calls-reverse}
 use Rattle.driver.proofs.answers.Answers.calls.Goals as goal
 
 based_well : (k : Header) (o : Option Base) → (or_opening k o).header ≡ k → IsGood (or_opening k o) →

@@ -5,7 +5,7 @@ use Rattle.history.specs.Text.{ended}
 use Rattle.history_text.specs.EntryLines.{counts_line}
 use Rattle.driver.specs.Answers.{AllAnswers, all_of, remarks_in}
 use Rattle.driver.specs.Remarks.{told_lines}
-use Rattle.streams.specs.Whole.{AppendsFront}
+use Rattle.streams.specs.Writing.{AppendsFront}
 use Rattle.driver.proofs.Gathering.{front_longer, front_more, gathered_more, if_failed, where_failed, where_written, written_all, written_front}
 use Rattle.driver.proofs.answers.Answers.put_all.Goals as goal
 

@@ -1,10 +1,10 @@
-use Rattle.std.proofs.Common.{◌+◌, Err, arith, refl}
+use Rattle.std.proofs.Common.{◌+◌, arith, refl}
+use Rattle.std.proofs.KnownBytes.{Keeps-refl}
 use Rattle.line_text.specs.declared.fault.TextFault.TheVariants.{BadLine}
 use Rattle.history_text.proofs.ShortEntries.{ended_short}
-use Rattle.streams.specs.declared.stream_fault.StreamFault.TheVariants.{Text}
 use Rattle.driver.specs.contracts.history_reader.HistoryReader.{the_view}
 use Rattle.driver.proofs.EntriesAhead.{entries_ended, entry_failed, entry_here, few_calls, few_entries}
-use Rattle.driver.proofs.ReadingAhead.{keeps_same, keeps_stays, stands_still}
+use Rattle.driver.proofs.ReadingAhead.{keeps_stays, stands_still}
 use Rattle.driver.proofs.history_reader.HistoryReader.next.Goals as goal
 
 pub pass-requires : goal.pass-requires
@@ -42,7 +42,7 @@ returns-in-Ok-None-clause-next g c =
     let is = rw (c.in-Ok-None.field-0-is, c.bytes.ensures.bytes) at c.in-Ok-None.ensures.line in
     rw (← c.self.view_is)
     (entries_ended (the_view c.self.inside) _ held.window.bytes c.end_of.new.window.bytes left left
-    (g.R.Source.left c.end_of.new.reader) c.end_of.result c.self.invariant.5.0 (keeps_same _) is
+    (g.R.Source.left c.end_of.new.reader) c.end_of.result c.self.invariant.5.0 (Keeps-refl _) is
     c.end_of.ensures.behind c.end_of.ensures.stays)
 
 pub returns-in-Ok-None-clause-stands : goal.returns-in-Ok-None-clause-stands
@@ -57,11 +57,11 @@ returns-in-Err-BadLine-clause-next g c =
     let left = g.R.Source.left c.args.reader.now in
     let is = rw (c.in-Err-BadLine.field-0-is, c.bytes.ensures.bytes) at c.in-Err-BadLine.ensures.line in
     rw (← c.self.view_is) (entry_failed (the_view held) (the_view held) held.window.bytes left left
-    (Err (Text (BadLine c.in-Err-BadLine.line))) (BadLine c.in-Err-BadLine.line) (refl, refl)
-    c.self.invariant.5.0 (keeps_stays _ _ left left (keeps_same _)) is (λ e. cc))
+    (BadLine c.in-Err-BadLine.line) c.self.invariant.5.0 (keeps_stays _ _ left left (Keeps-refl _)) is
+    (λ e. cc))
 
 pub returns-in-Err-BadLine-clause-stands : goal.returns-in-Err-BadLine-clause-stands
 returns-in-Err-BadLine-clause-stands g c =
     let held = c.self.inside in
     let left = g.R.Source.left c.args.reader.now in
-    rw (← c.self.view_is) (keeps_stays held.window.bytes held.window.bytes left left (keeps_same _))
+    rw (← c.self.view_is) (keeps_stays held.window.bytes held.window.bytes left left (Keeps-refl _))

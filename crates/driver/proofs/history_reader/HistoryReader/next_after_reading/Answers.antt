@@ -2,7 +2,9 @@ use Rattle.std.proofs.Common.{◌+◌, Err, ap, arith, refl}
 use Rattle.history_text.specs.EntryLines.{counts_line}
 use Rattle.history_text.proofs.ShortEntries.{counts_short, ended_short}
 use Rattle.line_text.specs.declared.fault.TextFault.{TextFault}
+use Rattle.line_text.proofs.Faults.{err_is}
 use Rattle.streams.specs.declared.stream_fault.StreamFault.{StreamFault}
+use Rattle.streams.specs.declared.stream_fault.StreamFault.TheVariants.{Text}
 use Rattle.driver.specs.contracts.history_reader.HistoryReader.{the_view}
 use Rattle.driver.proofs.EntriesAhead.{entries_ended, entries_kept, entries_read_failed, entry_failed, entry_here, entry_keeps, few_calls, few_entries}
 use Rattle.driver.proofs.ReadingAhead.{end_kept, stands_behind, stands_failed}
@@ -12,9 +14,11 @@ pub returns-in_err-read_line-clause-next : goal.returns-in_err-read_line-clause-
 returns-in_err-read_line-clause-next g c =
     let passed = c.from_residual in
     let failed = c.in_err-read_line.ensures in
-    rw (← c.self.view_is) (entries_read_failed (the_view c.self.inside) _ (g.R.Source.left c.args.reader.now)
-    (g.R.Source.left c.read_line.new.reader) passed.result c.in_err-read_line.field-0.0 passed.ensures
-    failed.kinds (λ e. failed.memory (ap (λ (f : StreamFault). Err f) e)))
+    let held = the_view c.self.inside in
+    rw (err_is passed.result c.in_err-read_line.field-0.0 passed.ensures, ← c.self.view_is)
+    (entries_read_failed held held (g.R.Source.left c.args.reader.now)
+    (g.R.Source.left c.read_line.new.reader) c.in_err-read_line.field-0.0 failed.kinds
+    (λ e. failed.memory (ap (λ (f : StreamFault). Err f) e)))
 
 pub returns-in_err-read_line-clause-stands : goal.returns-in_err-read_line-clause-stands
 returns-in_err-read_line-clause-stands g c =
@@ -26,10 +30,11 @@ returns-in_err-entry-clause-next g c =
     let is = rw c.bytes.ensures.bytes at c.in_err-entry.ensures.line in
     let cut = rw c.bytes.ensures.bytes at c.in_err-entry.ensures.cut in
     let passed = c.from_residual-in_err-entry in
-    rw (← c.self.view_is)
-    (entry_failed (the_view c.self.inside) _ c.read_line.new.self.bytes (g.R.Source.left c.args.reader.now)
-    (g.R.Source.left c.read_line.new.reader) passed.result c.in_err-entry.field-0.0 passed.ensures
-    c.self.invariant.5.0 c.in_ok-read_line.ensures.ahead is
+    let fault = c.in_err-entry.field-0.0 in
+    let held = the_view c.self.inside in
+    rw (err_is passed.result (Text fault) passed.ensures, ← c.self.view_is)
+    (entry_failed held held c.read_line.new.self.bytes (g.R.Source.left c.args.reader.now)
+    (g.R.Source.left c.read_line.new.reader) fault c.self.invariant.5.0 c.in_ok-read_line.ensures.ahead is
     (λ e. c.in_ok-read_line.ensures.whole (cut (ap (λ (f : TextFault). Err f) e))))
 
 pub returns-in_err-entry-clause-stands : goal.returns-in_err-entry-clause-stands

@@ -2,27 +2,31 @@ use Rattle.std.proofs.Common.{◌∙◌, Err, ℕ, List, ap, arith, refl, subst}
 use Rattle.history.specs.Entries.{or_opening}
 use Rattle.line_text.specs.declared.fault.TextFault.{TextFault}
 use Rattle.line_text.specs.Reading.{IsReading}
+use Rattle.line_text.proofs.Faults.{err_is}
 use Rattle.history_text.specs.HistoryText.{history_form}
 use Rattle.history_text.proofs.HistoryLawful.{lawful}
 use Rattle.history_text.proofs.ShortEntries.{short}
 use Rattle.streams.specs.declared.stream_fault.StreamFault.{StreamFault}
+use Rattle.streams.specs.declared.stream_fault.StreamFault.TheVariants.{Memory, Text}
 use Rattle.streams.specs.Window.{Seen}
-use Rattle.driver.proofs.BaseAhead.{beginning_failed, beginning_read, few_behind, head_ahead}
-use Rattle.driver.proofs.ReadingAhead.{open_failed, open_refused, open_unread}
+use Rattle.driver.proofs.BaseAhead.{beginning_read, few_behind, head_ahead}
+use Rattle.driver.proofs.ReadingAhead.{header_fault, reading_fault, unread_yet, whole_left}
 use Rattle.driver.proofs.history_reader.HistoryReader.open.Goals as goal
 
 pub returns-in_err-window-clause-err : goal.returns-in_err-window-clause-err
 returns-in_err-window-clause-err g c =
-    open_refused history_form (g.R.Source.left c.args.reader.now) c.from_residual.result
-    c.from_residual.ensures
+    rw (err_is c.from_residual.result Memory c.from_residual.ensures)
+    (unread_yet history_form (g.R.Source.left c.args.reader.now))
 
 pub returns-in_err-read_line-clause-err : goal.returns-in_err-read_line-clause-err
 returns-in_err-read_line-clause-err g c =
     let passed = c.from_residual-in_err-read_line in
     let failed = c.in_err-read_line.ensures in
-    open_unread history_form (g.R.Source.left c.args.reader.now) (g.R.Source.left c.read_line.new.reader)
-    passed.result c.in_err-read_line.field-0.0 passed.ensures failed.kinds
-    (λ e. failed.memory (ap (λ (f : StreamFault). Err f) e))
+    let text = g.R.Source.left c.args.reader.now in
+    rw (err_is passed.result c.in_err-read_line.field-0.0 passed.ensures)
+    (reading_fault history_form text text (g.R.Source.left c.read_line.new.reader)
+    c.in_err-read_line.field-0.0 failed.kinds
+    (λ e. failed.memory (ap (λ (f : StreamFault). Err f) e)) (whole_left text))
 
 pub returns-in_err-head-clause-err : goal.returns-in_err-head-clause-err
 returns-in_err-head-clause-err g c =
@@ -31,10 +35,11 @@ returns-in_err-head-clause-err g c =
     let is = subst (λ (t : List ℕ). IsReading history_form t (Err fault)) c.bytes.ensures.bytes
     c.in_err-head.ensures.err in
     let cut = rw c.bytes.ensures.bytes at c.in_err-head.ensures.cut in
-    open_failed history_form (g.R.Source.left c.args.reader.now) c.read_line.new.self.bytes
-    (g.R.Source.left c.read_line.new.reader) passed.result fault passed.ensures lawful short is
+    rw (err_is passed.result (Text fault) passed.ensures)
+    (header_fault history_form (g.R.Source.left c.args.reader.now) c.read_line.new.self.bytes
+    (g.R.Source.left c.read_line.new.reader) fault lawful short is
     (λ e. c.in_ok-read_line.ensures.whole (cut (ap (λ (f : TextFault). Err f) e)))
-    (rw c.in_ok-window.ensures at c.in_ok-read_line.ensures.ahead)
+    (rw c.in_ok-window.ensures at c.in_ok-read_line.ensures.ahead))
 
 pub returns-in_err-base-clause-err : goal.returns-in_err-base-clause-err
 returns-in_err-base-clause-err g c =
@@ -44,11 +49,9 @@ returns-in_err-base-clause-err g c =
     let h = c.in_ok-head.head in
     let begun = rw c.bytes.ensures.bytes at c.in_ok-head.ensures.ok in
     let ahead = rw c.in_ok-window.ensures at c.in_ok-read_line.ensures.ahead in
-    beginning_failed text h c.keep_last.new.self.bytes c.base_of.new.window.bytes left
-    (g.R.Source.left c.base_of.new.reader) passed.result c.in_err-base.field-0.0 passed.ensures
-    (rw c.keep_last.ensures.bytes
-    (head_ahead text left h c.read_line.new.self.bytes c.in_ok-head.after.now begun ahead))
-    c.in_err-base.ensures.read
+    rw (err_is passed.result c.in_err-base.field-0.0 passed.ensures)
+    (c.in_err-base.ensures.read text (rw c.keep_last.ensures.bytes
+    (head_ahead text left h c.read_line.new.self.bytes c.in_ok-head.after.now begun ahead)))
 
 pub invariant_of-result : goal.invariant_of-result
 invariant_of-result g c =

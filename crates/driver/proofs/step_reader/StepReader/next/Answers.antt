@@ -1,11 +1,12 @@
-use Rattle.std.proofs.Common.{Err, arith, refl}
+use Rattle.std.proofs.Common.{arith, refl}
+use Rattle.std.proofs.KnownBytes.{Keeps-refl}
 use Rattle.line_text.specs.declared.fault.TextFault.TheVariants.{BadLine}
+use Rattle.line_text.proofs.Faults.{err_is}
 use Rattle.steps.proofs.ShortSteps.{ended_short, short}
 use Rattle.steps.proofs.StepsLawful.{lawful}
 use Rattle.steps.specs.StepsText.{steps_form, steps_so_far}
-use Rattle.streams.specs.declared.stream_fault.StreamFault.TheVariants.{Text}
 use Rattle.driver.specs.TextReader.{reader_at}
-use Rattle.driver.proofs.ReadingAhead.{ended_here, item_ahead, keeps_same, keeps_stays, line_within, next_failed, not_counted, stands_here, stands_still}
+use Rattle.driver.proofs.ReadingAhead.{ended_here, fault_ahead, item_ahead, keeps_stays, line_within, not_counted, stands_here, stands_still}
 use Rattle.driver.proofs.StepsAhead.{next_act}
 use Rattle.driver.proofs.step_reader.StepReader.next.Goals as goal
 
@@ -37,10 +38,12 @@ pub returns-in_err-pass-in-Ok-Some-clause-next : goal.returns-in_err-pass-in-Ok-
 returns-in_err-pass-in-Ok-Some-clause-next g c =
     let held = c.self.inside in
     let passed = c.from_residual in
-    rw (← c.self.view_is) (not_counted steps_form (steps_so_far held.header held.count) held.window.bytes
-    held.window.bytes (g.R.Source.left c.args.reader.now) (g.R.Source.left c.args.reader.now) passed.result _
-    c.in_err-pass-in-Ok-Some.field-0.0 passed.ensures c.in_err-pass-in-Ok-Some.ensures.err c.self.invariant.3
-    (keeps_same _))
+    let full = err_is passed.result c.in_err-pass-in-Ok-Some.field-0.0 passed.ensures in
+    let so_far = steps_so_far held.header held.count in
+    let left = g.R.Source.left c.args.reader.now in
+    rw (full, c.in_err-pass-in-Ok-Some.ensures.err, ← c.self.view_is)
+    (not_counted steps_form so_far held.window.bytes held.window.bytes left left
+    (reader_at so_far held.window.bytes left) c.self.invariant.3 (Keeps-refl _))
 
 pub returns-in_err-pass-in-Ok-Some-clause-stands : goal.returns-in_err-pass-in-Ok-Some-clause-stands
 returns-in_err-pass-in-Ok-Some-clause-stands g c =
@@ -74,12 +77,11 @@ returns-in-Err-BadLine-clause-next g c =
     let so_far = steps_so_far held.header held.count in
     let left = g.R.Source.left c.args.reader.now in
     let is = rw (c.in-Err-BadLine.field-0-is, c.bytes.ensures.bytes) at c.in-Err-BadLine.ensures.line in
-    rw (← c.self.view_is) (next_failed steps_form so_far held.window.bytes held.window.bytes left left
-    (Err (Text (BadLine c.in-Err-BadLine.line))) (reader_at so_far held.window.bytes left)
-    (BadLine c.in-Err-BadLine.line) (refl, refl) lawful short (keeps_stays _ _ left left (keeps_same _)) is
-    (λ e. cc))
+    rw (← c.self.view_is) (λ text steps were. fault_ahead steps_form text so_far held.window.bytes
+    held.window.bytes left left steps (BadLine c.in-Err-BadLine.line) lawful short
+    (keeps_stays _ _ left left (Keeps-refl _)) is (λ e. cc) were)
 
 pub returns-in-Err-BadLine-clause-stands : goal.returns-in-Err-BadLine-clause-stands
 returns-in-Err-BadLine-clause-stands g c =
     let left = g.R.Source.left c.args.reader.now in
-    keeps_stays c.args.self.now.bytes c.args.self.now.bytes left left (keeps_same _)
+    keeps_stays c.args.self.now.bytes c.args.self.now.bytes left left (Keeps-refl _)

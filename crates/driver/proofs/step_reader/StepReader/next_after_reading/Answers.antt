@@ -2,10 +2,14 @@ use Rattle.std.proofs.Common.{◌≤◌, Err, ap, arith, length, refl}
 use Rattle.steps.specs.StepLines.{end_line}
 use Rattle.line_text.specs.declared.fault.TextFault.{TextFault}
 use Rattle.streams.specs.declared.stream_fault.StreamFault.{StreamFault}
+use Rattle.streams.specs.declared.stream_fault.StreamFault.TheVariants.{Text}
+use Rattle.streams.specs.Window.{room}
+use Rattle.line_text.proofs.Faults.{err_is}
 use Rattle.steps.specs.StepsText.{steps_form, steps_so_far}
 use Rattle.steps.proofs.ShortSteps.{ended_short, end_short, short}
 use Rattle.steps.proofs.StepsLawful.{lawful}
-use Rattle.driver.proofs.ReadingAhead.{end_kept, ended_here, item_ahead, item_kept, kept, line_within, next_failed, next_kept, not_counted, read_failed, stands_behind, stands_failed}
+use Rattle.driver.specs.TextReader.{reader_at}
+use Rattle.driver.proofs.ReadingAhead.{end_kept, ended_here, fault_ahead, item_ahead, item_kept, kept, line_within, next_kept, not_counted, read_failed, stands_behind, stands_failed}
 use Rattle.driver.proofs.StepsAhead.{next_act, next_short}
 use Rattle.driver.proofs.step_reader.StepReader.next_after_reading.Goals as goal
 
@@ -14,10 +18,12 @@ returns-in_err-read_line-clause-next g c =
     let held = c.self.inside in
     let passed = c.from_residual in
     let failed = c.in_err-read_line.ensures in
-    rw (← c.self.view_is) (read_failed steps_form (steps_so_far held.header held.count) held.window.bytes
-    (g.R.Source.left c.args.reader.now) (g.R.Source.left c.read_line.new.reader) passed.result _
-    c.in_err-read_line.field-0.0 passed.ensures failed.kinds
-    (λ e. failed.memory (ap (λ (f : StreamFault). Err f) e)))
+    let so_far = steps_so_far held.header held.count in
+    let left = g.R.Source.left c.args.reader.now in
+    rw (err_is passed.result c.in_err-read_line.field-0.0 passed.ensures, ← c.self.view_is)
+    (read_failed steps_form so_far held.window.bytes left (g.R.Source.left c.read_line.new.reader)
+    (reader_at so_far held.window.bytes left)
+    c.in_err-read_line.field-0.0 failed.kinds (λ e. failed.memory (ap (λ (f : StreamFault). Err f) e)))
 
 pub returns-in_err-read_line-clause-stands : goal.returns-in_err-read_line-clause-stands
 returns-in_err-read_line-clause-stands g c =
@@ -30,10 +36,12 @@ returns-in_err-act-clause-next g c =
     let is = rw c.bytes.ensures.bytes at c.in_err-act.ensures.line in
     let cut = rw c.bytes.ensures.bytes at c.in_err-act.ensures.cut in
     let passed = c.from_residual-in_err-act in
-    rw (← c.self.view_is) (next_failed steps_form (steps_so_far held.header held.count) held.window.bytes
+    let fault = c.in_err-act.field-0.0 in
+    rw (err_is passed.result (Text fault) passed.ensures, ← c.self.view_is) (λ text steps were.
+    fault_ahead steps_form text (steps_so_far held.header held.count) held.window.bytes
     c.read_line.new.self.bytes (g.R.Source.left c.args.reader.now) (g.R.Source.left c.read_line.new.reader)
-    passed.result _ c.in_err-act.field-0.0 passed.ensures lawful short c.in_ok-read_line.ensures.ahead is
-    (λ e. c.in_ok-read_line.ensures.whole (cut (ap (λ (f : TextFault). Err f) e))))
+    steps fault lawful short c.in_ok-read_line.ensures.ahead is
+    (λ e. c.in_ok-read_line.ensures.whole (cut (ap (λ (f : TextFault). Err f) e))) were)
 
 pub returns-in_err-act-clause-stands : goal.returns-in_err-act-clause-stands
 returns-in_err-act-clause-stands g c =
@@ -88,15 +96,17 @@ returns-in_err-pass-clause-next g c =
     let held = c.self.inside in
     let so_far = steps_so_far held.header held.count in
     let window = c.read_line.new.self.bytes in
+    let left = g.R.Source.left c.args.reader.now in
+    let after = g.R.Source.left c.read_line.new.reader in
     let is = rw (c.in-Some.is, c.bytes.ensures.bytes) at c.in_ok-act.ensures.line in
     let passed = c.from_residual-in_err-pass in
-    let few : length window ≤ 65792 =
+    let few : length window ≤ room =
     omega (arith, c.in_ok-read_line.ensures.few, c.in_ok-read_line.ensures.places, c.self.invariant.2) in
-    rw (← c.self.view_is) (not_counted steps_form so_far held.window.bytes window
-    (g.R.Source.left c.args.reader.now) (g.R.Source.left c.read_line.new.reader) passed.result _
-    c.in_err-pass.field-0.0 passed.ensures c.in_err-pass.ensures.err few
-    (item_kept steps_form so_far held.window.bytes window (g.R.Source.left c.args.reader.now)
-    (g.R.Source.left c.read_line.new.reader)
+    let full = err_is passed.result c.in_err-pass.field-0.0 passed.ensures in
+    rw (full, c.in_err-pass.ensures.err, ← c.self.view_is)
+    (not_counted steps_form so_far held.window.bytes window left after
+    (reader_at so_far held.window.bytes left) few
+    (item_kept steps_form so_far held.window.bytes window left after
     c.in-Some.act c.in-Some.left (next_short held.header held.count window c.in-Some.act c.in-Some.left
     c.self.invariant.1 is) c.in_ok-read_line.ensures.ahead is))
 

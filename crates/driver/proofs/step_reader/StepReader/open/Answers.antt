@@ -1,24 +1,28 @@
 use Rattle.std.proofs.Common.{refl, Err, ℕ, List, ap, subst}
 use Rattle.line_text.specs.declared.fault.TextFault.{TextFault}
 use Rattle.line_text.specs.Reading.{IsReading}
+use Rattle.line_text.proofs.Faults.{err_is}
 use Rattle.steps.specs.StepsText.{steps_form, steps_so_far}
 use Rattle.steps.proofs.ShortSteps.{short}
 use Rattle.steps.proofs.StepsLawful.{lawful}
 use Rattle.streams.specs.declared.stream_fault.StreamFault.{StreamFault}
-use Rattle.driver.proofs.ReadingAhead.{header_ahead, header_kept, open_failed, open_refused, open_unread}
+use Rattle.streams.specs.declared.stream_fault.StreamFault.TheVariants.{Memory, Text}
+use Rattle.driver.proofs.ReadingAhead.{header_ahead, header_fault, header_kept, reading_fault, unread_yet, whole_left}
 use Rattle.driver.proofs.step_reader.StepReader.open.Goals as goal
 
 pub returns-in_err-window-clause-err : goal.returns-in_err-window-clause-err
 returns-in_err-window-clause-err g c =
-    open_refused steps_form (g.R.Source.left c.args.reader.now) c.from_residual.result c.from_residual.ensures
+    rw (err_is c.from_residual.result Memory c.from_residual.ensures)
+    (unread_yet steps_form (g.R.Source.left c.args.reader.now))
 
 pub returns-in_err-read_line-clause-err : goal.returns-in_err-read_line-clause-err
 returns-in_err-read_line-clause-err g c =
     let passed = c.from_residual-in_err-read_line in
     let failed = c.in_err-read_line.ensures in
-    open_unread steps_form (g.R.Source.left c.args.reader.now) (g.R.Source.left c.read_line.new.reader)
-    passed.result c.in_err-read_line.field-0.0 passed.ensures failed.kinds
-    (λ e. failed.memory (ap (λ (f : StreamFault). Err f) e))
+    let text = g.R.Source.left c.args.reader.now in
+    rw (err_is passed.result c.in_err-read_line.field-0.0 passed.ensures)
+    (reading_fault steps_form text text (g.R.Source.left c.read_line.new.reader) c.in_err-read_line.field-0.0
+    failed.kinds (λ e. failed.memory (ap (λ (f : StreamFault). Err f) e)) (whole_left text))
 
 pub returns-in_err-header-clause-err : goal.returns-in_err-header-clause-err
 returns-in_err-header-clause-err g c =
@@ -27,10 +31,11 @@ returns-in_err-header-clause-err g c =
     let is = subst (λ (t : List ℕ). IsReading steps_form t (Err fault)) c.bytes.ensures.bytes
     c.in_err-header.ensures.err in
     let cut = rw c.bytes.ensures.bytes at c.in_err-header.ensures.cut in
-    open_failed steps_form (g.R.Source.left c.args.reader.now) c.read_line.new.self.bytes
-    (g.R.Source.left c.read_line.new.reader) passed.result fault passed.ensures lawful short is
+    rw (err_is passed.result (Text fault) passed.ensures)
+    (header_fault steps_form (g.R.Source.left c.args.reader.now) c.read_line.new.self.bytes
+    (g.R.Source.left c.read_line.new.reader) fault lawful short is
     (λ e. c.in_ok-read_line.ensures.whole (cut (ap (λ (f : TextFault). Err f) e)))
-    (rw c.in_ok-window.ensures at c.in_ok-read_line.ensures.ahead)
+    (rw c.in_ok-window.ensures at c.in_ok-read_line.ensures.ahead))
 
 pub returns-clause-ok : goal.returns-clause-ok
 returns-clause-ok g c =

@@ -76,11 +76,11 @@ overflow_add-result-else-allows c =
     let self = c.self.inside in
     omega (arith, few self.so_far self.base self.lines c.self.invariant, c.self.invariant.count)
 
-pub returns-then-line-ge-MOST_BYTES-clause-line : goal.returns-then-line-ge-MOST_BYTES-clause-line
-returns-then-line-ge-MOST_BYTES-clause-line c =
+pub returns-then-line-ge-LINE_BYTES-clause-line : goal.returns-then-line-ge-LINE_BYTES-clause-line
+returns-then-line-ge-LINE_BYTES-clause-line c =
     let self = c.self.inside in
     let read = view_of self.so_far self.base in
     rw (← c.self.view_is)
     (subst (λ (n : ℕ). IsBaseLineNext read c.args.rest.now (Err (BadLine (n + 2)))) c.self.invariant.count
     (bad_long read c.args.rest.now c.in-Some.line.now c.in-Some.after.now c.in-Some.ensures.0
-    c.in-Some.ensures.1 (omega (arith, c.if-line-ge-MOST_BYTES.true))))
+    c.in-Some.ensures.1 (omega (arith, c.if-line-ge-LINE_BYTES.true))))

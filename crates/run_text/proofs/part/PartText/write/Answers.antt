@@ -1,5 +1,5 @@
 use Rattle.std.proofs.Common.{◌++◌, ◌∙◌, append_assoc, reverse, subst, sym}
-use Rattle.streams.specs.Whole.{AppendsFront}
+use Rattle.streams.specs.Writing.{AppendsFront}
 use Rattle.driver.proofs.Gathering.{front_longer, if_failed, where_failed}
 use Rattle.history_text.specs.Pieces.{entry_lines}
 use Rattle.run_text.proofs.Written.{front_behind}

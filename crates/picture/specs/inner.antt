@@ -1,0 +1,10 @@
+-- What only contracts of private functions cite: no promise of the crate rests on it.
+use Rattle.std.specs.Prelude.{◌+◌, ◌<◌, ◌≤◌, ◌^◌}
+use Rattle.picture.specs.declared.layout.Layout.{Layout}
+
+-- a layout with at most as many entries and seats as a history can have
+pub record IsLayout (l : Layout) : Type 0 where
+  pub few : l.from + l.shown < 2 ^ 32
+  pub step : l.step ≤ 20
+  pub top : l.top ≤ 160
+  pub seats : l.seats ≤ 65535

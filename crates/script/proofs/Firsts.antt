@@ -1,0 +1,38 @@
+-- Lists whose elements were found good one by one.
+use Rattle.std.proofs.Common.{◌≡◌, ℕ, ◌+◌, ◌<◌, ◌≤◌, List, Some, All, length, take, map, slice_get, ap, sym, subst, ◌∙◌, arith, get_or, option_map}
+use Rattle.std.proofs.lemmas.List.{length-map, take_all}
+use Rattle.std.proofs.lemmas.List.Elements.{All-more}
+use Rattle.std.proofs.lemmas.Option.{slice_get-map, slice_get_within, get_or_from_slice_get}
+use Rattle.std.specs.declared.alloc.Global.{Global}
+use Rattle.std.specs.Prelude.{String, string_bytes}
+use Rattle.history.specs.declared.header.Header.{Header}
+use Rattle.script.specs.Script.{Named, named}
+
+pub one_more : {T : Type 0} (P : T → Type 0) (xs : List T) (i : ℕ) (x : T) → i < length xs →
+    x ≡ get_or xs i x → All P (take i xs) → P x → All P (take (i + 1) xs)
+one_more P xs i x below is h good = All-more P xs i x below h (subst P is good)
+
+pub to_the_end : {T : Type 0} (P : T → Type 0) (xs : List T) (i : ℕ) → length xs ≤ i →
+    All P (take i xs) → All P xs
+to_the_end P xs i past h = subst (All P) (take_all i xs past) h
+
+abbrev shown_as : String Global × Header → Named
+shown_as e = (string_bytes e.0, e.1)
+
+pub object_at : (es : List (String Global × Header)) (i : ℕ) (e : String Global × Header) →
+    Some e ≡ slice_get es i → slice_get (named es) i ≡ Some (string_bytes e.0, e.1)
+object_at es i e at = slice_get-map shown_as es i ∙ ap (option_map shown_as) (sym at)
+
+pub one_more_object : (P : Named → Type 0) (es : List (String Global × Header)) (i : ℕ)
+    (e : String Global × Header) → Some e ≡ slice_get es i → All P (take i (named es)) →
+    P (string_bytes e.0, e.1) → All P (take (i + 1) (named es))
+one_more_object P es i e at h good =
+    let here = object_at es i e at in
+    one_more P (named es) i (shown_as e) (slice_get_within (named es) i (shown_as e) here)
+    (sym (get_or_from_slice_get (named es) i (shown_as e) (shown_as e) here)) h good
+
+pub all_objects : (P : Named → Type 0) (es : List (String Global × Header)) (i : ℕ) → length es ≤ i →
+    All P (take i (named es)) → All P (named es)
+all_objects P es i past h =
+    let as_many : length (named es) ≡ length es = length-map es shown_as in
+    to_the_end P (named es) i (omega (arith, past, as_many)) h
