@@ -47,7 +47,7 @@ OPENING = {
 OF_C = {"AQS_CORE_H", "AQS_NO_PASS"}
 
 TYPES = {
-    "u8": "uint8_t", "u16": "uint16_t", "u32": "uint32_t", "u64": "uint64_t", "i32": "int32_t",
+    "u8": "uint8_t", "u16": "uint16_t", "u32": "uint32_t", "u64": "uint64_t", "i32": "int32_t", "i64": "int64_t",
     "usize": "size_t", "bool": "bool", "c_char": "char", "Status": "aqs_status_t", "RwLock": "aqs_rwlock_t",
 }
 

@@ -157,13 +157,26 @@ def named_files(program, folder):
     yield "audit of a file beside an input", run(program, ["audit", wrong], steps.read_bytes()) == answers
 
 
+def situations(folder):
+    """The steps texts that the tests in Rattle have stand here, with their answers."""
+    source = folder.parent / "crates" / "test_support" / "src" / "examples.rt"
+    here = {file.read_text() for file in folder.glob("*.steps") if file.with_suffix(".answers").exists()}
+    for text in re.findall(r'^    "(aqs-steps (?:[^"\\]|\\.|\\\n)*)"', source.read_text(), re.M):
+        text = re.sub(r"\\\n\s*", "", text).replace("\\n", "\n")
+        yield f"a situation of the tests stands in {folder.name}: {text}", text in here
+
+
 def hostile(program):
     """A line of any length takes no more memory than a short one. JSON that is deep is told as no JSON, and a
     word that isn't UTF-8 as a bad command line."""
-    header, line = b"aqs-steps 1 lock fair seats 2 conditions 0 cap 16\n", b"0" * 64_000_000
-    whole = header + line + b"\nend 1\n"
-    yield "a long line", run(program, ["replay"], whole) == (3, b"", b"aqs: bad line 2\n")
-    yield "a long line that is cut", run(program, ["replay"], header + line) == (3, b"", b"aqs: cut short\n")
+    header = b"aqs-steps 1 lock fair seats 2 conditions 0 cap 16\n"
+    # The second to fourth end where a window ends.
+    for length in (65_000, 65_486, 65_535, 65_536, 200_000, 64_000_000):
+        line = b"0" * length
+        whole = header + line + b"\n0 give x 1\nend 2\n"
+        answer = run(program, ["replay"], whole), run(program, ["replay"], header + line)
+        wanted = (3, b"", b"aqs: bad line 2\n"), (3, b"", b"aqs: cut short\n")
+        yield f"a line of {length} bytes, and one that is cut", answer == wanted
     yield "a long first line", run(program, ["audit"], line + b"\n") == (3, b"", b"aqs: bad header\n")
     deep = b"[" * 100_000 + b"]" * 100_000
     yield "deep JSON", run(program, ["run"], deep) == (3, b"", b"aqs: not JSON\n")
@@ -180,6 +193,8 @@ def results(program, folder, scratch):
     yield from pictures(program, folder)
     yield from named_files(program, folder)
     yield from hostile(program)
+    if folder.name == "examples":
+        yield from situations(folder)
     for file in unpaired(folder):
         yield f"{file.name} has its pair", False
     for wrong in [*cases.results(program, cases.all_files()), *crowds.results(program)]:

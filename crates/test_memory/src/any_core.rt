@@ -145,6 +145,11 @@ impl AnyCore {
         self.core.history().calls()
     }
 
+    /// Returns whether the core has the seat, and has told it that it could go.
+    pub fn is_told(&self, seat: u16) -> bool {
+        seat < self.core.header().seats && self.core.is_told(seat)
+    }
+
     /// Returns all that the core's observers return, except its places, as one number.
     pub fn told(&self) -> u64 {
         self.core.recall_lawful();

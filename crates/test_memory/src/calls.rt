@@ -8,7 +8,7 @@ use history::arrival::Arrival;
 use history::entries::History;
 use history::entry::{End, Entry, Mode, Word};
 use history::header::{Header, Object, Policy};
-use history::number::{Numbering, number_of, put_number, spell};
+use history::number::put_number;
 use node_arena::arena::Arena;
 use node_arena::node::Node;
 use std::test::Fail;
@@ -55,38 +55,6 @@ fn a_full_arena_has_its_nodes(rt: HostRuntime) -> Result<(), Fail> {
     assert!(rt; arena.is_full() && arena.len() == 1 && arena.placed() == 1);
     assert!(rt; arena.get(number) == Some(node) && arena.free(number) == Some(node));
     assert!(rt; arena.get(number).is_none() && !arena.is_full());
-    Ok(())
-}
-
-const NUMBERS: [(&str, u64); 7] = [
-    ("0", 0),
-    ("9", 9),
-    ("10", 10),
-    ("99", 99),
-    ("100", 100),
-    ("4294967296", 4_294_967_296),
-    ("18446744073709551615", 18_446_744_073_709_551_615),
-];
-
-/// Numbers are written over other bytes, appended to bytes, and spelt one after another.
-#[test]
-fn numbers_have_one_spelling(rt: HostRuntime) -> Result<(), Fail> {
-    let mut numbering = Numbering::new();
-    for (text, number) in &NUMBERS {
-        let mut line = [b'.'; 32];
-        let end = spell(&mut line, 2, *number);
-        assert!(rt;
-            line.get(2..end) == Some(text.as_bytes()) && line.starts_with(b".."),
-            "{text}"
-        );
-        let end = numbering.spell(&mut line, 0, *number);
-        assert!(rt; line.get(..end) == Some(text.as_bytes()), "{text}");
-        let mut out = Vec::from_slice(rt.alloc(), b"-")?;
-        put_number(&mut out, *number)?;
-        assert!(rt; out.ends_with(text.as_bytes()) && number_of(text.as_bytes()) == Some(*number));
-    }
-    let got = Entry::read_words(3, b"got x 1");
-    assert!(rt; got == Some(GOT) && Entry::read_words(3, b"got x 01").is_none());
     Ok(())
 }
 

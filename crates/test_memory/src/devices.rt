@@ -2,10 +2,9 @@
 
 ghost use Rattle.std.specs.Prelude.{◌≤◌, IfOk};
 
-use crate::streamed::{Came, Stream, Ways, streamed, through};
-use crate::texts::{STEPS, THROUGH, put_pairs, put_times};
-use line_text::fault::TextFault;
-use std::alloc::{AllocError, Global};
+use crate::streamed::{Came, Stream, Ways, streamed, through, through_to};
+use crate::texts::{STEPS, THROUGH, put_pairs};
+use std::alloc::Global;
 use std::io;
 use std::process::Abort;
 use std::test::Fail;
@@ -183,31 +182,43 @@ fn each_piece_of_a_long_answer_fails_in_turn(rt: HostRuntime) -> Result<(), Fail
     Ok(())
 }
 
-/// The result of the first call of a reader or a writer of std.
+/// The result of one call of a reader or a writer of std.
 #[derive(Clone, Copy)]
-enum First {
+enum Odd {
     Fails(io::ErrorKind),
     TakesNothing,
 }
 
-/// A reader and a writer whose first call has this result. Each later call succeeds.
+/// A reader and a writer that move at most `piece` bytes at once. Only the call with the number `at` has the
+/// odd result.
 #[derive(Drop)]
 struct Calls {
-    first: First,
-    calls: u32,
+    odd: Odd,
+    at: usize,
+    piece: usize,
+    calls: usize,
 }
 
 impl Calls {
-    /// Returns the result of a call that would otherwise move `done` bytes.
-    fn call(&mut self, done: usize) -> io::Result<usize>
-        ensures { IfOk result (λ n. n ≤ done) }
+    fn new(odd: Odd, at: usize) -> Calls {
+        Calls {
+            odd,
+            at,
+            piece: 16,
+            calls: 0,
+        }
+    }
+
+    /// Returns the result of a call that may move `most` bytes.
+    fn call(&mut self, most: usize) -> io::Result<usize>
+        ensures { IfOk result (λ n. n ≤ most) }
     {
-        let is_first = self.calls == 0;
+        let is_odd = self.calls == self.at;
         self.calls = self.calls.saturating_add(1);
-        match self.first {
-            First::Fails(kind) if is_first => Err(io::Error::from(kind)),
-            First::TakesNothing if is_first => Ok(0),
-            _ => Ok(done),
+        match self.odd {
+            Odd::Fails(kind) if is_odd => Err(io::Error::from(kind)),
+            Odd::TakesNothing if is_odd => Ok(0),
+            _ => Ok(self.piece.min(most)),
         }
     }
 }
@@ -238,49 +249,38 @@ fn an_error_of_a_reader_or_a_writer_fails_once_and_for_all(rt: HostRuntime) {
         io::ErrorKind::BrokenPipe,
         io::ErrorKind::Other,
     ] {
-        fail_first(&rt, First::Fails(kind), false);
+        fail_first(&rt, Odd::Fails(kind), false);
     }
-    fail_first(&rt, First::TakesNothing, true);
+    fail_first(&rt, Odd::TakesNothing, true);
 }
 
-fn fail_first(rt: &(impl Abort + AllocGlobal), first: First, reads: bool) {
+fn fail_first(rt: &(impl Abort + AllocGlobal), first: Odd, reads: bool) {
     let mut buffer = [0; 16];
-    let mut reader = Device::new(Calls { first, calls: 0 });
+    let mut reader = Device::new(Calls::new(first, 0));
     assert!(rt; reader.read(&mut buffer).is_ok() == reads);
     assert!(rt; Source::has_failed(&reader) != reads);
-    let mut writer = Device::new(Calls { first, calls: 0 });
+    let mut writer = Device::new(Calls::new(first, 0));
     assert!(rt; writer.write(b"line").is_err() && Sink::has_failed(&writer));
 }
 
-/// Checks the fault of a text whose second line has this length and ending.
-fn tells_long_line(
-    alloc: Global,
-    length: u32,
-    ending: &str,
-    fault: TextFault,
-) -> Result<bool, AllocError> {
-    let mut text = String::from_str(alloc, "aqs-steps 1 lock fair seats 2 conditions 0 cap 64\n")?;
-    put_times(&mut text, "7", length)?;
-    text.push_str(ending)?;
-    let mut out = Vec::new(alloc);
-    let came = streamed(
-        alloc,
-        Stream::Replay,
-        text.as_bytes(),
-        in_pieces(1_000_000),
-        &mut out,
-    );
-    Ok(came == Err(StreamFault::Text(fault)) && out.is_empty())
-}
-
+/// Each write in turn takes nothing, and fails the stream. After the last one there is no write to fail.
 #[test]
-fn a_line_longer_than_a_read_is_a_bad_line(rt: HostRuntime) {
-    for length in [65_000, 65_486, 65_536, 200_000, 1_100_000] {
-        let ending = "\n0 give x 1\nend 2\n";
-        let ended = tells_long_line(rt.alloc(), length, ending, TextFault::BadLine(2));
-        let cut = tells_long_line(rt.alloc(), length, "", TextFault::CutShort);
-        assert!(rt; ended == Ok(true) && cut == Ok(true), "{length}");
+fn each_write_that_takes_nothing_fails(rt: HostRuntime) -> Result<(), Fail> {
+    for (stream, text) in THROUGH {
+        let mut wanted = Vec::new(rt.alloc());
+        let came = through(rt.alloc(), stream, text, &mut wanted);
+        assert!(rt; came == Ok(true));
+        let writes = wanted.len().div_ceil(16);
+        for at in 0..writes.saturating_add(1) {
+            let calls = Calls::new(Odd::TakesNothing, at);
+            let told = if at < writes { WRITE_FAILED } else { Ok(true) };
+            assert!(rt;
+                through_to(rt.alloc(), stream, text, calls) == told,
+                "write {at}"
+            );
+        }
     }
+    Ok(())
 }
 
 /// A call moves as many bytes as the reader has and the writer takes.

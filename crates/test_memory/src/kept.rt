@@ -1,13 +1,13 @@
 //! No memory is kept: what is repeated leaves as much free memory as there was after the first times.
 
 use crate::played::{Play, deepen, perform};
-use crate::streamed::Stream;
-use crate::texts::{ON_COUNT, ON_READER, ON_SLEEPER, SCRIPT, STEPS, TRIMMED, WRONG, put_history};
+use crate::streamed::{Stream, through};
+use crate::texts::{ON_COUNT, ON_READER, ON_SLEEPER, SCRIPT, STEPS, TRIMMED, WRONG};
 use history::header::{Header, Object, Policy};
 use std::process::Abort;
 use std::test::Fail;
 use std::time::Clock;
-use test_support::examples::{Example, situations, strict_situations};
+use test_support::examples::situations;
 use test_support::memory::Memory;
 
 /// More bytes than any answer here has.
@@ -67,25 +67,28 @@ fn keeps_none(
     memory.take_pieces();
 }
 
-/// Plays the texts of a situation through each stream.
+/// Plays a steps text and its history through each stream.
 fn situation_keeps_none(
     rt: &(impl Abort + AllocGlobal + Clock),
     memory: &mut Memory,
-    example: &Example,
+    text: &str,
     history: &mut Vec<u8>,
     out: &mut Vec<u8>,
 ) {
+    let steps = text.as_bytes();
     history.clear();
-    let is_put = put_history(history, example.replay);
-    assert!(rt; is_put.is_ok());
+    memory.give_pieces(ENOUGH);
+    let is_put = through(rt.alloc(), Stream::History, steps, history);
+    memory.take_pieces();
+    assert!(rt; is_put == Ok(true));
     for what in [
-        Play::Through(Stream::Replay, example.steps.as_bytes()),
-        Play::Through(Stream::History, example.steps.as_bytes()),
+        Play::Through(Stream::Replay, steps),
+        Play::Through(Stream::History, steps),
         Play::Through(Stream::Audit, history),
         Play::Through(Stream::Draw, history),
         Play::Again(history),
     ] {
-        keeps_none(rt, memory, what, true, out, example.name);
+        keeps_none(rt, memory, what, true, out, text);
     }
 }
 
@@ -95,10 +98,8 @@ fn situations_keep_no_memory(rt: HostRuntime) -> Result<(), Fail> {
     let mut out = Vec::with_capacity(rt.alloc(), AMPLE)?;
     deepen(&rt, &mut out);
     let mut memory = Memory::take_all(rt.alloc(), PIECE)?;
-    for examples in [situations(), strict_situations()] {
-        for example in examples {
-            situation_keeps_none(&rt, &mut memory, example, &mut history, &mut out);
-        }
+    for text in situations() {
+        situation_keeps_none(&rt, &mut memory, text, &mut history, &mut out);
     }
     Ok(())
 }

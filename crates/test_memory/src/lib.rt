@@ -5,6 +5,8 @@
 #[cfg(test)]
 mod any_core;
 #[cfg(test)]
+mod any_monitor;
+#[cfg(test)]
 mod block;
 #[cfg(test)]
 mod calls;
@@ -26,6 +28,8 @@ mod refused;
 mod refused_steps;
 #[cfg(test)]
 mod situations;
+#[cfg(test)]
+mod spoilt;
 #[cfg(test)]
 mod streamed;
 #[cfg(test)]

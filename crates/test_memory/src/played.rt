@@ -214,9 +214,15 @@ pub fn perform(rt: &(impl AllocGlobal + Clock), what: Play, out: &mut Vec<u8>) -
     }
 }
 
-/// Plays the calls that need most stack while there is memory. The stack then has its full depth, for which
-/// there may be no memory later.
+/// The size of a frame that is larger than those from which the calls are played later.
+const FRAME: usize = 32_768;
+
+/// Plays the calls that need most stack while there is memory, from a frame of its own. So the stack is then
+/// deeper than any later call makes it, when there may be no memory for it.
+#[inline(never)]
 pub fn deepen(rt: &(impl AllocGlobal + Clock), out: &mut Vec<u8>) {
+    let mut frame = [0; FRAME];
+    frame[out.capacity() % FRAME] = 1;
     for what in [
         Play::Script(SCRIPT),
         Play::Again(HISTORY),
@@ -228,4 +234,6 @@ pub fn deepen(rt: &(impl AllocGlobal + Clock), out: &mut Vec<u8>) {
         let _came = perform(rt, what, out);
         out.clear();
     }
+    let _is_used = out.extend_from_slice(&frame);
+    out.clear();
 }

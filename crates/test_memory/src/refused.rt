@@ -164,7 +164,7 @@ fn cores_and_what_they_stand_on_are_opened_whole_or_not_at_all(
 
 /// A monitor of four seats allocates its passes, four tables of its seats, and the tokens, the slot and the
 /// word of its lock. A condition adds a list and a table of lists, a read-write lock a table of readers. A
-/// parking allocates one table, a scripted one three.
+/// parking allocates one table, a scripted one two.
 #[test]
 fn monitors_and_parkings_are_opened_whole_or_not_at_all(rt: HostRuntime) -> Result<(), Fail> {
     try_rows(
@@ -175,7 +175,7 @@ fn monitors_and_parkings_are_opened_whole_or_not_at_all(rt: HostRuntime) -> Resu
             Row::of(Play::Semaphore, FINE, 260, 300),
             Row::of(Play::Latch, FINE, 260, 300),
             Row::of(Play::Threads, 64, 8, 18),
-            Row::of(Play::Scripted, 32, 40, 64),
+            Row::of(Play::Scripted, 32, 30, 64),
             Row::of(Play::Bars, FINE, 5, 1100),
         ],
     )?;

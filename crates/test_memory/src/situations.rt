@@ -1,166 +1,182 @@
-//! Each known situation: through a replay in both forms, through an audit, and through the runs of a core.
-
-ghost use Rattle.std.specs.Prelude.{IsTrue};
-ghost use Rattle.driver.specs.Replay.{HasLine};
+//! Known situations in each way to take a list: a core takes it step by step, in one run and as acts, and a
+//! monitor by its passes. `examples/` has the answers, which the program returns step by step.
 
 use crate::any_core::{AnyCore, Outcome};
-use crate::streamed::{Stream, through};
-use crate::texts::put_history;
-use driver::line_writer::LineWriter;
+use crate::any_monitor::AnyMonitor;
+use crate::texts::put_times;
 use frame::acts::{Act, Done};
 use history::fault::Fault;
 use history::header::Header;
-use history::step::Answer;
-use history::text::first_line;
+use history::step::Step;
 use std::alloc::Global;
 use std::process::Abort;
+use std::sync::Wait;
 use std::test::Fail;
-use steps::{ReadFault, read_steps};
-use streams::device::Device;
-use test_support::examples::{Example, situations, strict_situations};
+use steps::read_steps;
+use test_support::examples::situations;
 
-/// Returns whether an answer can be spelt.
-fn has_line(answer: &Result<Answer, Fault>) -> bool
-    ensures { IsTrue result → HasLine answer.now }
-{
-    match answer {
-        Ok(Answer::Recorded(entry, _)) => entry.is_spelt(),
-        Ok(Answer::Sleep) | Err(_) => true,
-    }
-}
-
-/// Adds the line of an answer to a seat's step.
-fn put_answer(
-    lines: &mut LineWriter,
-    out: &mut Vec<u8>,
-    number: &mut u64,
-    seat: u16,
-    answer: &Result<Answer, Fault>,
-) -> bool {
-    if !has_line(answer) {
-        return false;
-    }
-    let is_put = lines
-        .put_answer(&mut Device::new(out), *number, seat, answer)
-        .is_ok();
-    let is_recorded = matches!(answer, Ok(Answer::Recorded(_, _)));
-    *number = number.saturating_add(u64::from(is_recorded));
-    is_put
-}
-
-/// Returns the answer to a step of a list without trims.
-fn answer_of(outcome: &Outcome) -> Result<Answer, Fault> {
-    match outcome {
-        Ok(Done::Answered(answer)) => Ok(*answer),
-        Ok(Done::Trimmed(_)) => Err(Fault::OutOfPhase),
-        Err(fault) => Err(*fault),
-    }
-}
-
-/// Appends the lines of a replay text for the results of acts.
-fn put_lines(
-    lines: &mut LineWriter,
-    out: &mut Vec<u8>,
-    acts: &[Act],
-    outcomes: &[Outcome],
-    core: &AnyCore,
-) -> bool {
-    let mut number = 0;
-    for (act, outcome) in acts.iter().zip(outcomes) {
-        let seat = match act {
-            Act::Do(seat, _) => *seat,
-            Act::Trim => return false,
+/// Returns the steps of a list, or `OutOfPhase` if it has a trim.
+fn steps_of(alloc: Global, acts: &[Act]) -> Result<Vec<(u16, Step)>, Fault> {
+    let mut steps = Vec::new(alloc);
+    for act in acts {
+        let Act::Do(seat, step) = act else {
+            return Err(Fault::OutOfPhase);
         };
-        if !put_answer(lines, out, &mut number, seat, &answer_of(outcome)) {
+        if steps.push((*seat, *step)).is_err() {
+            return Err(Fault::OutOfMemory);
+        }
+    }
+    Ok(steps)
+}
+
+/// Returns whether a list without trims has these results in one run.
+fn is_run(alloc: Global, header: &Header, acts: &[Act], wanted: &[Outcome]) -> Result<bool, Fault> {
+    let steps = steps_of(alloc, acts)?;
+    let mut core = AnyCore::open(alloc, header)?;
+    let answers = core.run(alloc, &steps)?;
+    let are_same = answers.iter().zip(wanted).all(|(answer, outcome)| match outcome {
+        Ok(Done::Answered(wanted)) => *answer == Ok(*wanted),
+        Ok(Done::Trimmed(_)) => false,
+        Err(fault) => *answer == Err(*fault),
+    });
+    Ok(are_same && answers.len() == wanted.len())
+}
+
+/// Returns whether a core and a monitor have told this seat that it could go, and no other.
+fn is_told<R: Wait>(rt: &R, core: &AnyCore, monitor: &mut AnyMonitor, told: Option<u8>) -> bool {
+    for seat in 0..core.header().seats {
+        let is_it = told == Some(b'0'.saturating_add((seat % 10) as u8));
+        if core.is_told(seat) != is_it || monitor.is_told(rt, seat) != is_it {
             return false;
         }
     }
-    let (entries, calls) = (core.entries(), core.calls());
-    lines
-        .put_counts(&mut Device::new(&mut *out), entries, calls)
-        .is_ok()
-        && lines.flush(&mut Device::new(out)).is_ok()
+    true
 }
 
-/// Appends the replay text of a list in one run, after a first line.
-fn run_lines(
-    alloc: Global,
-    header: &Header,
+/// Takes a list step by step, by a core and by a monitor, and appends the results. `told` has a digit or `-`
+/// for each act: the seat that is marked as told after it.
+fn act_all<R: Abort + Wait>(
+    rt: &R,
+    core: &mut AnyCore,
+    monitor: &mut AnyMonitor,
     acts: &[Act],
-    first: &[u8],
-    out: &mut Vec<u8>,
-) -> Result<bool, Fault> {
-    let mut lines = LineWriter::open(alloc, first)?;
-    let mut core = AnyCore::open(alloc, header)?;
-    let outcomes = core.run_acts(alloc, acts)?;
-    Ok(put_lines(&mut lines, out, acts, &outcomes, &core))
-}
-
-/// Returns the first line of a text, with its line break.
-fn first_of(text: &[u8]) -> &[u8] {
-    match first_line(text) {
-        Some((line, _)) => text.get(..line.len().saturating_add(1)).unwrap_or_default(),
-        None => text,
+    told: Option<&[u8]>,
+    outcomes: &mut Vec<Outcome>,
+) {
+    for (place, act) in acts.iter().enumerate() {
+        let outcome = core.act(*act);
+        assert!(rt; monitor.act(rt, *act) == outcome, "{act:?}");
+        let is_marked = match told {
+            Some(told) => is_told(rt, core, monitor, told.get(place).copied()),
+            None => true,
+        };
+        assert!(rt; is_marked, "{act:?}");
+        outcomes.push(outcome).expect(rt, "memory");
     }
 }
 
-/// Returns whether a situation has its replay text in one run.
-fn is_run(alloc: Global, example: &Example, out: &mut Vec<u8>) -> Result<bool, ReadFault> {
-    let replay = example.replay.as_bytes();
-    let read = read_steps(alloc, example.steps.as_bytes())?;
-    out.clear();
-    let is_run = run_lines(
-        alloc,
-        &read.header.header,
-        &read.acts,
-        first_of(replay),
-        out,
-    );
-    Ok(is_run == Ok(true) && out.as_slice() == replay)
-}
-
-/// Returns whether a stream writes this for a text, or begins with it; for an audit also whether the history
-/// is legal.
-fn is_answered(
-    alloc: Global,
-    stream: Stream,
-    text: &[u8],
-    begins: &[u8],
-    out: &mut Vec<u8>,
-) -> bool {
-    out.clear();
-    through(alloc, stream, text, out) == Ok(true) && out.starts_with(begins)
-}
-
-fn try_example(
-    rt: &(impl Abort + AllocGlobal),
-    example: &Example,
-    history: &mut Vec<u8>,
-    out: &mut Vec<u8>,
-) {
-    let (alloc, name) = (rt.alloc(), example.name);
-    let (steps, replay) = (example.steps.as_bytes(), example.replay.as_bytes());
-    let replayed = is_answered(alloc, Stream::Replay, steps, replay, out)
-        && out.len() == replay.len();
-    history.clear();
-    let is_put = put_history(history, example.replay).is_ok();
-    let recorded = is_answered(alloc, Stream::History, steps, history, out) && out == history;
-    let audited = is_answered(alloc, Stream::Audit, history, b"legal\nentries ", out);
-    assert!(rt; replayed && is_put && recorded && audited, "{name}");
+/// Takes a list in each way. Returns how many entries and calls there are then.
+fn try_text<R: Abort + AllocGlobal + Wait>(rt: &R, text: &str, told: Option<&[u8]>) -> (u64, u64) {
+    let alloc = rt.alloc();
+    let read = read_steps(alloc, text.as_bytes()).expect(rt, "a text");
+    let header = read.header.header;
+    let mut core = AnyCore::open(alloc, &header).expect(rt, "memory");
+    let mut monitor = AnyMonitor::open(alloc, &header).expect(rt, "memory");
+    let mut outcomes = Vec::new(alloc);
+    act_all(rt, &mut core, &mut monitor, &read.acts, told, &mut outcomes);
+    let mut other = AnyCore::open(alloc, &header).expect(rt, "memory");
+    let acted = other.run_acts(alloc, &read.acts).expect(rt, "memory");
+    assert!(rt; acted == outcomes && other.told() == core.told(), "{text}");
+    let is_run = is_run(alloc, &header, &read.acts, &outcomes);
     assert!(rt;
-        is_run(alloc, example, out) == Ok(true),
-        "{name} in one run"
+        is_run == Ok(true) || is_run == Err(Fault::OutOfPhase),
+        "{text}"
     );
+    let counts = (core.entries(), core.calls());
+    assert!(rt;
+        monitor.close(rt) == Some((counts.0, counts.1, counts.1)),
+        "{text}"
+    );
+    counts
 }
+
+/// Trims, after which one seat sleeps, and by which a history of 16 entries has room for more.
+const TRIMMED: [&str; 2] = [
+    "aqs-steps 2 lock fair seats 2 conditions 1 cap 16\n0 acquire x 1\n0 acquire x 1\n0 await 0\n\
+        1 acquire x 1\ntrim\n1 signal 0\n1 give x 1\n0 look\nend 8\n",
+    "aqs-steps 2 lock nonfair seats 1 conditions 0 cap 16\n0 acquire x 1\n0 give x 1\n0 acquire x 1\n\
+        0 give x 1\n0 acquire x 1\n0 give x 1\n0 acquire x 1\n0 give x 1\n0 acquire x 1\n0 give x 1\n\
+        0 acquire x 1\n0 give x 1\n0 acquire x 1\n0 give x 1\n0 acquire x 1\n0 give x 1\n\
+        0 acquire x 1\ntrim\n0 acquire x 1\ntrim\nend 20\n",
+];
 
 #[test]
-fn each_known_situation_is_answered_in_each_way(rt: HostRuntime) -> Result<(), Fail> {
-    let mut history = Vec::with_capacity(rt.alloc(), 65_536)?;
-    let mut out = Vec::with_capacity(rt.alloc(), 65_536)?;
-    for examples in [situations(), strict_situations()] {
-        for example in examples {
-            try_example(&rt, example, &mut history, &mut out);
-        }
+fn each_known_situation_is_answered_in_each_way(rt: HostRuntime) {
+    for text in situations() {
+        try_text(&rt, text, None);
+    }
+    for text in &TRIMMED {
+        try_text(&rt, text, None);
+    }
+}
+
+/// The situations by their places, and who is marked as told after each step: who was passed, who lapsed, and
+/// readers after a writer that leaves.
+const TOLD: [(usize, &[u8]); 4] = [
+    (2, b"--11-1-"),
+    (8, b"--0--"),
+    (10, b"----23-"),
+    (11, b"----23-"),
+];
+
+#[test]
+fn who_is_named_or_lapses_is_told_until_it_looks(rt: HostRuntime) {
+    for (place, told) in &TOLD {
+        let text = situations().get(*place).copied().unwrap_or_default();
+        let counts = try_text(&rt, text, Some(told));
+        assert!(rt; 0 < counts.0);
+    }
+}
+
+/// A header, lines that are repeated, how often, and how many entries and calls there are then: read holds up
+/// to their limit, and the borders of the history's pages.
+const LONG: [(&str, &str, u32, u64); 4] = [
+    (
+        "rw nonfair seats 1 conditions 0 cap 200000",
+        "0 acquire s 1\n",
+        65_536,
+        1,
+    ),
+    (
+        "lock nonfair seats 1 conditions 0 cap 4096",
+        "0 acquire x 1\n0 give x 1\n",
+        511,
+        2,
+    ),
+    (
+        "lock nonfair seats 1 conditions 0 cap 4096",
+        "0 acquire x 1\n0 give x 1\n",
+        512,
+        2,
+    ),
+    (
+        "lock nonfair seats 1 conditions 0 cap 4096",
+        "0 acquire x 1\n0 give x 1\n",
+        513,
+        2,
+    ),
+];
+
+#[test]
+fn long_lists_are_answered_in_each_way(rt: HostRuntime) -> Result<(), Fail> {
+    for (part, lines, times, of_each) in &LONG {
+        let count = u64::from(*times).saturating_mul(*of_each);
+        let mut text = String::new(rt.alloc());
+        write!(text, "aqs-steps 1 {part}\n")?;
+        put_times(&mut text, lines, *times)?;
+        write!(text, "end {count}\n")?;
+        let counts = try_text(&rt, &text, None);
+        assert!(rt; counts == (count, count), "{part} {times}");
     }
     Ok(())
 }

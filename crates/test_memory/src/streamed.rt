@@ -9,6 +9,7 @@ use driver::draw_stream::draw_stream;
 use driver::form::Form;
 use driver::replay_stream::replay_stream;
 use std::alloc::Global;
+use std::io;
 use streams::device::Device;
 use streams::memory_sink::MemorySink;
 use streams::memory_source::MemorySource;
@@ -67,6 +68,11 @@ fn between<R: Source, W: Sink>(
 
 /// Appends what a stream writes for a text.
 pub fn through(alloc: Global, stream: Stream, text: &[u8], out: &mut Vec<u8>) -> Came {
+    between(alloc, stream, &mut Device::new(text), &mut Device::new(out))
+}
+
+/// The same, to a writer of std.
+pub fn through_to<W: io::Write + Drop>(alloc: Global, stream: Stream, text: &[u8], out: W) -> Came {
     between(alloc, stream, &mut Device::new(text), &mut Device::new(out))
 }
 

@@ -116,20 +116,6 @@ pub fn put_history_of_pairs(out: &mut String, pairs: u32) -> Result<(), AllocErr
     write!(out, "end {entries} {entries}\n")
 }
 
-/// Appends the history text of a replay text of format 1: without the lines of what was not recorded, and
-/// without the waiters that entries name.
-pub fn put_history(out: &mut Vec<u8>, replay: &str) -> Result<(), AllocError> {
-    out.extend_from_slice(b"aqs-history")?;
-    for line in replay.strip_prefix("aqs-replay").unwrap_or(replay).lines() {
-        if !line.starts_with("- ") {
-            let entry = line.split_once(" wakes ").map_or(line, |cut| cut.0);
-            out.extend_from_slice(entry.as_bytes())?;
-            out.push(b'\n')?;
-        }
-    }
-    Ok(())
-}
-
 /// Appends a script of 256 threads, with 16 calls each.
 pub fn put_wide_script(out: &mut String) -> Result<(), AllocError> {
     out.push_str(r#"{"objects":[["a","lock nonfair seats 256 conditions 0 cap 16"]],"threads":["#)?;

@@ -1,7 +1,7 @@
 //! How much a window reads at once, and what is read from a source after an allocation fails.
 
 ghost use Rattle.std.specs.Prelude.{◌≡◌, ◌<◌, false};
-ghost use Rattle.streams.specs.Window.{kept_of_line};
+ghost use Rattle.line_text.specs.declared.limits.TheConstants.{LINE_BYTES};
 
 use std::alloc::{AllocError, Global};
 use std::test::Fail;
@@ -14,7 +14,7 @@ use test_support::memory::Memory;
 
 /// Reads until a whole line is there, or to the end of a source that hasn't failed.
 fn read_line(window: &mut Window, source: &mut MemorySource) -> Result<(), StreamFault>
-    requires { kept_of_line < window.old.places }
+    requires { LINE_BYTES < window.old.places }
     ensures { window.new.places ≡ window.old.places }
 {
     if source.has_failed() {

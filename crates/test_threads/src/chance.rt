@@ -15,7 +15,7 @@ const SEED: u64 = 20_040_930;
 /// The most milliseconds that a call waits.
 const TIME: u32 = 2;
 
-/// Numbers that are the same for the same seat.
+/// Numbers that are the same for the same seat, or for the list of all seats.
 #[derive(Drop)]
 pub struct Chance {
     words: Pcg32,
@@ -25,6 +25,36 @@ impl Chance {
     pub fn of_seat(seat: u16) -> Chance {
         Chance {
             words: Pcg32::new(SEED, u64::from(seat)),
+        }
+    }
+
+    /// Numbers of the list that all seats share.
+    pub fn of_list() -> Chance {
+        Chance {
+            words: Pcg32::new(SEED, 1000),
+        }
+    }
+
+    /// Returns the next step of the list, of one of four seats at a lock, whatever that seat does.
+    pub fn listed_step(&mut self) -> (u16, Step) {
+        let seat = (self.below(4) % 4) as u16;
+        let step = match self.below(8) {
+            0..=1 => Step::Acquire(Mode::X, 1),
+            2..=3 => Step::Give(Mode::X, 1),
+            4 => Step::Expire,
+            5 => Step::Interrupt,
+            _ => Step::Look,
+        };
+        (seat, step)
+    }
+
+    /// Returns the next step of the list as a call, or the next call of a list.
+    pub fn listed(&mut self, is_step: bool) -> (u16, Ask) {
+        if is_step {
+            let (seat, step) = self.listed_step();
+            (seat, Ask::Step(step))
+        } else {
+            ((self.below(4) % 4) as u16, self.ask_lock())
         }
     }
 
@@ -43,24 +73,7 @@ impl Chance {
         }
     }
 
-    /// Returns a call that ends even if nobody else does anything.
-    pub fn ask(&mut self, object: Object) -> Ask {
-        match object {
-            Object::Lock(_) => self.ask_lock(),
-            Object::ReadWrite(_) => match self.below(16) {
-                0..=1 => Ask::TryReadFor(TIME),
-                2 => Ask::TryRead,
-                3..=6 => Ask::EndRead,
-                _ => self.ask_lock(),
-            },
-            Object::Semaphore(_, _) => self.ask_semaphore(),
-            Object::Latch(_) => match self.below(4) {
-                0 => Ask::AwaitZeroFor(TIME),
-                _ => Ask::CountDown,
-            },
-        }
-    }
-
+    /// Returns a call of a lock that ends even if nobody else does anything.
     fn ask_lock(&mut self) -> Ask {
         match self.below(16) {
             0..=3 => Ask::TryLockFor(TIME),
@@ -70,16 +83,6 @@ impl Chance {
             13 => Ask::TryLockFor(0),
             14 => Ask::Signal(0),
             _ => Ask::SignalAll(0),
-        }
-    }
-
-    fn ask_semaphore(&mut self) -> Ask {
-        let n = 1 + self.below(3);
-        match self.below(8) {
-            0..=2 => Ask::TryAcquireFor(n, TIME),
-            3 => Ask::TryAcquire(n),
-            4 => Ask::DrainPermits,
-            _ => Ask::Release(n),
         }
     }
 

@@ -106,15 +106,9 @@ fn count_down<R: Wait + Clock>(rt: &R, parking: &ThreadParking, latch: &Latch, p
 fn at_a_lock<R: Abort + AllocGlobal + Wait + Clock>(rt: &R, when_full: WhenFull) -> Turns {
     let parking = ThreadParking::open(rt, rt.alloc(), 1).expect(rt, "memory");
     let (monitor, mut passes) = open_lock(rt.alloc(), Policy::Fair, 1, 0, CAP).expect(rt, "memory");
-    let Some(pass) = passes.pop() else {
-        panic!(rt; "no pass")
-    };
-    take_a_lock(
-        rt,
-        &parking,
-        &ReentrantLock::of_when_full(&monitor, when_full),
-        pass,
-    )
+    let pass = passes.pop().expect(rt, "a pass");
+    let lock = ReentrantLock::of_when_full(&monitor, when_full);
+    take_a_lock(rt, &parking, &lock, pass)
 }
 
 fn at_a_read_lock<R: Abort + AllocGlobal + Wait + Clock>(rt: &R, when_full: WhenFull) -> Turns {
@@ -122,15 +116,9 @@ fn at_a_read_lock<R: Abort + AllocGlobal + Wait + Clock>(rt: &R, when_full: When
     let (monitor, mut passes) = open_read_write_lock(rt.alloc(), Policy::Fair, 1, 0, CAP).expect(
         rt, "memory",
     );
-    let Some(pass) = passes.pop() else {
-        panic!(rt; "no pass")
-    };
-    take_a_read_lock(
-        rt,
-        &parking,
-        &ReadWriteLock::of_when_full(&monitor, when_full),
-        pass,
-    )
+    let pass = passes.pop().expect(rt, "a pass");
+    let lock = ReadWriteLock::of_when_full(&monitor, when_full);
+    take_a_read_lock(rt, &parking, &lock, pass)
 }
 
 fn at_a_semaphore<R: Abort + AllocGlobal + Wait + Clock>(rt: &R, when_full: WhenFull) -> Turns {
@@ -138,29 +126,17 @@ fn at_a_semaphore<R: Abort + AllocGlobal + Wait + Clock>(rt: &R, when_full: When
     let (monitor, mut passes) = open_semaphore(rt.alloc(), Policy::Fair, 0, 1, CAP).expect(
         rt, "memory",
     );
-    let Some(pass) = passes.pop() else {
-        panic!(rt; "no pass")
-    };
-    release(
-        rt,
-        &parking,
-        &Semaphore::of_when_full(&monitor, when_full),
-        pass,
-    )
+    let pass = passes.pop().expect(rt, "a pass");
+    let permits = Semaphore::of_when_full(&monitor, when_full);
+    release(rt, &parking, &permits, pass)
 }
 
 fn at_a_latch<R: Abort + AllocGlobal + Wait + Clock>(rt: &R, when_full: WhenFull) -> Turns {
     let parking = ThreadParking::open(rt, rt.alloc(), 1).expect(rt, "memory");
     let (monitor, mut passes) = open_latch(rt.alloc(), TURNS, 1, CAP).expect(rt, "memory");
-    let Some(pass) = passes.pop() else {
-        panic!(rt; "no pass")
-    };
-    count_down(
-        rt,
-        &parking,
-        &Latch::of_when_full(&monitor, when_full),
-        pass,
-    )
+    let pass = passes.pop().expect(rt, "a pass");
+    let latch = Latch::of_when_full(&monitor, when_full);
+    count_down(rt, &parking, &latch, pass)
 }
 
 #[test]

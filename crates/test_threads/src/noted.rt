@@ -3,14 +3,14 @@ ghost use Rattle.std.specs.Prelude.{◌≡◌, ◌<◌};
 
 use history::fault::Fault;
 use permit::{Call, Parking, ScriptedParking, Woke};
-use std::alloc::Global;
+use std::alloc::{AllocError, Global};
 use std::sync::Wait;
 use std::sync::atomic::{AtomicU64, Ordering};
 use std::thread;
 use std::time::{Clock, Duration};
 
 /// The moment at which its clock stays.
-pub const NOW: u64 = 1000;
+const NOW: u64 = 0;
 
 /// How many calls are recorded.
 const PLACES: u32 = 16;
@@ -61,13 +61,8 @@ impl NotedParking {
     }
 
     /// Returns the calls of park, unpark and interrupt, in order.
-    pub fn calls(self) -> Vec<Call> {
-        let NotedParking {
-            notes,
-            parks: _,
-            ends: _,
-        } = self;
-        notes.calls()
+    pub fn calls(&self, alloc: Global) -> Result<Vec<Call>, AllocError> {
+        self.notes.calls(alloc)
     }
 }
 

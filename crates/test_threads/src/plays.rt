@@ -5,22 +5,40 @@ ghost use Rattle.history.specs.Header.{IsInRange};
 use crate::asks::{Ask, DONE, Front, NO, Reply, perform};
 use crate::noted::NotedParking;
 use audit::verdict::{Verdict, check};
+use history::entries::History;
 use history::header::{Header, Object, Policy};
+use history_text::fitting::fits;
+use history_text::write_text;
 use monitor::{Closed, Monitor, Pass};
 use monitor_fronts::{open_latch, open_lock, open_read_write_lock, open_semaphore};
 use permit::{Call, Woke};
+use std::alloc::Global;
 use std::process::Abort;
 use std::sync::Wait;
 use std::thread::{Threads, join};
 use std::time::Clock;
 
-/// Closes a monitor that was opened with this header. Its history is legal, and each of its calls was counted
-/// by a pass.
+/// Returns whether the text of a history ends with these lines.
+fn ends_with(alloc: Global, header: &Header, history: &History, lines: &str) -> bool
+    requires { IsInRange header.now }
+{
+    if !fits(header, history) {
+        return false;
+    }
+    match write_text(alloc, header, history) {
+        Ok(text) => text.ends_with(lines.as_bytes()),
+        Err(_) => false,
+    }
+}
+
+/// Closes a monitor that was opened with this header. Its history is legal, its text ends with these lines,
+/// and each of its calls was counted by a pass.
 pub fn close_and_audit<H: Front, R: Abort + AllocGlobal + Wait>(
     rt: &R,
     monitor: Monitor<H>,
     header: &Header,
     passes: Vec<Pass>,
+    lines: &str,
 ) -> Closed
     requires is_of { All (λ p. p.lock ≡ monitor) passes.items }
     requires header { monitor.header ≡ header.now }
@@ -29,6 +47,10 @@ pub fn close_and_audit<H: Front, R: Abort + AllocGlobal + Wait>(
     let Ok(closed) = monitor.close(rt, passes) else {
         panic!(rt; "a pass is missing")
     };
+    assert!(rt;
+        ends_with(rt.alloc(), header, &closed.history, lines),
+        "{lines}"
+    );
     let verdict = check(rt.alloc(), header, &closed.history).expect(rt, "memory");
     assert!(rt; verdict == Verdict::Legal);
     assert_eq!(rt; closed.share, closed.history.calls());
@@ -56,6 +78,8 @@ pub struct Tale {
     pub behind: &'static [Row],
     /// How many calls have ended.
     pub calls: u64,
+    /// The last lines of the history's text.
+    pub lines: &'static str,
     /// The parks, unparks and interrupts.
     pub parked: &'static [Call],
 }
@@ -78,6 +102,7 @@ pub const LOCK: Tale = Tale {
     others: &[],
     behind: &[],
     calls: 0,
+    lines: "",
     parked: &[],
 };
 
@@ -237,7 +262,7 @@ fn end<H: Front, R: Abort + AllocGlobal + Wait + Clock>(
     requires range { IsInRange tale.now.header }
 {
     if tale.behind.is_empty() {
-        let closed = close_and_audit(rt, monitor, &tale.header, passes);
+        let closed = close_and_audit(rt, monitor, &tale.header, passes, tale.lines);
         assert_eq!(rt; closed.share, tale.calls, "{}", tale.name);
         return;
     }
@@ -271,7 +296,7 @@ fn play<H: Front + Send, R: Abort + AllocGlobal + Threads + Wait + Clock + Sync>
         passes = act_apart(rt, &monitor, &parking, passes, tale);
     }
     end(rt, monitor, &parking, passes, tale);
-    let calls = parking.calls();
+    let calls = parking.calls(rt.alloc()).expect(rt, "memory");
     assert!(rt; calls.as_slice() == tale.parked, "{}: {calls:?}", tale.name);
 }
 

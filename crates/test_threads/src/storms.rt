@@ -1,56 +1,58 @@
-//! Storms: thousands of calls or steps at one object, by a thread for each seat, while one more thread
-//! interrupts them. Each call ends even if nobody else does anything.
-ghost use Rattle.std.specs.Prelude.{◌≡◌, ◌≤◌, ◌<◌, All};
+//! Storms: thousands of steps or calls at one object. Each ends even if nobody else does anything. After a
+//! storm nobody waits or holds, the history is legal, and each of its calls was counted by a pass.
+ghost use Rattle.std.specs.Prelude.{◌≡◌, ◌≤◌, All};
 ghost use Rattle.history.specs.Header.{IsInRange};
 ghost use Rattle.monitor.specs.Stepping.{IsSame};
 
-use crate::asks::{Ask, DONE, Front};
+use crate::asks::{Ask, Front};
 use crate::chance::Chance;
 use crate::plays::close_and_audit;
-use history::entry::Word;
+use history::entry::{Mode, Word};
 use history::fault::Fault;
 use history::header::{Header, Object, Policy};
 use history::step::{Answer, Step};
 use monitor::{Closed, Monitor, Now, Pass};
-use monitor_fronts::{open_latch, open_lock, open_read_write_lock, open_semaphore};
-use permit::{Parking, ThreadParking};
+use monitor_fronts::{open_lock, open_read_write_lock, open_semaphore};
+use permit::{ScriptedParking, Woke};
 use std::process::Abort;
 use std::sync::Wait;
 use std::sync::atomic::{AtomicU32, Ordering};
 use std::thread;
-use std::thread::{Threads, join};
+use std::thread::Threads;
 use std::time::{Clock, Duration};
 
 /// What the threads of a storm do.
-#[derive(Clone, Copy)]
+#[derive(Clone, Copy, PartialEq, Eq)]
 enum Way {
-    /// Pseudo-random calls.
-    Calls,
-    /// Pseudo-random steps. None but those of the first seat waits for the critical section.
-    Steps,
-    /// Each acquires the lock and releases it.
-    Pairs,
+    /// A thread for each seat makes pseudo-random steps of its own.
+    Own,
+    /// A thread for each seat makes those steps of one list that are its own.
+    Listed,
+    /// One thread makes all steps of the list.
+    OneSteps,
+    /// One thread makes calls from a list.
+    OneCalls,
 }
 
 #[derive(Clone, Copy)]
 struct Storm {
     way: Way,
     header: Header,
-    /// How often each thread calls or steps.
+    /// How many steps or calls the list has, or each thread.
     rounds: u32,
-    /// Calls that each thread repeats at its end until they fail. So no thread waits for its holds.
-    gives: &'static [Ask],
+    /// Releases that each thread repeats at its end until they fail. So no thread waits for its holds.
+    gives: &'static [Step],
     /// At least this number of calls end.
     least: u64,
 }
 
-/// Microseconds between two interrupts.
-const BETWEEN: u64 = 700;
+impl Storm {
+    fn is_of_one(&self) -> bool {
+        self.way == Way::OneSteps || self.way == Way::OneCalls
+    }
+}
 
-/// More interrupts than are sent before the threads are done.
-const INTERRUPTS: u32 = 200_000;
-
-/// How often a call is made at the end. No seat has more holds than that.
+/// How often a release is made at the end. No seat has more holds than that.
 const MOST_HOLDS: u32 = 10_000;
 
 /// How often a thread retries at a busy monitor, or checks for another thread, once a millisecond.
@@ -80,7 +82,7 @@ fn step_by_turn<H: Front, R: Abort + Clock>(
     panic!(rt; "the monitor is always busy")
 }
 
-/// Makes a step. The first seat sleeps while the monitor is busy, so a step that waits for nobody must wake it.
+/// Makes a step. Only the first seat sleeps while the monitor is busy, so that `step_now` must wake it.
 fn step_once<H: Front, R: Abort + Wait + Clock>(
     rt: &R,
     monitor: &Monitor<H>,
@@ -108,25 +110,17 @@ fn waits_behind(answer: Result<Answer, Fault>, waited: bool) -> bool {
     }
 }
 
-/// Makes pseudo-random steps, and then gives up what the seat waits for. A seat within an await waits for the
-/// lock.
-fn step_all<H: Front, R: Abort + Wait + Clock>(
+/// Gives up what the seat waits for. A seat within an await waits for the lock.
+fn give_up<H: Front, R: Abort + Wait + Clock>(
     rt: &R,
     monitor: &Monitor<H>,
     pass: &mut Pass,
-    storm: &Storm,
+    waited: bool,
 )
     requires { pass.old.lock ≡ monitor.now }
     ensures { IsSame pass.old pass.new }
 {
-    let mut chance = Chance::of_seat(pass.seat());
-    let mut waits = false;
-    for _ in 0..storm.rounds {
-        let step = chance.step(storm.header.object, waits);
-        waits = waits_behind(step_once(rt, monitor, pass, step), waits);
-        chance.pause(rt);
-    }
-    waits = waits_behind(step_once(rt, monitor, pass, Step::Expire), waits);
+    let mut waits = waits_behind(step_once(rt, monitor, pass, Step::Expire), waited);
     for _ in 0..LOOKS {
         if !waits {
             break;
@@ -136,43 +130,48 @@ fn step_all<H: Front, R: Abort + Wait + Clock>(
     }
 }
 
-fn call_all<H: Front, R: Wait + Clock>(
+/// Makes pseudo-random steps, or those of the list that are the seat's own.
+fn step_all<H: Front, R: Abort + Wait + Clock>(
     rt: &R,
     monitor: &Monitor<H>,
-    parking: &ThreadParking,
     pass: &mut Pass,
     storm: &Storm,
 )
-    requires own { pass.old.lock ≡ monitor.now }
-    requires places { monitor.now.header.seats ≤ parking.now }
+    requires { pass.old.lock ≡ monitor.now }
     ensures { IsSame pass.old pass.new }
 {
-    let mut chance = Chance::of_seat(pass.seat());
-    for number in 0..storm.rounds {
-        let ask = match storm.way {
-            Way::Pairs if number % 2 == 0 => Ask::Lock,
-            Way::Pairs => Ask::Unlock,
-            _ => chance.ask(storm.header.object),
+    let own = pass.seat();
+    let mut list = Chance::of_list();
+    let mut chance = Chance::of_seat(own);
+    let mut waits = false;
+    for _ in 0..storm.rounds {
+        let (seat, step) = if storm.way == Way::Listed {
+            list.listed_step()
+        } else {
+            (own, chance.step(storm.header.object, waits))
         };
-        let _reply = H::ask(rt, monitor, parking, pass, ask);
-        chance.pause(rt);
+        if seat == own {
+            waits = waits_behind(step_once(rt, monitor, pass, step), waits);
+            chance.pause(rt);
+        }
     }
+    give_up(rt, monitor, pass, waits);
 }
 
-fn give_back<H: Front, R: Wait + Clock>(
+/// Releases until that fails.
+fn give_back<H: Front, R: Abort + Wait + Clock>(
     rt: &R,
     monitor: &Monitor<H>,
-    parking: &ThreadParking,
     pass: &mut Pass,
-    ask: Ask,
+    give: Step,
 )
-    requires own { pass.old.lock ≡ monitor.now }
-    requires places { monitor.now.header.seats ≤ parking.now }
+    requires { pass.old.lock ≡ monitor.now }
     ensures { IsSame pass.old pass.new }
 {
     for _ in 0..MOST_HOLDS {
-        if H::ask(rt, monitor, parking, pass, ask) != DONE {
-            break;
+        match step_once(rt, monitor, pass, give) {
+            Ok(Answer::Recorded(entry, _)) if entry.word == Word::Gave => {}
+            _ => break,
         }
     }
 }
@@ -181,117 +180,52 @@ fn give_back<H: Front, R: Wait + Clock>(
 fn work<H: Front, R: Abort + Wait + Clock>(
     rt: &R,
     monitor: &Monitor<H>,
-    parking: &ThreadParking,
     pass: Pass,
     storm: &Storm,
-    counts: &Counts,
+    started: &AtomicU32,
 ) -> Pass
-    requires own { pass.lock ≡ monitor.now }
-    requires places { monitor.now.header.seats ≤ parking.now }
+    requires { pass.lock ≡ monitor.now }
     ensures { IsSame pass result }
 {
     let mut own = pass;
-    counts.start_together(rt, u32::from(storm.header.seats));
-    match storm.way {
-        Way::Steps => step_all(rt, monitor, &mut own, storm),
-        _ => call_all(rt, monitor, parking, &mut own, storm),
+    start_together(rt, started, u32::from(storm.header.seats));
+    step_all(rt, monitor, &mut own, storm);
+    for give in storm.gives {
+        give_back(rt, monitor, &mut own, *give);
     }
-    for ask in storm.gives {
-        give_back(rt, monitor, parking, &mut own, *ask);
-    }
-    counts.done.fetch_add(1, Ordering::SeqCst);
     own
 }
 
-/// How many threads have started, and how many are done.
-#[derive(Drop)]
-struct Counts {
-    there: AtomicU32,
-    done: AtomicU32,
-}
-
-impl Counts {
-    fn new() -> Counts {
-        Counts {
-            there: AtomicU32::new(0),
-            done: AtomicU32::new(0),
+/// Waits for a while until `seats` threads have started.
+fn start_together<R: Clock>(rt: &R, started: &AtomicU32, seats: u32) {
+    started.fetch_add(1, Ordering::SeqCst);
+    for _ in 0..100 {
+        if seats <= started.load(Ordering::SeqCst) {
+            break;
         }
-    }
-
-    /// Waits for a while until `seats` threads have started.
-    fn start_together<R: Clock>(&self, rt: &R, seats: u32) {
-        self.there.fetch_add(1, Ordering::SeqCst);
-        for _ in 0..100 {
-            if seats <= self.there.load(Ordering::SeqCst) {
-                break;
-            }
-            rest(rt);
-        }
+        rest(rt);
     }
 }
 
 fn work_in_threads<H: Front + Send, R: Abort + Threads + Wait + Clock + Sync>(
     rt: &R,
     monitor: &Monitor<H>,
-    parking: &ThreadParking,
     passes: Vec<Pass>,
     storm: &Storm,
-    counts: &Counts,
+    started: &AtomicU32,
 ) -> Vec<Pass>
-    requires own { All (λ p. p.lock ≡ monitor.now) passes.items }
-    requires places { monitor.now.header.seats ≤ parking.now }
+    requires { All (λ p. p.lock ≡ monitor.now) passes.items }
     ensures { All (λ p. p.lock ≡ monitor.now) result.items }
 {
     let worked = thread::map_vec(
         rt,
         passes,
         &|pass: Pass| -> Pass
-            requires { (pass.lock ≡ monitor.now) × (monitor.now.header.seats ≤ parking.now) }
+            requires { pass.lock ≡ monitor.now }
             ensures { result.lock ≡ monitor.entry.now }
-        { work(rt, monitor, parking, pass, storm, counts) },
+        { work(rt, monitor, pass, storm, started) },
     );
     worked.expect(rt, "memory")
-}
-
-/// Interrupts the first four seats one after another until all are done.
-fn interrupt_all<R: Clock>(rt: &R, parking: &ThreadParking, seats: u32, counts: &Counts)
-    requires { 4 ≤ parking.now }
-{
-    for number in 0..INTERRUPTS {
-        if seats <= counts.done.load(Ordering::SeqCst) {
-            break;
-        }
-        parking.interrupt((number % 4) as u16);
-        thread::sleep(rt, Duration::from_micros(BETWEEN));
-    }
-}
-
-fn work_and_interrupt<H: Front + Send, R: Abort + Threads + Wait + Clock + Sync>(
-    rt: &R,
-    monitor: &Monitor<H>,
-    parking: &ThreadParking,
-    passes: Vec<Pass>,
-    storm: &Storm,
-) -> Vec<Pass>
-    requires own { All (λ p. p.lock ≡ monitor.now) passes.items }
-    requires places { (monitor.now.header.seats ≤ parking.now) × (4 ≤ parking.now) }
-    ensures { All (λ p. p.lock ≡ monitor.now) result.items }
-{
-    let counted = Counts::new();
-    let counts = &counted;
-    let seats = u32::from(storm.header.seats);
-    let (worked, ()) = join(
-        rt,
-        move || -> Vec<Pass>
-            requires { All (λ p. p.lock ≡ monitor.now) passes.items
-                × (monitor.now.header.seats ≤ parking.now) }
-            ensures { All (λ p. p.lock ≡ monitor.entry.now) result.items }
-        { work_in_threads(rt, monitor, parking, passes, storm, counts) },
-        ||
-            requires { 4 ≤ parking.now }
-        { interrupt_all(rt, parking, seats, counts) },
-    );
-    worked
 }
 
 /// Returns whether nobody waits or holds a lock. A semaphore's permits may be held.
@@ -304,7 +238,100 @@ fn is_idle(object: &Object, closed: &Closed) -> bool {
     balance.exclusive == 0 && reads == 0 && balance.line == 0 && balance.sleepers == 0
 }
 
-/// Runs a storm. Then the monitor is closed and audited, and nobody waits or holds a lock.
+/// Makes a step or a call. Returns whether the monitor was busy.
+fn take<H: Front, R: Wait + Clock>(
+    rt: &R,
+    monitor: &Monitor<H>,
+    parking: &ScriptedParking,
+    pass: &mut Pass,
+    ask: Ask,
+) -> bool
+    requires own { pass.old.lock ≡ monitor.now }
+    requires places { monitor.now.header.seats ≤ 256 }
+    ensures { IsSame pass.old pass.new }
+{
+    if let Ask::Step(step) = ask {
+        return matches!(monitor.step_now(pass, step), Ok(Now::Busy));
+    }
+    let _reply = H::ask(rt, monitor, parking, pass, ask);
+    false
+}
+
+/// The same with the pass of a seat.
+fn take_at<H: Front, R: Wait + Clock>(
+    rt: &R,
+    monitor: &Monitor<H>,
+    parking: &ScriptedParking,
+    passes: &mut Vec<Pass>,
+    seat: u16,
+    ask: Ask,
+) -> bool
+    requires own { All (λ p. p.lock ≡ monitor.now) passes.old.items }
+    requires places { monitor.now.header.seats ≤ 256 }
+    ensures { All (λ p. p.lock ≡ monitor.now) passes.new.items }
+{
+    match passes.get_mut(usize::from(seat)) {
+        Some(pass) => take(rt, monitor, parking, pass, ask),
+        None => false,
+    }
+}
+
+/// Returns the results of parks that end each wait: deadlines and interrupts in turn.
+fn endings<R: Abort + AllocGlobal>(rt: &R, count: u32) -> Vec<Woke> {
+    let mut endings = Vec::new(rt.alloc());
+    for number in 0..count {
+        let ending = if number % 2 == 0 {
+            Woke::Deadline
+        } else {
+            Woke::Interrupted
+        };
+        endings.push(ending).expect(rt, "memory");
+    }
+    endings
+}
+
+/// Takes the list in one thread. No step finds the monitor busy.
+fn take_all<H: Front, R: Abort + AllocGlobal + Wait + Clock>(
+    rt: &R,
+    monitor: &Monitor<H>,
+    passes: &mut Vec<Pass>,
+    storm: &Storm,
+)
+    requires own { All (λ p. p.lock ≡ monitor.now) passes.old.items }
+    requires places { monitor.now.header.seats ≤ 256 }
+    ensures { All (λ p. p.lock ≡ monitor.now) passes.new.items }
+{
+    let endings = endings(rt, storm.rounds);
+    let parking = ScriptedParking::open(rt.alloc(), endings, 0).expect(rt, "memory");
+    let mut list = Chance::of_list();
+    for _ in 0..storm.rounds {
+        let (seat, ask) = list.listed(storm.way == Way::OneSteps);
+        let is_busy = take_at(rt, monitor, &parking, passes, seat, ask);
+        assert!(rt; !is_busy, "the monitor is busy");
+    }
+}
+
+/// Takes all steps or calls, in one thread or in many.
+fn blow<H: Front + Send, R: Abort + AllocGlobal + Threads + Wait + Clock + Sync>(
+    rt: &R,
+    monitor: &Monitor<H>,
+    passes: Vec<Pass>,
+    storm: &Storm,
+) -> Vec<Pass>
+    requires own { All (λ p. p.lock ≡ monitor.now) passes.items }
+    requires places { monitor.now.header.seats ≤ 256 }
+    ensures { All (λ p. p.lock ≡ monitor.now) result.items }
+{
+    if storm.is_of_one() {
+        let mut passes = passes;
+        take_all(rt, monitor, &mut passes, storm);
+        return passes;
+    }
+    let started = AtomicU32::new(0);
+    work_in_threads(rt, monitor, passes, storm, &started)
+}
+
+/// Runs a storm.
 fn rage<H: Front + Send, R: Abort + AllocGlobal + Threads + Wait + Clock + Sync>(
     rt: &R,
     storm: &Storm,
@@ -314,15 +341,12 @@ fn rage<H: Front + Send, R: Abort + AllocGlobal + Threads + Wait + Clock + Sync>
     requires header { opened.0.header ≡ storm.now.header }
     requires range { IsInRange storm.now.header }
 {
-    let seats = storm.header.seats;
-    let parking = ThreadParking::open(rt, rt.alloc(), seats).expect(rt, "memory");
-    assert!(rt; 4 <= seats);
     let (monitor, passes) = opened;
-    let passes = work_and_interrupt(rt, &monitor, &parking, passes, storm);
-    let closed = close_and_audit(rt, monitor, &storm.header, passes);
+    let passes = blow(rt, &monitor, passes, storm);
+    let closed = close_and_audit(rt, monitor, &storm.header, passes, "");
     assert!(rt; storm.least <= closed.share, "{} calls", closed.share);
     assert!(rt;
-        is_idle(&storm.header.object, &closed),
+        storm.is_of_one() || is_idle(&storm.header.object, &closed),
         "somebody waits or holds"
     );
 }
@@ -350,10 +374,7 @@ fn storm_at<R: Abort + AllocGlobal + Threads + Wait + Clock + Sync>(rt: &R, stor
             let opened = open_semaphore(alloc, policy, permits, seats, cap).expect(rt, "memory");
             rage(rt, storm, opened);
         }
-        Object::Latch(count) => {
-            let opened = open_latch(alloc, count, seats, cap).expect(rt, "memory");
-            rage(rt, storm, opened);
-        }
+        Object::Latch(_) => panic!(rt; "no step of a latch is undone"),
     }
 }
 
@@ -364,12 +385,15 @@ const FOUR: Header = Header {
     cap: 100_000,
 };
 
+const GIVE: Step = Step::Give(Mode::X, 1);
+
+/// At least one of sixteen steps ends a call.
 const LOCK: Storm = Storm {
-    way: Way::Calls,
+    way: Way::Own,
     header: FOUR,
     rounds: 2500,
-    gives: &[Ask::Unlock],
-    least: 10_000,
+    gives: &[GIVE],
+    least: 625,
 };
 
 const READ_WRITE: Storm = Storm {
@@ -377,7 +401,7 @@ const READ_WRITE: Storm = Storm {
         object: Object::ReadWrite(Policy::NonFair),
         ..FOUR
     },
-    gives: &[Ask::Unlock, Ask::EndRead],
+    gives: &[GIVE, Step::Give(Mode::S, 1)],
     ..LOCK
 };
 
@@ -391,78 +415,35 @@ const SEMAPHORE: Storm = Storm {
     ..LOCK
 };
 
-/// It opens in the middle of the storm.
-const LATCH: Storm = Storm {
+/// The greatest number of seats.
+const CROWD: Storm = Storm {
     header: Header {
-        object: Object::Latch(4000),
-        conditions: 0,
+        object: Object::Lock(Policy::NonFair),
+        seats: 256,
         ..FOUR
     },
-    gives: &[],
+    rounds: 40,
+    least: 640,
     ..LOCK
 };
 
 #[test]
-fn four_threads_call_a_lock_10_000_times(rt: HostRuntime) {
-    storm_at(&rt, &LOCK);
-}
-
-#[test]
-fn four_threads_call_a_read_write_lock_10_000_times(rt: HostRuntime) {
-    storm_at(&rt, &READ_WRITE);
-}
-
-#[test]
-fn four_threads_call_a_semaphore_10_000_times(rt: HostRuntime) {
-    storm_at(&rt, &SEMAPHORE);
-}
-
-#[test]
-fn four_threads_call_a_latch_10_000_times(rt: HostRuntime) {
-    storm_at(&rt, &LATCH);
-}
-
-// At least one of sixteen steps ended a call.
-#[test]
-fn four_threads_step_each_object_10_000_times(rt: HostRuntime) {
-    for calls in &[LOCK, READ_WRITE, SEMAPHORE] {
-        let steps = Storm {
-            way: Way::Steps,
-            least: 625,
-            ..*calls
-        };
-        storm_at(&rt, &steps);
+fn threads_step_each_object_10_000_times(rt: HostRuntime) {
+    for storm in &[LOCK, READ_WRITE, SEMAPHORE, CROWD] {
+        storm_at(&rt, storm);
     }
 }
 
-/// The greatest number of seats.
+/// One list for all seats, in each way.
 #[test]
-fn threads_of_256_seats_step_a_lock_40_times_each(rt: HostRuntime) {
-    let steps = Storm {
-        way: Way::Steps,
-        header: Header {
-            object: Object::Lock(Policy::NonFair),
-            seats: 256,
-            ..FOUR
-        },
-        rounds: 40,
-        least: 640,
-        ..LOCK
-    };
-    storm_at(&rt, &steps);
-}
-
-#[test]
-fn four_threads_take_a_lock_250_times_each_and_lose_no_call(rt: HostRuntime) {
-    let pairs = Storm {
-        way: Way::Pairs,
-        header: Header {
-            object: Object::Lock(Policy::NonFair),
-            ..FOUR
-        },
-        rounds: 500,
-        least: 2000,
-        ..LOCK
-    };
-    storm_at(&rt, &pairs);
+fn a_list_of_10_000_steps_and_one_of_calls_is_taken(rt: HostRuntime) {
+    for way in [Way::OneSteps, Way::Listed, Way::OneCalls] {
+        let storm = Storm {
+            way,
+            rounds: 10_000,
+            least: 1000,
+            ..LOCK
+        };
+        storm_at(&rt, &storm);
+    }
 }

@@ -9,8 +9,8 @@ macro_rules! rows {
     };
 }
 
-mod dropped;
 pub mod fronts;
+mod known;
 mod woken;
 
 const PLAIN: Call = Call::Park {
@@ -30,7 +30,7 @@ const A_MINUTE: u32 = 60_000;
 
 const TIMED: Call = Call::Park {
     seat: 1,
-    until: Some(61_000),
+    until: Some(60_000),
     interruptible: true,
 };
 

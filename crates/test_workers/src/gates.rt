@@ -1,55 +1,62 @@
-//! Gates that know the order of calls, or count them.
+//! Gates that let workers wait for each other, or count their calls.
 ghost use Rattle.std.specs.Prelude.{◌≡◌, true};
 
 use std::sync::Wait;
-use std::sync::atomic::{AtomicU64, Ordering};
+use std::sync::atomic::{AtomicBool, AtomicU64, Ordering};
 use std::thread;
 use std::time::{Clock, Duration};
 use workers::Gate;
 
-/// How often a worker checks for its turn, once a millisecond. After that the gate is shut, so that workers
-/// that run one after another fail and don't hang.
-const LOOKS: u32 = 10_000;
+/// How often a worker checks, once a millisecond. After that the gate is shut: workers that run one after
+/// another fail, and don't hang.
+const TURNS: u32 = 10_000;
 
-/// Lets one call go at a time: the workers take turns in this order. After the last turn it is open or shut.
+/// Lets two workers make two calls each, if they run at the same time. Worker 1 waits with its first call
+/// until worker 0 has asked for one, and worker 0 until worker 1 has made both.
 #[derive(Drop)]
-pub struct Turns {
-    order: &'static [u16],
-    opens: bool,
-    made: AtomicU64,
+pub struct Crossing {
+    has_asked: AtomicBool,
+    has_ended: AtomicBool,
 }
 
-impl Turns {
-    pub fn new(order: &'static [u16], opens: bool) -> Turns {
-        Turns {
-            order,
-            opens,
-            made: AtomicU64::new(0),
+impl Crossing {
+    pub fn new() -> Crossing {
+        Crossing {
+            has_asked: AtomicBool::new(false),
+            has_ended: AtomicBool::new(false),
         }
     }
-
-    /// Returns how many calls have returned.
-    pub fn made(&self) -> u64 {
-        self.made.load(Ordering::SeqCst)
-    }
 }
 
-impl Gate for Turns {
+/// Returns whether a flag is set in time.
+fn is_set<R: Clock>(rt: &R, flag: &AtomicBool) -> bool {
+    for _ in 0..TURNS {
+        if flag.load(Ordering::SeqCst) {
+            return true;
+        }
+        thread::sleep(rt, Duration::from_millis(1));
+    }
+    false
+}
+
+impl Gate for Crossing {
     ghost answers = { λ _ _ _ _. Unit {0} };
 
-    fn before<R: Wait + Clock>(&self, rt: &R, worker: u16, _call: u64) -> bool {
-        for _ in 0..LOOKS {
-            match self.order.get(self.made() as usize) {
-                None => return self.opens,
-                Some(next) if *next == worker => return true,
-                Some(_) => thread::sleep(rt, Duration::from_millis(1)),
+    fn before<R: Wait + Clock>(&self, rt: &R, worker: u16, call: u64) -> bool {
+        match (worker, call) {
+            (0, 0) => {
+                self.has_asked.store(true, Ordering::SeqCst);
+                is_set(rt, &self.has_ended)
             }
+            (1, 0) => is_set(rt, &self.has_asked),
+            _ => true,
         }
-        false
     }
 
-    fn after<R: Wait + Clock>(&self, _rt: &R, _worker: u16, _call: u64) {
-        self.made.fetch_add(1, Ordering::SeqCst);
+    fn after<R: Wait + Clock>(&self, _rt: &R, worker: u16, call: u64) {
+        if worker == 1 && call == 1 {
+            self.has_ended.store(true, Ordering::SeqCst);
+        }
     }
 }
 

@@ -1,8 +1,6 @@
-//! Tests of scripts that threads run: what gates see and stop, runs that lack memory, and devices that fail.
+//! Tests of scripts that threads run: what gates see and stop, and runs that lack memory.
 #![tactic(auto)]
 
-#[cfg(test)]
-mod devices;
 #[cfg(test)]
 mod gated;
 #[cfg(test)]
@@ -11,3 +9,5 @@ mod gates;
 mod memory;
 #[cfg(test)]
 mod runs;
+#[cfg(test)]
+mod texts;

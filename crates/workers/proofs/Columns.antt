@@ -98,10 +98,10 @@ homes_more : (ps : List Shown) (p : Shown) → homes (ps ++ p ∷ []) ≡ homes 
 homes_more [] p = refl
 homes_more (q ∷ ps) p = ap (λ z. home_of q ∷ z) (homes_more ps p)
 
-heads : {A : Type 0} (x y : A) (xs ys : List A) → x ∷ xs ≡ y ∷ ys → x ≡ y
+pub heads : {A : Type 0} (x y : A) (xs ys : List A) → x ∷ xs ≡ y ∷ ys → x ≡ y
 heads x y xs ys same = cc
 
-tails : {A : Type 0} (x y : A) (xs ys : List A) → x ∷ xs ≡ y ∷ ys → xs ≡ ys
+pub tails : {A : Type 0} (x y : A) (xs ys : List A) → x ∷ xs ≡ y ∷ ys → xs ≡ ys
 tails x y xs ys same = cc
 
 column_more : (n : ℕ) (lock : LockId) (column : List Shown) (p : Shown) → homes column ≡ homes_below lock n →
@@ -319,8 +319,3 @@ parts_sound (lock ∷ locks) (column ∷ columns) (part ∷ parts) (first, rest)
 pub empties_count : (n : ℕ) → length (empties n) ≡ n
 empties_count zero = refl
 empties_count (suc n) = ap suc (empties_count n)
-
--- a list with nothing in it
-pub none_left : {A : Type 0} (xs : List A) → length xs ≡ 0 → xs ≡ []
-none_left [] none = refl
-none_left (x ∷ xs) none = absurd (omega (arith, none))

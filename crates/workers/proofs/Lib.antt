@@ -5,5 +5,5 @@ mod Objects
 mod Passing
 mod Settling
 mod Starting
-mod Whole
+mod AllWorkers
 mod Working

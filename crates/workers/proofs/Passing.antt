@@ -1,8 +1,8 @@
--- The passes of a worker behind its calls.
+-- The passes of a worker after its calls.
 use Rattle.std.proofs.Common.{◌≡◌, ℕ, zero, suc, ◌+◌, ◌<◌, List, [], ◌∷◌, ◌++◌, length, map, reverse, take, refl, ap, sym, subst, arith, ◌∙◌, get_or, set}
 use Rattle.std.proofs.lemmas.List.{reverse-append, take_more}
 use Rattle.std.proofs.lemmas.Option.{slice_get_read}
-use Rattle.monitor.specs.Shown.{Shown}
+use Rattle.monitor.specs.Shown.{Shown, IsSound}
 use Rattle.monitor.specs.Stepping.{IsSame}
 use Rattle.script.specs.declared.action.Action.{Action}
 use Rattle.script.specs.declared.call.Call.{Call}
@@ -23,8 +23,9 @@ set_homes (p ∷ ps) (suc k) was now below at same =
 
 pub acts_on : (call : Call) (place : ℕ) (action : Action) (ps : List Shown) (was now : Shown)
     (reply : Reply) (seats : ℕ) → call ≡ On place action → place < length ps → was ≡ get_or ps place was →
-    IsActed seats action was reply now → IsCalled call ps (unrecorded_by reply) (set ps place now)
-acts_on call place action ps was now reply seats is below at acted =
+    IsActed seats action was reply now → IsSame was now → IsSound now →
+    IsCalled call ps (unrecorded_by reply) (set ps place now)
+acts_on call place action ps was now reply seats is below at acted same shows =
     subst (λ (z : Call). IsCalled z ps (unrecorded_by reply) (set ps place now)) (sym is) record {
       before = was;
       there = slice_get_read ps (length ps) place was refl below at;
@@ -32,6 +33,8 @@ acts_on call place action ps was now reply seats is below at acted =
       after = now;
       seats = seats;
       acted = acted;
+      same = same;
+      shows = shows;
       others = refl;
       unrecorded = refl;
     }
@@ -66,7 +69,7 @@ made_more done call old u between v new made called =
     subst (λ (z : List Call). Made z old (u + v) new) (sym (reverse-append done (call ∷ [])))
     (between, u, v, made, called, refl)
 
--- calls behind calls
+-- calls after calls
 pub made_both : (later earlier : List Call) (old : List Shown) (u : ℕ) (between : List Shown) (v : ℕ)
     (new : List Shown) → Made earlier old u between → Made later between v new →
     Made (later ++ earlier) old (u + v) new

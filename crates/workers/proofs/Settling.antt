@@ -59,7 +59,7 @@ settles_end all first rest columns u none s =
     subst (λ (z : ℕ). AddUp all z) same
     (s.1 0 (subst (λ (z : List Worked). AddUp z 0) (sym none) refl))
 
--- the columns behind the last
+-- the columns after the last
 pub first_fits : (all : List Worked) (first : List (List Shown)) (rest : List Worked)
     (columns : List (List Shown)) (u : ℕ) (done : Worked) (others : List Worked) → rest ≡ done ∷ others →
     Settles all first rest columns u → length done.passes ≤ length columns

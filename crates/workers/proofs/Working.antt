@@ -1,5 +1,6 @@
 -- What all workers leave.
-use Rattle.std.proofs.Common.{◌≡◌, ℕ, suc, ◌+◌, ◌*◌, ◌<◌, ◌≤◌, Bool, true, List, [], ◌∷◌, length, Some, Ok, Err, Result, ap, sym, subst, arith, ◌∙◌, inl, inr, ⊎_elim, get_or}
+use Rattle.std.proofs.Common.{◌≡◌, ℕ, suc, ◌+◌, ◌*◌, ◌<◌, ◌≤◌, Bool, true, List, [], ◌∷◌, length, Ok, Err, Result, ap, sym, subst, arith, ◌∙◌, inl, inr, ⊎_elim, get_or}
+use Rattle.std.proofs.lemmas.Option.{same_Some}
 use Rattle.std.proofs.Math.Nat.{eq-or-lt_of_le, mul-le-mul_right, suc-mul}
 use Rattle.monitor.specs.Shown.{Shown}
 use Rattle.script.specs.Script.{WorkerView}
@@ -11,9 +12,6 @@ use Rattle.workers.specs.Reports.{AllMade}
 use Rattle.workers.specs.Refused.{WasRefused}
 use Rattle.workers.specs.Works.{AddUp, AllWorked, Ends, HasStopped, HasWorked, IsTold, LetsAll, LetsBelow, StopsBelow, StopsFirst, WorksAt, calls_of, passes_left}
 
-same_some : {A : Type 0} (x y : A) → Some x ≡ Some y → x ≡ y
-same_some x y same = cc
-
 at_first : (answers : ℕ → ℕ → Bool → Type 0) (seat : ℕ) (w : WorkerView) (ws : List WorkerView)
     (old : List Shown) (olds : List (List Shown)) (done : Worked) →
     WorksAt answers seat (w ∷ ws) (old ∷ olds) 0 done → HasWorked answers seat w old done
@@ -22,9 +20,9 @@ at_first answers seat w ws old olds done at =
     let here : at.seat ≡ seat = omega (arith, is) in
     subst (λ (z : ℕ). HasWorked answers z w old done) here
     (subst (λ (z : WorkerView). HasWorked answers at.seat z old done)
-    (sym (same_some w at.worker at.worker_is))
+    (sym (same_Some w at.worker at.worker_is))
     (subst (λ (z : List Shown). HasWorked answers at.seat at.worker z done)
-    (sym (same_some old at.old at.old_is))
+    (sym (same_Some old at.old at.old_is))
     at.worked))
 
 at_rest : (answers : ℕ → ℕ → Bool → Type 0) (seat : ℕ) (w : WorkerView) (ws : List WorkerView)

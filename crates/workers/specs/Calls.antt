@@ -3,8 +3,8 @@ use Rattle.std.specs.Prelude.{◌≡◌, ℕ, zero, suc, ◌+◌, List, [], ◌�
 use Rattle.history.specs.declared.step.Step.TheVariants as step
 use Rattle.monitor.specs.Acquire.{IsAcquire}
 use Rattle.monitor.specs.AwaitOn.{IsAwait}
-use Rattle.monitor.specs.Shown.{Shown}
-use Rattle.monitor.specs.Stepping.{IsEntered, IsTrim}
+use Rattle.monitor.specs.Shown.{Shown, IsSound}
+use Rattle.monitor.specs.Stepping.{IsEntered, IsSame, IsTrim}
 use Rattle.permit.specs.Deed.{IsDone, interrupted}
 use Rattle.script.specs.declared.action.Action.{Action}
 use Rattle.script.specs.declared.action.Action.TheVariants.{Acquire, TryAcquire, Release, AwaitOn, Signal, SignalAll, Drain, Trim}
@@ -33,7 +33,8 @@ unrecorded_by (Entered (Err f)) = 1
 unrecorded_by (Trimmed (Ok count)) = 0
 unrecorded_by (Trimmed (Err f)) = 1
 
--- A call of the object at a place: it changed the pass there as the monitor's call does, and no other pass.
+-- A call of the object at a place: it changed the pass there as the monitor's call does, and no other pass. The pass
+-- stays of its monitor and its seat, and what it shows is sound: its share is the number of its calls that ended.
 pub record ActsOn (place : ℕ) (action : Action) (old : List Shown) (u : ℕ) (new : List Shown) : Type 0 where
   pub before : Shown
   pub there : slice_get old place ≡ Some before
@@ -41,6 +42,8 @@ pub record ActsOn (place : ℕ) (action : Action) (old : List Shown) (u : ℕ) (
   pub after : Shown
   pub seats : ℕ  -- of the place to park
   pub acted : IsActed seats action before reply after
+  pub same : IsSame before after
+  pub shows : IsSound after
   pub others : new ≡ slice_set old place after
   pub unrecorded : u ≡ unrecorded_by reply
 

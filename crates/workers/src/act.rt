@@ -1,5 +1,6 @@
 //! A worker's call as a call of a monitor.
 ghost use Rattle.std.specs.Prelude.{◌≡◌, ◌≤◌};
+ghost use Rattle.monitor.specs.Shown.{IsSound};
 ghost use Rattle.monitor.specs.Stepping.{IsSame};
 ghost use Rattle.workers.specs.Calls.{IsActed};
 
@@ -22,6 +23,7 @@ pub(crate) fn act<R: Wait + Clock>(
     requires is_of { pass.old.lock ≡ monitor.now }
     requires places { monitor.now.header.seats ≤ parking.now }
     ensures same { IsSame pass.old pass.new }
+    ensures shows { IsSound pass.new }
     ensures acted { IsActed parking.now action pass.old result pass.new }
 {
     match action {

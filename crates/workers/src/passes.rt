@@ -6,7 +6,7 @@ use monitor::Pass;
 use std::alloc::{AllocError, Global};
 use std::marker::Model;
 
-/// Passes in order. Contracts see what each shows.
+/// Passes in order. Contracts see what each pass shows.
 #[derive(Drop)]
 pub(crate) struct Passes {
     pub(crate) list: Vec<Pass>,

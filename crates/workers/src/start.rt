@@ -44,7 +44,7 @@ impl Start {
         self.word.wake_all();
     }
 
-    /// Waits until the workers may begin. If they were called off instead, `NotStarted` is returned for this one.
+    /// Waits until the workers may begin. If they were called off instead, returns `NotStarted` for this one.
     #[tactic(auto, using(crate::specs::Refused::refused))]
     pub(crate) fn wait<R: Wait>(&self, rt: &R, worker: u16) -> Result<(), RunFault>
         ensures { IfErr result (λ fault. (fault ≡ NotStarted worker) × WasRefused worker) }

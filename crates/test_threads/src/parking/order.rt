@@ -186,5 +186,6 @@ fn a_script_answers_in_order_and_records_the_first_calls(rt: HostRuntime) {
     let parking = ScriptedParking::open(rt.alloc(), answers, 4).expect(&rt, "memory");
     assert_eq!(rt; parking.now(&rt), 0);
     answer_all(&rt, &parking, &SCRIPTED);
-    assert!(rt; parking.calls().as_slice() == RECORDED.as_slice());
+    let calls = parking.calls(rt.alloc()).expect(&rt, "memory");
+    assert!(rt; calls.as_slice() == RECORDED.as_slice());
 }

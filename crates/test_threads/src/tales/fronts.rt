@@ -42,41 +42,6 @@ const LOCKED: Tale = Tale {
     ..LOCK
 };
 
-/// Calls that aren't interruptible leave it pending.
-const PENDING: Tale = Tale {
-    name: "a pending interrupt is refused once",
-    rows: rows![
-        1 Interrupt => DONE, 1 Lock => DONE, 1 TryLock => YES, 1 LockInterruptibly => INTERRUPTED,
-        1 Interrupt => DONE, 1 TryLockFor(5) => INTERRUPTED, 1 TryLockFor(0) => YES,
-        1 Interrupt => DONE, 1 Wait(1) => INTERRUPTED, 1 Interrupt => DONE, 1 WaitFor(0, 5) => INTERRUPTED,
-        1 LockInterruptibly => DONE,
-    ],
-    calls: 8,
-    parked: &[INTERRUPTS, INTERRUPTS, INTERRUPTS, INTERRUPTS],
-    ..LOCK
-};
-
-const LONG: Tale = Tale {
-    name: "the longest time is counted from now",
-    answers: &[Woke::Deadline],
-    rows: rows![0 Lock => DONE, 1 TryLockFor(4_294_967_295) => NO],
-    calls: 2,
-    parked: &[Call::Park {
-        seat: 1,
-        until: Some(4_294_968_295),
-        interruptible: true,
-    }],
-    ..LOCK
-};
-
-/// They have changed places in the list after that.
-const MET: Tale = Tale {
-    name: "passes that met go on, and one misses what the other holds",
-    rows: rows![0 Lock => DONE, 0 Meet => DONE, 0 TryLock => NO, 1 Unlock => DONE],
-    calls: 3,
-    ..LOCK
-};
-
 const OBSERVED: Tale = Tale {
     name: "who holds, waits and sleeps is observed, and who was told that it could go",
     rows: rows![
@@ -90,13 +55,6 @@ const OBSERVED: Tale = Tale {
     calls: 4,
     ..LOCK
 };
-
-static OF_A_LOCK: [Tale; 5] = [LOCKED, PENDING, LONG, MET, OBSERVED];
-
-#[test]
-fn each_call_of_a_lock_and_each_observer_answers(rt: HostRuntime) {
-    play_all(&rt, &OF_A_LOCK);
-}
 
 const READ_WRITE: Tale = Tale {
     header: Header {
@@ -124,39 +82,6 @@ const WRITTEN: Tale = Tale {
     ..READ_WRITE
 };
 
-const READ: Tale = Tale {
-    name: "a reader holds writers back, a pending interrupt is refused once, and a writer sleeps",
-    answers: &[
-        Woke::Deadline,
-        Woke::Interrupted,
-        Woke::Interrupted,
-        Woke::Deadline,
-    ],
-    rows: rows![
-        0 Read => DONE, 1 TryLockFor(A_MINUTE) => NO, 1 LockInterruptibly => INTERRUPTED,
-        0 Wait(0) => NOT_OWNER, 0 WaitUninterruptibly(0) => NOT_OWNER, 0 WaitFor(0, 5) => NOT_OWNER,
-        0 Signal(0) => NOT_OWNER, 0 SignalAll(0) => NOT_OWNER, 1 Interrupt => DONE, 1 TryRead => YES,
-        1 TryReadFor(5) => INTERRUPTED, 1 TryReadFor(0) => YES, 1 Interrupt => DONE,
-        1 ReadInterruptibly => INTERRUPTED, 1 Interrupt => DONE, 1 LockInterruptibly => INTERRUPTED,
-        1 Interrupt => DONE, 1 TryLockFor(5) => INTERRUPTED, 1 EndRead => DONE, 1 EndRead => DONE,
-        0 EndRead => DONE, 1 Lock => DONE, 1 Lock => DONE, 1 Wait(0) => INTERRUPTED,
-        1 WaitFor(0, A_MINUTE) => NO, 1 Wait(1) => NO_CONDITION, 1 Unlock => DONE, 1 Unlock => DONE,
-        1 Unlock => NOT_OWNER,
-    ],
-    calls: 24,
-    parked: &[
-        TIMED, HEARS, INTERRUPTS, INTERRUPTS, INTERRUPTS, INTERRUPTS, HEARS, TIMED,
-    ],
-    ..READ_WRITE
-};
-
-static OF_A_READ_WRITE_LOCK: [Tale; 2] = [WRITTEN, READ];
-
-#[test]
-fn each_call_of_a_read_write_lock_answers(rt: HostRuntime) {
-    play_all(&rt, &OF_A_READ_WRITE_LOCK);
-}
-
 const THREE: Header = Header {
     object: Object::Semaphore(Policy::NonFair, 3),
     conditions: 0,
@@ -179,23 +104,6 @@ const PERMITS: Tale = Tale {
     ..LOCK
 };
 
-const OWING: Tale = Tale {
-    name: "a semaphore may start below zero, and has a greatest number",
-    header: Header {
-        object: Object::Semaphore(Policy::Fair, -1),
-        ..THREE
-    },
-    rows: rows![
-        0 Available => WRONG, 0 TryAcquire(1) => NO, 0 DrainPermits => Ok(0), 1 Release(2) => DONE,
-        1 Interrupt => DONE, 1 TryAcquire(1) => YES, 1 Acquire(1) => INTERRUPTED,
-        1 Release(2_147_483_647) => DONE, 1 Release(1) => Err(Fault::TooManyPermits),
-        1 Release(2_147_483_648) => Err(Fault::BadAmount), 1 Available => Ok(2_147_483_647),
-    ],
-    calls: 7,
-    parked: &[INTERRUPTS],
-    ..LOCK
-};
-
 /// An interrupt makes the call fail also at 0.
 const COUNTED: Tale = Tale {
     name: "a latch is open from zero on, and a count down then changes nothing",
@@ -215,12 +123,11 @@ const COUNTED: Tale = Tale {
     ..LOCK
 };
 
-static OF_COUNTS: [Tale; 3] = [PERMITS, OWING, COUNTED];
-
-#[test]
-fn each_call_of_a_semaphore_and_a_latch_answers(rt: HostRuntime) {
-    play_all(&rt, &OF_COUNTS);
-}
-
 /// A tale of each object.
 pub static OF_EACH: [Tale; 4] = [LOCKED, WRITTEN, PERMITS, COUNTED];
+
+#[test]
+fn each_call_of_each_front_type_and_each_observer_answers(rt: HostRuntime) {
+    play_all(&rt, &OF_EACH);
+    play_all(&rt, &[OBSERVED]);
+}

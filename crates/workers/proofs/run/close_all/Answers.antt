@@ -1,5 +1,6 @@
 use Rattle.std.proofs.Common.{rules, ◌≡◌, ◌∷◌, arith}
-use Rattle.workers.proofs.Columns.{column_own, column_whole, columns_cut, none_left, parts_end, parts_on}
+use Rattle.std.proofs.lemmas.List.{nil_from_length}
+use Rattle.workers.proofs.Columns.{column_own, column_whole, columns_cut, parts_end, parts_on}
 use Rattle.workers.proofs.run.close_all.Goals as goal
 
 pub close-requires-clause-own : goal.close-requires-clause-own
@@ -46,7 +47,7 @@ pub returns-clause-parts : goal.returns-clause-parts
 returns-clause-parts g c =
     let out = c.in-None.ensures.steps.0 in
     let fits = c.loop-object.object-iterator.rest.ok.0 in
-    let none = none_left c.loop-object.object-iterator.rest.items (omega (arith, out, fits)) in
+    let none = nil_from_length c.loop-object.object-iterator.rest.items (omega (arith, out, fits)) in
     parts_end c.args.objects.items c.loop-object.object-iterator.rest.items c.args.columns.items
     c.loop-object.columns.rest.items c.loop-object.parts.items none c.loop-object.invariant.0
     c.loop-object.invariant.1

@@ -2,7 +2,7 @@ use Rattle.std.proofs.Common.{rules, ◌≡◌, length, ap, sym, subst, arith, �
 use Rattle.workers.specs.Reports.{AreParts, HaveColumns, dealt_all, empties, opening_rows}
 use Rattle.workers.specs.Works.{IsTold, passes_left}
 use Rattle.workers.proofs.Columns.{all_columns, empties_count, parts_sound, rows_count, rows_fit}
-use Rattle.workers.proofs.Whole.{all_own, all_places, all_seats, ran, told_stop}
+use Rattle.workers.proofs.AllWorkers.{all_own, all_places, all_seats, ran, told_stop}
 use Rattle.workers.proofs.Working.{all_let, all_made}
 use Rattle.workers.proofs.run.run_threads.Goals as goal
 

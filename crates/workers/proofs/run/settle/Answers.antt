@@ -1,5 +1,5 @@
 use Rattle.std.proofs.Common.{rules, ◌≡◌, ◌∷◌, arith, inr}
-use Rattle.workers.proofs.Columns.{none_left}
+use Rattle.std.proofs.lemmas.List.{nil_from_length}
 use Rattle.workers.proofs.Settling.{first_fits, first_stops, settles_end, settles_more}
 use Rattle.workers.proofs.run.settle.Goals as goal
 
@@ -15,7 +15,7 @@ pub returns-clause-sum : goal.returns-clause-sum
 returns-clause-sum c =
     let out = c.in-None.ensures.steps.0 in
     let fits = c.loop-done.done-iterator.rest.ok.0 in
-    let none = none_left c.loop-done.done-iterator.rest.items (omega (arith, out, fits)) in
+    let none = nil_from_length c.loop-done.done-iterator.rest.items (omega (arith, out, fits)) in
     settles_end c.args.worked.items c.args.columns.now.items c.loop-done.done-iterator.rest.items
     c.loop-done.columns.items c.loop-done.unrecorded none c.loop-done.invariant
 

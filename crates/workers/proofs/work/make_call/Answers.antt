@@ -32,4 +32,5 @@ returns-in-On-clause-called g c =
     (set ps c.in-On.place c.act-reply.new.pass)) here
     (subst (λ z. IsCalled c.args.call ps z (set ps c.in-On.place c.act-reply.new.pass)) count
     (acts_on c.args.call c.in-On.place c.in-On.action ps _ c.act-reply.new.pass c.act-reply.result
-    c.args.shared.now.parking c.in-On.is below c.index_mut-pass.ensures.value c.act-reply.ensures.acted))
+    c.args.shared.now.parking c.in-On.is below c.index_mut-pass.ensures.value c.act-reply.ensures.acted
+    c.act-reply.ensures.same c.act-reply.ensures.shows))

@@ -12,14 +12,8 @@ use Rattle.workers.specs.declared.work.Worked.{Worked}
 use Rattle.workers.specs.Calls.{lock_of}
 use Rattle.workers.specs.Reports.{header_of, headers_of, opening_rows}
 use Rattle.workers.specs.Works.{AllWorked, HasStopped, IsTold, WorksAt}
-use Rattle.workers.proofs.Columns.{rows_count, rows_own}
+use Rattle.workers.proofs.Columns.{heads, rows_count, rows_own, tails}
 use Rattle.workers.proofs.Working.{all_worked, stopped_told}
-
-heads : {A : Type 0} (x y : A) (xs ys : List A) → x ∷ xs ≡ y ∷ ys → x ≡ y
-heads x y xs ys same = cc
-
-tails : {A : Type 0} (x y : A) (xs ys : List A) → x ∷ xs ≡ y ∷ ys → xs ≡ ys
-tails x y xs ys same = cc
 
 abbrev HasSeats : ℕ → LockId → Type 0
 HasSeats n lock = lock.header.seats ≡ n
