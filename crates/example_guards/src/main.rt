@@ -1,46 +1,39 @@
-//! A bounded buffer guarded by a fair lock: one thread puts, another takes. The owner of the lock has the
-//! buffer.
+//! Programs over locks that guard a value.
 //!
-//! The history of the lock has few places, and is folded whenever it is full. Prints the sum of what was
-//! taken, and what happened to the history.
+//! - `buffer`: a queue with two places, which a lock guards. One thread puts, another takes.
+//! - `table`: two rows that a read-write lock guards. A writer changes both, and no reader sees only one changed.
+//! - `read_mostly_table`: a table that a read-write lock guards, and writers that downgrade to readers.
+//! - `counter`: a number that four threads count up. What they counted and what they left add up to what was
+//!   asked for.
+//!
+//! `example_guards` runs all four. `example_guards TIMES` runs only the counter, and the four threads
+//! together count TIMES times: 10000000 takes no more memory than 20000. A program that fails gives up what
+//! it holds, and says so.
 #![tactic(auto)]
 
-ghost use Rattle.std.specs.Prelude.{◌≡◌, ◌≤◌, All, IfOk, IfSome, length};
+ghost use Rattle.std.specs.Prelude.{◌≡◌};
 ghost use Rattle.example_guards.specs.declared.Failure.TheVariants.{Call};
-ghost use Rattle.monitor.specs.Stepping.{IsSame};
-ghost use Rattle.monitor_fronts.specs.Holding.{holds};
 
+mod adding;
 mod bounded;
+mod buffer;
+mod counter;
+mod read_mostly_table;
+mod rows;
+mod table;
 mod working;
 
-use crate::bounded::Bounded;
-use crate::working::{consume, produce};
-use guarded::{Mutex, WhenFull};
 use history::fault::Fault;
-use history::header::Policy;
-use monitor::Pass;
-use permit::ThreadParking;
-use std::alloc::Global;
-use std::snapshot::Snapshot;
-use std::sync::Wait;
-use std::sync::atomic::AtomicBool;
-use std::thread::{Promise, Threads};
-use std::time::Clock;
-use std::{io, thread};
+use std::{env, io};
 use thiserror::Error;
 
-const ITEMS: u64 = 100;
-
-/// The most entries of the history.
-const CAP: u32 = 16;
-
-/// Why there is no sum.
+/// Why a program gave up.
 #[derive(Clone, Copy, Debug, PartialEq, Eq, Error)]
-enum Failure {
+pub enum Failure {
     /// A call returned this fault, or an allocation failed.
     #[error("{0}")]
     Call(Fault),
-    /// The system refused the producer's thread. Nobody put or took.
+    /// The system refused a thread. Nobody put or took.
     #[error("producer not started")]
     NotStarted,
     /// A pass is missing, so the lock stays open.
@@ -56,155 +49,23 @@ impl From<Fault> for Failure {
     }
 }
 
-/// The promise that the producer returns its pass.
-#[derive(Drop)]
-struct ComesBack {
-    producer: Snapshot<Pass>,
-}
-
-impl Promise<Result<Pass, Fault>> for ComesBack {
-    ghost use Rattle.std.specs.Prelude.{IfOk};
-    ghost use Rattle.monitor.specs.Stepping.{IsSame};
-
-    ghost kept_by = { λ p back. IfOk back (IsSame p.producer.value) };
-}
-
-/// The results of the producer and the consumer.
-type Exchanged = (Result<Pass, Fault>, Result<(Pass, u64), Fault>);
-
-/// Runs both threads. Returns None if the system refuses the producer's thread: then nobody waits for items.
-fn exchange<R: Threads + Wait + Clock + Sync>(
-    rt: &R,
-    parking: &ThreadParking,
-    lock: &Mutex<Bounded>,
-    producer: Pass,
-    consumer: Pass,
-) -> Option<Exchanged>
-    requires own { (producer.lock ≡ lock.now.lock) × (consumer.lock ≡ lock.now.lock) }
-    requires free { (holds producer ≡ 0) × (holds consumer ≡ 0) }
-    requires places { lock.now.lock.header.seats ≤ parking.now }
-    ensures put { IfSome result (λ r. IfOk r.0 (IsSame producer)) }
-    ensures taken { IfSome result (λ r. IfOk r.1 (λ t. IsSame consumer t.0)) }
-{
-    let stop = AtomicBool::new(false);
-    let stop = &stop;
-    thread::scope(
-        thread::scope_env(),
-        rt,
-        |scope| -> Option<Exchanged>
-            requires { (producer.lock ≡ lock.now.lock) × (consumer.lock ≡ lock.now.lock)
-                × (lock.now.lock.header.seats ≤ parking.now) × (holds producer ≡ 0) × (holds consumer ≡ 0) }
-            ensures put { IfSome result (λ r. IfOk r.0 (IsSame producer)) }
-            ensures taken { IfSome result (λ r. IfOk r.1 (λ t. IsSame consumer t.0)) }
-        {
-            let promise = ComesBack {
-                producer: Snapshot::of(&producer),
-            };
-            let started = scope.spawn_with(
-                promise,
-                move || -> Result<Pass, Fault>
-                    requires { (producer.lock ≡ lock.now.lock) × (lock.now.lock.header.seats ≤ parking.now)
-                        × (holds producer ≡ 0) }
-                    ensures { IfOk result (IsSame producer) }
-                { produce(rt, parking, lock, stop, producer, ITEMS) },
-            );
-            let Ok(handle) = started else {
-                return None;
-            };
-            let taken = consume(rt, parking, lock, stop, consumer, ITEMS);
-            Some((handle.join(rt), taken))
-        },
-    )
-}
-
-/// Runs both threads with the passes of a new lock. Returns the passes, and the sum of what was taken.
-fn exchange_all<R: Threads + Wait + Clock + Sync>(
-    rt: &R,
-    parking: &ThreadParking,
-    lock: &Mutex<Bounded>,
-    passes: Vec<Pass>,
-) -> Result<(Vec<Pass>, u64), Failure>
-    requires all { length passes.items ≡ 2 }
-    requires own { All (λ p. p.lock ≡ lock.now.lock) passes.items }
-    requires free { All (λ p. holds p ≡ 0) passes.items }
-    requires places { lock.now.lock.header.seats ≤ parking.now }
-    ensures { IfOk result (λ r. All (λ p. p.lock ≡ lock.now.lock) r.0.items) }
-{
-    let mut passes = passes;
-    let Some(consumer) = passes.pop() else {
-        unreachable!()
-    };
-    let Some(producer) = passes.pop() else {
-        unreachable!()
-    };
-    let Some((put, taken)) = exchange(rt, parking, lock, producer, consumer) else {
-        return Err(Failure::NotStarted);
-    };
-    let producer = put?;
-    let (consumer, sum) = taken?;
-    if passes.push(producer).is_err() || passes.push(consumer).is_err() {
-        return Err(Failure::Call(Fault::OutOfMemory));
-    }
-    Ok((passes, sum))
-}
-
-/// What is printed at the end.
-#[derive(Clone, Copy)]
-struct Told {
-    sum: u64,
-    all_calls: bool,
-    folded: bool,
-    is_empty: bool,
-}
-
-/// Closes the lock.
-fn close<R: Wait>(
-    rt: &R,
-    lock: Mutex<Bounded>,
-    passes: Vec<Pass>,
-    sum: u64,
-) -> Result<Told, Failure>
-    requires own { All (λ p. p.lock ≡ lock.lock) passes.items }
-{
-    match lock.close(rt, passes) {
-        Ok((closed, buffer)) => Ok(Told {
-            sum,
-            all_calls: closed.history.calls() == closed.share,
-            folded: closed.history.base().is_some(),
-            is_empty: buffer.is_some_and(|buffer| buffer.is_empty()),
-        }),
-        Err(_) => Err(Failure::NotClosed),
-    }
-}
-
-/// Runs the example with a new lock, and closes it.
-fn play<R: Threads + Wait + Clock + Sync>(rt: &R, alloc: Global) -> Result<Told, Failure> {
-    let parking = ThreadParking::open(rt, alloc, 2)?;
-    let opened = Mutex::open(
-        alloc,
-        Bounded::new(alloc),
-        Policy::Fair,
-        WhenFull::Trim,
-        2,
-        2,
-        CAP,
-    );
-    match opened {
-        Ok((lock, passes)) => {
-            let (passes, sum) = exchange_all(rt, &parking, &lock, passes)?;
-            close(rt, lock, passes, sum)
-        }
-        Err((_, fault)) => Err(Failure::Call(fault)),
-    }
-}
+/// How often the threads count if nothing is asked for.
+const TIMES: u32 = 20_000;
 
 fn main(rt: HostRuntime) -> io::Result<()> {
-    let told = match play(&rt, rt.alloc()) {
-        Ok(told) => told,
-        Err(failure) => return println!(rt; "{failure}"),
-    };
-    println!(rt; "taken {}", told.sum)?;
-    println!(rt; "the buffer is empty: {}", told.is_empty)?;
-    println!(rt; "every call is in the history: {}", told.all_calls)?;
-    println!(rt; "its entries were folded: {}", told.folded)
+    let words = env::args(&rt)?.skip(1).collect::<Vec<String>>(rt.alloc())?;
+    match words.first().map(|word| word.as_str()) {
+        None => {
+            buffer::run(&rt)?;
+            table::run(&rt)?;
+            read_mostly_table::run(&rt)?;
+            counter::run(&rt, TIMES)
+        }
+        Some(word) => match word.parse::<u32>() {
+            Ok(times) => counter::run(&rt, times),
+            Err(_) => eprintln!(rt;
+                "example_guards: how often? {word} is no number below 4294967296"
+            ),
+        },
+    }
 }

@@ -2,7 +2,6 @@
 //!
 //! - `first_lock`: a fair lock, and an acquire that gives up after 50 milliseconds.
 //! - `bounded_buffer`: a lock with two conditions between a thread that puts and a thread that takes.
-//! - `read_mostly_table`: a read-write lock, and writers that downgrade to readers.
 //! - `endless_lock`: four threads at a lock that runs on past the cap of its history.
 //! - `history_in_parts`: a lock whose history is printed in parts.
 //! - `small_calls`: the callers of the pages `CALLING.md`, each called once.
@@ -14,7 +13,6 @@ mod bounded_buffer;
 mod endless_lock;
 mod first_lock;
 mod history_in_parts;
-mod read_mostly_table;
 mod small_calls;
 
 use std::sync::Wait;
@@ -31,14 +29,12 @@ fn run<R: Print + Eprint + AllocGlobal + Threads + Wait + Clock + Sync>(
         None => {
             first_lock::run(rt)?;
             bounded_buffer::run(rt)?;
-            read_mostly_table::run(rt)?;
             endless_lock::run(rt, words)?;
             history_in_parts::run(rt, words)?;
             small_calls::run(rt)
         }
         Some("first_lock") => first_lock::run(rt),
         Some("bounded_buffer") => bounded_buffer::run(rt),
-        Some("read_mostly_table") => read_mostly_table::run(rt),
         Some("endless_lock") => endless_lock::run(rt, words),
         Some("history_in_parts") => history_in_parts::run(rt, words),
         Some("small_calls") => small_calls::run(rt),

@@ -1,9 +1,9 @@
 //! A pool of connections: a client acquires one, uses it and releases it. A client owns the connection that it
 //! acquired, so no other client has it.
 //!
-//! First one client acquires all connections, and no other gets one in time. Then all clients share them. Prints
-//! how many requests were served and how many were not, how many connections are in the pool at the end, and
-//! what the audit finds in the history of its semaphore.
+//! First one client acquires all connections, and no other client gets one in time. Then all clients share
+//! them. Prints how many requests were served and how many were not, how many connections are in the pool at
+//! the end, and what the audit finds in the history of its semaphore.
 
 ghost use Rattle.std.specs.Prelude.{◌≡◌, ◌≤◌, All, IfOk, pos};
 ghost use Rattle.frame.specs.Core.{header_of};

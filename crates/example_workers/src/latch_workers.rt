@@ -1,9 +1,9 @@
 //! Workers that start together at one latch. The foreman waits for them at another.
 //!
-//! The foreman lays the work out, counts the first latch down, and waits until each worker has counted the second
-//! one down. Each worker has a thread of its own. If the system refuses a thread, the other workers are sent
-//! away, and nobody works. Prints what the workers made, and what both latches were left with. `close` promises
-//! that their histories are legal and have each call.
+//! The foreman lays the work out, counts the first latch down, and waits until each worker has counted the
+//! second one down. Each worker has a thread of its own. If the system refuses a thread, the other workers
+//! are interrupted, and nobody works. Prints what the workers made, and what both latches were left with.
+//! `close` promises that their histories are legal and have each call.
 
 ghost use Rattle.std.specs.Prelude.{◌≡◌, All, IfOk};
 ghost use Rattle.example_workers.specs.Opened.{IsOpened};

@@ -18,7 +18,7 @@ const NOT_FULL: u8 = 0;
 /// The condition on which threads wait for an item.
 const NOT_EMPTY: u8 = 1;
 
-/// A thread waits so many milliseconds at most before it looks whether the other one has stopped.
+/// The most milliseconds that a thread waits before it looks whether the other one has stopped.
 const MOMENT: u32 = 100;
 
 const PLACES: u64 = 2;

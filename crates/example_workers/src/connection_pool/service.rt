@@ -131,7 +131,7 @@ impl Service<'_> {
         }
     }
 
-    /// Makes this number of requests, and waits at most so many milliseconds for each connection.
+    /// Makes this number of requests, and waits at most `milliseconds` for each connection.
     pub fn request_all<R: Wait + Clock>(
         &self,
         rt: &R,

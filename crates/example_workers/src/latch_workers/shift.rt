@@ -82,7 +82,7 @@ impl Shift {
         foreman
     }
 
-    /// Interrupts each worker. One that waits for the start, or comes to it, does not work.
+    /// Interrupts each worker. A worker that waits for the start, or comes to it, does not work.
     pub fn call_off(&self) {
         for worker in 0..WORKERS {
             self.parking.interrupt(worker);
