@@ -562,12 +562,7 @@ aqs_status_t aqs_latch_timedawait(aqs_latch_t *latch, uint32_t ms) {
     return acquire(&latch->object, S, 1, TIMED, ms, 0);
 }
 
-/* Histories ---------------------------------------------------------------------------------------------- */
-
-aqs_object_t *aqs_lock_object(aqs_lock_t *lock) { return &lock->object; }
-aqs_object_t *aqs_rwlock_object(aqs_rwlock_t *lock) { return &lock->object; }
-aqs_object_t *aqs_sem_object(aqs_sem_t *semaphore) { return &semaphore->object; }
-aqs_object_t *aqs_latch_object(aqs_latch_t *latch) { return &latch->object; }
+/* Looks -------------------------------------------------------------------------------------------------- */
 
 static aqs_status_t status_of_kind(uint8_t kind) {
     switch (kind) {
@@ -576,6 +571,33 @@ static aqs_status_t status_of_kind(uint8_t kind) {
         default: return AQS_MISUSE;
     }
 }
+
+aqs_status_t aqs_sem_getvalue(aqs_sem_t *semaphore, int64_t *permits) {
+    aqs_object_t *object = &semaphore->object;
+    aqs_thread_t me = seat_of_self(object);
+    if (me == AQS_THREADS) return AQS_TOO_MANY_THREADS;
+    uint8_t kind;
+    unsigned looks = 0;
+    while ((kind = aqs_available_now(&object->seats[me].pass, permits)) == AQS_IS_BUSY) back_off(&looks);
+    return status_of_kind(kind);
+}
+
+aqs_status_t aqs_latch_getcount(aqs_latch_t *latch, uint32_t *count) {
+    aqs_object_t *object = &latch->object;
+    aqs_thread_t me = seat_of_self(object);
+    if (me == AQS_THREADS) return AQS_TOO_MANY_THREADS;
+    uint8_t kind;
+    unsigned looks = 0;
+    while ((kind = aqs_count_now(&object->seats[me].pass, count)) == AQS_IS_BUSY) back_off(&looks);
+    return status_of_kind(kind);
+}
+
+/* Histories ---------------------------------------------------------------------------------------------- */
+
+aqs_object_t *aqs_lock_object(aqs_lock_t *lock) { return &lock->object; }
+aqs_object_t *aqs_rwlock_object(aqs_rwlock_t *lock) { return &lock->object; }
+aqs_object_t *aqs_sem_object(aqs_sem_t *semaphore) { return &semaphore->object; }
+aqs_object_t *aqs_latch_object(aqs_latch_t *latch) { return &latch->object; }
 
 aqs_status_t aqs_history_text(aqs_object_t *object, char *buffer, size_t size, size_t *length) {
     aqs_thread_t me = aqs_thread_self();

@@ -210,6 +210,9 @@ aqs_status_t aqs_sem_tryacquire(aqs_sem_t *semaphore, uint32_t n);
 aqs_status_t aqs_sem_release(aqs_sem_t *semaphore, uint32_t n);
 /* Takes all free permits, and puts their number into *n unless that is NULL. */
 aqs_status_t aqs_sem_drain(aqs_sem_t *semaphore, uint32_t *n);
+/* Puts the number of free permits into *permits, below 0 if as many releases have to come first. Another thread
+   may change it before the caller reads it. */
+aqs_status_t aqs_sem_getvalue(aqs_sem_t *semaphore, int64_t *permits);
 
 /* A latch ------------------------------------------------------------------------------------------------ */
 
@@ -227,6 +230,8 @@ aqs_status_t aqs_latch_await(aqs_latch_t *latch);
 aqs_status_t aqs_latch_await_interruptibly(aqs_latch_t *latch);
 /* The same, for at most this time. With 0 it only looks. AQS_TIMED_OUT, AQS_INTERRUPTED. */
 aqs_status_t aqs_latch_timedawait(aqs_latch_t *latch, uint32_t milliseconds);
+/* Puts the count into *count. Another thread may lower it before the caller reads it; 0 stays. */
+aqs_status_t aqs_latch_getcount(aqs_latch_t *latch, uint32_t *count);
 
 /* Histories ---------------------------------------------------------------------------------------------- */
 

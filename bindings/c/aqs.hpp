@@ -267,6 +267,13 @@ public:
         return n;
     }
 
+    /* The free permits, which may be below 0. */
+    std::int64_t available() {
+        std::int64_t permits = 0;
+        detail::check(aqs_sem_getvalue(semaphore_, &permits));
+        return permits;
+    }
+
     std::string history() const { return detail::history(aqs_sem_object(semaphore_)); }
     std::uint64_t trim() { return detail::trim(aqs_sem_object(semaphore_)); }
     aqs_sem_t *native_handle() noexcept { return semaphore_; }
@@ -291,6 +298,12 @@ public:
     template <class Rep, class Period>
     bool wait_for(const std::chrono::duration<Rep, Period> &time) {
         return detail::check_taken(aqs_latch_timedawait(latch_, detail::milliseconds(time)));
+    }
+
+    std::uint32_t count() {
+        std::uint32_t count = 0;
+        detail::check(aqs_latch_getcount(latch_, &count));
+        return count;
     }
 
     std::string history() const { return detail::history(aqs_latch_object(latch_)); }

@@ -130,6 +130,14 @@ uint8_t aqs_text_now(aqs_pass_t *pass, uint8_t *out, size_t size, uint64_t *leng
    10^15 entries would have been folded. */
 uint8_t aqs_trim_now(aqs_pass_t *pass, uint64_t *count);
 
+/* Writes the free permits of a semaphore, which may be below 0, or 0 of any other object: returns AQS_IS_ENTRY. Or
+   returns AQS_IS_BUSY or AQS_IS_NO_PASS, and *permits is as it was. */
+uint8_t aqs_available_now(aqs_pass_t *pass, int64_t *permits);
+
+/* Writes the count of a latch, or 0 of any other object: returns AQS_IS_ENTRY. Or returns AQS_IS_BUSY or
+   AQS_IS_NO_PASS, and *count is as it was. */
+uint8_t aqs_count_now(aqs_pass_t *pass, uint32_t *count);
+
 /* Gives a pass back, and leaves AQS_NO_PASS. The object is freed with the last of its passes. */
 void aqs_drop(aqs_pass_t *pass);
 

@@ -113,6 +113,17 @@ NATIVE(jlong, drain)(JNIEnv *env, jclass class, jlong semaphore) {
     return status == AQS_OK ? (jlong)n : -(jlong)status;
 }
 
+NATIVE(jint, number)(JNIEnv *env, jclass class, jint kind, jlong object, jlongArray into) {
+    (void)class;
+    int64_t permits = 0;
+    uint32_t count = 0;
+    aqs_status_t status = kind == SEMAPHORE ? aqs_sem_getvalue(pointer(object), &permits)
+                                            : aqs_latch_getcount(pointer(object), &count);
+    jlong number = kind == SEMAPHORE ? (jlong)permits : (jlong)count;
+    if (status == AQS_OK) (*env)->SetLongArrayRegion(env, into, 0, 1, &number);
+    return (jint)status;
+}
+
 NATIVE(jbyteArray, history)(JNIEnv *env, jclass class, jint kind, jlong object) {
     (void)class;
     size_t size = 4096, length = 0;

@@ -94,8 +94,9 @@ _CALLS = {
     "aqs_rwlock_trywrlock": [], "aqs_rwlock_wrunlock": [],
     "aqs_sem_acquire": [_N], "aqs_sem_acquire_interruptibly": [_N], "aqs_sem_timedacquire": [_N, _MS],
     "aqs_sem_tryacquire": [_N], "aqs_sem_release": [_N], "aqs_sem_drain": [ctypes.POINTER(ctypes.c_uint32)],
+    "aqs_sem_getvalue": [ctypes.POINTER(ctypes.c_int64)],
     "aqs_latch_count_down": [], "aqs_latch_await": [], "aqs_latch_await_interruptibly": [],
-    "aqs_latch_timedawait": [_MS],
+    "aqs_latch_timedawait": [_MS], "aqs_latch_getcount": [ctypes.POINTER(ctypes.c_uint32)],
 }
 _library = _load()
 
@@ -287,6 +288,12 @@ class Semaphore(_Object):
         _check(self._call("drain", ctypes.byref(n)))
         return n.value
 
+    def available(self):
+        """The free permits, which may be below 0."""
+        permits = ctypes.c_int64()
+        _check(self._call("getvalue", ctypes.byref(permits)))
+        return permits.value
+
     def __enter__(self):
         self.acquire()
         return self
@@ -305,6 +312,12 @@ class Latch(_Object):
 
     def count_down(self):
         _check(self._call("count_down"))
+
+    def count(self):
+        """The count, which another thread may lower at any time."""
+        count = ctypes.c_uint32()
+        _check(self._call("getcount", ctypes.byref(count)))
+        return count.value
 
     def wait(self, timeout=None, interruptible=False):
         """Waits until the count is 0. False if the time was up."""

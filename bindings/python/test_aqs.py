@@ -132,6 +132,7 @@ class Objects(unittest.TestCase):
             self.assertFalse(permits.acquire(2, blocking=False))
             self.assertFalse(permits.acquire(2, timeout=0.01))
         permits.release(3)
+        self.assertEqual(permits.available(), 5)
         self.assertEqual(permits.drain(), 5)
         with self.assertRaises(aqs.Error) as raised:
             permits.acquire(3_000_000_000)
@@ -143,6 +144,7 @@ class Objects(unittest.TestCase):
         threads = run_all(2, lambda _number: latch.wait())
         self.assertFalse(latch.wait(timeout=0.01))
         latch.count_down()
+        self.assertEqual(latch.count(), 1)
         latch.count_down()
         for thread in threads:
             thread.join()

@@ -200,8 +200,11 @@ static aqs_status_t acquire_three(void *semaphore) { return aqs_sem_acquire(sema
 static void semaphores(void) {
     aqs_sem_t *semaphore;
     uint32_t n = 99;
+    int64_t free = 99;
     aqs_options_t options = {.policy = AQS_FAIR, .when_full = AQS_REFUSE};
     IS(aqs_sem_open(&semaphore, 2, &options), AQS_OK);
+    IS(aqs_sem_getvalue(semaphore, &free), AQS_OK);
+    CHECK(free == 2);
     IS(aqs_sem_tryacquire(semaphore, 3), AQS_WOULD_BLOCK);
     IS(aqs_sem_acquire(semaphore, 1), AQS_OK);
     IS(aqs_sem_timedacquire(semaphore, 2, 10), AQS_TIMED_OUT);
@@ -214,13 +217,23 @@ static void semaphores(void) {
     IS(aqs_sem_release(semaphore, 5), AQS_OK);
     IS(aqs_sem_drain(semaphore, &n), AQS_OK);
     CHECK(n == 5);
+    IS(aqs_sem_getvalue(semaphore, &free), AQS_OK);
+    CHECK(free == 0);
     IS(aqs_sem_drain(semaphore, NULL), AQS_OK);
     IS(aqs_sem_release(semaphore, 2147483647), AQS_OK);
     IS(aqs_sem_release(semaphore, 1), AQS_TOO_MANY_PERMITS);
     IS(aqs_thread_interrupt(aqs_thread_self()), AQS_OK);
     IS(aqs_sem_acquire_interruptibly(semaphore, 1), AQS_INTERRUPTED);
     IS(aqs_sem_acquire_interruptibly(semaphore, 1), AQS_OK);
+    IS(aqs_sem_getvalue(semaphore, &free), AQS_OK);
+    CHECK(free == 2147483646);
     keep_history(aqs_sem_object(semaphore), folder, "calls-semaphore");
+    aqs_sem_close(semaphore);
+    IS(aqs_sem_open(&semaphore, -3, NULL), AQS_OK);
+    IS(aqs_sem_release(semaphore, 1), AQS_OK);
+    IS(aqs_history_trim(aqs_sem_object(semaphore), NULL), AQS_OK);
+    IS(aqs_sem_getvalue(semaphore, &free), AQS_OK);
+    CHECK(free == -2);
     aqs_sem_close(semaphore);
 }
 
@@ -229,11 +242,16 @@ static aqs_status_t await_latch(void *latch) { return aqs_latch_await(latch); }
 static void latches(void) {
     aqs_latch_t *latch;
     aqs_options_t options = {.when_full = AQS_REFUSE};
+    uint32_t count = 99;
     IS(aqs_latch_open(&latch, 2, &options), AQS_OK);
+    IS(aqs_latch_getcount(latch, &count), AQS_OK);
+    CHECK(count == 2);
     other_t other = {.call = await_latch, .object = latch};
     pthread_t thread = start(&other);
     IS(aqs_latch_timedawait(latch, 10), AQS_TIMED_OUT);
     IS(aqs_latch_count_down(latch), AQS_OK);
+    IS(aqs_latch_getcount(latch, &count), AQS_OK);
+    CHECK(count == 1);
     IS(aqs_thread_interrupt(aqs_thread_self()), AQS_OK);
     CHECK(aqs_thread_interrupted());
     CHECK(!aqs_thread_interrupted());
@@ -243,6 +261,8 @@ static void latches(void) {
     IS(ended(thread, &other), AQS_OK);
     IS(aqs_latch_await(latch), AQS_OK);
     IS(aqs_latch_count_down(latch), AQS_OK);
+    IS(aqs_latch_getcount(latch, &count), AQS_OK);
+    CHECK(count == 0);
     keep_history(aqs_latch_object(latch), folder, "calls-latch");
     aqs_latch_close(latch);
 }
@@ -326,6 +346,8 @@ static void numbers(void) {
     aqs_header_t header = {.kind = AQS_KIND_LOCK, .policy = AQS_CORE_FAIR, .seats = 2, .cap = 100};
     aqs_answer_t answer;
     uint64_t number = 0;
+    int64_t permits = 99;
+    uint32_t left = 99;
     uint8_t byte = 0;
     CHECK(aqs_open(header, passes, 1) == AQS_CORE_OUT_OF_RANGE && !passes[0].live);
     CHECK(aqs_open(header, passes, 2) == 0);
@@ -336,6 +358,10 @@ static void numbers(void) {
     CHECK(answer.kind == AQS_IS_NO_PASS);
     CHECK(aqs_text_now(&none, &byte, 1, &number) == AQS_IS_NO_PASS);
     CHECK(aqs_trim_now(&none, &number) == AQS_IS_NO_PASS);
+    CHECK(aqs_available_now(&none, &permits) == AQS_IS_NO_PASS && permits == 99);
+    CHECK(aqs_count_now(&none, &left) == AQS_IS_NO_PASS && left == 99);
+    CHECK(aqs_available_now(&passes[0], &permits) == AQS_IS_ENTRY && permits == 0);
+    CHECK(aqs_count_now(&passes[0], &left) == AQS_IS_ENTRY && left == 0);
     aqs_drop(&none);
     for (unsigned code = 12; code < 256; code++) {
         aqs_step_now(&passes[0], (aqs_step_t){.code = (uint8_t)code}, &answer);

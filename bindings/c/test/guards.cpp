@@ -123,12 +123,14 @@ static void others() {
     CHECK(!permits.try_acquire());
     CHECK(!permits.try_acquire_for(5ms));
     permits.release(5);
+    CHECK(permits.available() == 5);
     CHECK(permits.drain() == 5);
     keep("guards-semaphore", permits.history());
     aqs::latch latch(2, aqs::options().keeps_history());
     std::thread waiter([&] { latch.wait(); });
     CHECK(!latch.wait_for(5ms));
     latch.count_down();
+    CHECK(latch.count() == 1);
     latch.count_down();
     waiter.join();
     CHECK(latch.wait_for(1h));

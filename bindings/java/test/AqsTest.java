@@ -167,6 +167,7 @@ final class AqsTest {
             check(!permits.tryAcquire(2, 5, TimeUnit.MILLISECONDS));
             permits.release(4);
             permits.acquire(1);
+            check(permits.availablePermits() == 4);
             check(permits.drainPermits() == 4);
             keep("semaphore", permits);
         }
@@ -174,6 +175,7 @@ final class AqsTest {
             Thread waiter = start(latch::await);
             check(!latch.await(5, TimeUnit.MILLISECONDS));
             latch.countDown();
+            check(latch.getCount() == 1);
             latch.countDown();
             waiter.join();
             latch.awaitUninterruptibly();

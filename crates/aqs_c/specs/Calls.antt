@@ -1,9 +1,12 @@
 -- What a call of C leaves, and what it is answered.
-use Rattle.std.specs.Prelude.{◌≡◌, ◌⊎◌, ◌≤◌, ℕ, Bool, List, Option, Some, None, IsSome, Result, Ok, Err, length, take, reverse, slice_get}
+use Rattle.std.specs.Prelude.{◌≡◌, ◌⊎◌, ◌≤◌, ℕ, ℤ, Bool, List, Option, Some, None, IsSome, Result, Ok, Err, length, take, reverse, slice_get}
+use Rattle.deciding.specs.Balance.{available}
+use Rattle.history.specs.Counts.{count}
 use Rattle.history.specs.declared.entry.Entry.{Entry}
 use Rattle.history.specs.declared.fault.Fault.{Fault}
 use Rattle.history.specs.declared.step.Step.{Step}
 use Rattle.history_text.specs.Pieces.{history_text}
+use Rattle.monitor.specs.Lawful.{start_at}
 use Rattle.monitor.specs.Machine.{IsBegun, IsGoneOn}
 use Rattle.monitor.specs.Observing.{IsLook}
 use Rattle.monitor.specs.Shown.{Shown}
@@ -157,3 +160,21 @@ IsSeatFold old kind count new =
 abbrev pub IsPassTrim : Option Seated → ℕ → ℕ → Option Seated → Type 0
 IsPassTrim None kind count new = (kind ≡ 5) × (new ≡ None)
 IsPassTrim (Some old) kind count new = (seat : Seated) × (new ≡ Some seat) × IsSeatFold old kind count seat
+
+-- the free permits and the count in what a pass has seen
+abbrev pub permits_seen : Shown → ℤ
+permits_seen p = available (start_at p.seen) p.seen.entries
+
+abbrev pub count_seen : Shown → ℕ
+count_seen p = count (start_at p.seen) p.seen.entries
+
+-- The object was busy; or the number is that of what the pass has then seen.
+abbrev pub IsSeatNumber : {A : Type 0} → (Shown → A) → Seated → ℕ → A → Seated → A → Type 0
+IsSeatNumber number old kind before new shown =
+    ((kind ≡ 3) × (new ≡ old) × (shown ≡ before))
+    ⊎ ((kind ≡ 0) × IsSeatLook old new × (shown ≡ number new.pass))
+
+abbrev pub IsPassNumber : {A : Type 0} → (Shown → A) → Option Seated → ℕ → A → Option Seated → A → Type 0
+IsPassNumber number None kind before new shown = (kind ≡ 5) × (new ≡ None) × (shown ≡ before)
+IsPassNumber number (Some old) kind before new shown =
+    (seat : Seated) × (new ≡ Some seat) × IsSeatNumber number old kind before seat shown

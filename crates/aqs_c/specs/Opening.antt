@@ -41,15 +41,19 @@ pub record IsOpened (h : Header) (places : List AqsPass) : Type 0 where
   pub header : lock.header ≡ h
   pub passes : map (λ p. p.held.value) places ≡ map idle (opening_passes lock (blank h) 0 h.seats)
 
+-- no place has a pass
+abbrev pub AreEmpty : List AqsPass → Type 0
+AreEmpty places = All (λ p. p.held.value ≡ None) places
+
 -- why an object wasn't opened
 abbrev pub IsRefusal : AqsHeader → List AqsPass → ℕ → Type 0
 IsRefusal c places number =
     (number ≡ 11)
-    ⊎ ((number ≡ 254) × (All (λ p. p.held.value ≡ None) places → ⊥))
+    ⊎ ((number ≡ 254) × (AreEmpty places → ⊥))
     ⊎ ((number ≡ 255) × ((h : Header) → IsHeaderOf c h → IsInRange h → length places ≡ h.seats → ⊥))
 
--- It was opened, or no place has changed.
+-- Each place was empty and an object was opened, or no place has changed.
 abbrev pub IsOpening : AqsHeader → List AqsPass → ℕ → List AqsPass → Type 0
 IsOpening c old number new =
-    ((number ≡ 0) × (h : Header) × IsHeaderOf c h × IsInRange h × IsOpened h new)
+    ((number ≡ 0) × AreEmpty old × (h : Header) × IsHeaderOf c h × IsInRange h × IsOpened h new)
     ⊎ ((new ≡ old) × IsRefusal c old number)

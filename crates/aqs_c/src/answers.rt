@@ -8,7 +8,7 @@ use history::fault::Fault;
 use history::step::Answer;
 use monitor::{Limits, Next, Now, Turn};
 
-/// What a call is answered.
+/// What a call returns.
 ///
 /// `kind` says what the other numbers are about:
 ///
@@ -17,7 +17,7 @@ use monitor::{Limits, Next, Now, Turn};
 /// | 0 | an entry, which ended the call | `n`, `seat`, `word`, `mode`, `at`, `end`, and `fault` of a refusal |
 /// | 1 | the seat waits on | |
 /// | 2 | a fault, and nothing was recorded | `fault` |
-/// | 3 | another call had the object: nothing has changed | |
+/// | 3 | another call had the object, and nothing has changed | |
 /// | 4 | the numbers of no step, call or park | |
 /// | 5 | the pass is empty | |
 /// | 6 | there is no such entry | |
@@ -179,7 +179,7 @@ pub(crate) fn answer_of(reply: Result<Now, Fault>) -> AqsAnswer
     }
 }
 
-// A call that waits parks so, if it parks.
+// An answer that says how a call that waits parks, if it parks.
 fn park_answer(limits: Option<Limits>) -> AqsAnswer
     ensures kind { (result.kind ≡ 7) × (result.again ≡ false) }
     ensures park { IsParkOf limits result }

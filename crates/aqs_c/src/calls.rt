@@ -13,7 +13,7 @@ use permit::Woke;
 ///
 /// - `kind`: 0 acquires `n` in the mode `mode`, 1 awaits a signal to the condition `mode`.
 /// - `how`: 0 plain, 1 interruptible, 2 timed, by `time` milliseconds from `moment` on.
-/// - `interrupted`: 1 if the call minds interrupts and one was pending, which was taken, and else 0.
+/// - `interrupted`: 1 if the call heeds interrupts and one was pending, which was taken; otherwise 0.
 #[repr(C)]
 #[derive(Clone, Copy)]
 pub struct AqsCall {
@@ -51,7 +51,7 @@ fn how_of(call: AqsCall) -> Option<How>
     }
 }
 
-// Whether an interrupt was pending, if its numbers say so. A plain call minds none.
+// Whether an interrupt was pending, if its numbers say so. A plain call heeds none.
 fn interrupt_of(call: AqsCall) -> Option<bool>
     ensures some { IfSome result (λ was. IsMinding was call) }
     ensures none { IfNone result ((was : _) → IsMinding was call → ⊥) }

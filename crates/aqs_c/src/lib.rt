@@ -1,22 +1,22 @@
-//! The synchronisers for C and whatever calls C: objects are opened, stepped and dropped by passes.
+//! The synchronisers for C and for languages that call C. Objects are opened, stepped and dropped by passes.
 //!
-//! A static library can neither sleep nor wake. So a call that may wait is made of turns: the first by
-//! `aqs_begin`, each later one by `aqs_go_on`. An answer says what the caller does next, in this order: it
-//! unparks the seat that is named, sets its own interrupt again if the answer says so, and parks if the
-//! call waits. All that decides is here, and proved: C parks, unparks and reads the clock
+//! A static library can neither sleep nor wake a thread. So a call that may wait is made of turns: the first
+//! by `aqs_begin`, each later one by `aqs_go_on`. An answer says what the caller does next, in this order: it
+//! unparks the seat that is named, sets its own interrupt again if the answer says so, and parks if the call
+//! waits. All code that decides is here, and proved. C parks, unparks and reads the clock
 //! (`bindings/c/aqs.c`).
 //!
 //! C holds each seat as an [`AqsPass`] of two words. It is empty, or owns a box with the seat and its share
 //! of the object, so that threads share nothing that C could touch. No export requires anything of the
-//! numbers that C passes: each is tested, and has its answer. What C owes is said in
-//! `bindings/c/aqs_core.h`.
+//! numbers that C passes: each number is checked, and a wrong one has an answer of its own. The duties of C
+//! are in `bindings/c/aqs_core.h`.
 //!
 //! A contract says of each call that its answer is the monitor's own clause, in numbers. `specs/Calls.antt`
 //! has them, and `specs/Codes.antt` the numbers.
 #![tactic(auto)]
 
 ghost use Rattle.std.specs.Prelude.{◌≡◌, None};
-ghost use Rattle.aqs_c.specs.Calls.{IsPassBegun, IsPassEntry, IsPassGoneOn, IsPassStep, IsPassText, IsPassTrim};
+ghost use Rattle.aqs_c.specs.Calls.{IsPassBegun, IsPassEntry, IsPassGoneOn, IsPassNumber, IsPassStep, IsPassText, IsPassTrim, count_seen, permits_seen};
 ghost use Rattle.aqs_c.specs.Opening.{IsOpening};
 
 mod answers;
@@ -40,10 +40,10 @@ pub use crate::steps::AqsStep;
 use crate::text::put_text;
 use std::alloc::Global;
 
-/// Opens an object, and puts the pass of each seat into its place: 0.
+/// Opens an object, puts the pass of each seat into its place, and returns 0.
 ///
-/// Else no place has changed, and it returns the number of a fault, or 254 if a place isn't empty, or 255
-/// if a number of the header is out of range or there are not as many places as seats.
+/// Otherwise no place has changed, and it returns the number of a fault, or 254 if a place isn't empty, or
+/// 255 if a number of the header is out of range or there are not as many places as seats.
 #[unsafe(no_mangle)]
 pub extern "C" fn aqs_open(alloc: Global, header: AqsHeader, places: &mut [AqsPass]) -> u8
     ensures { IsOpening header places.old result places.new }
@@ -131,8 +131,8 @@ pub extern "C" fn aqs_entry_now(
     }
 }
 
-/// The text of the history since the last trim, if no other call has the object: 0, and `length` is its
-/// length. It is written if it fits. Else it returns the kind of an answer.
+/// The text of the history since the last trim, if no other call has the object. Returns 0, and `length` is
+/// the length of the text, which is written if it fits. Otherwise it returns the kind of an answer.
 #[unsafe(no_mangle)]
 pub extern "C" fn aqs_text_now(
     alloc: Global,
@@ -160,8 +160,8 @@ pub extern "C" fn aqs_text_now(
     }
 }
 
-/// Folds all entries into the base, if no other call has the object, so that their room comes back: 0, and
-/// `count` is how many. Else it returns the kind of an answer.
+/// Folds all entries into the base, if no other call has the object, so that their room is free again.
+/// Returns 0, and `count` is how many. Otherwise it returns the kind of an answer.
 #[unsafe(no_mangle)]
 pub extern "C" fn aqs_trim_now(alloc: Global, pass: &mut AqsPass, count: &mut u64) -> u8
     ensures { IsPassTrim pass.old.held.value result count.new pass.new.held.value }
@@ -183,7 +183,52 @@ pub extern "C" fn aqs_trim_now(alloc: Global, pass: &mut AqsPass, count: &mut u6
     }
 }
 
-/// Gives a pass back, and leaves it empty. The object goes with the last of its passes.
+/// Returns 0, and sets `permits` to the free permits of a semaphore, which may be below 0, or to 0 for any
+/// other object. If another call has its turn, or the pass is empty, it returns the kind of an answer, and
+/// `permits` is as it was.
+#[unsafe(no_mangle)]
+pub extern "C" fn aqs_available_now(alloc: Global, pass: &mut AqsPass, permits: &mut i64) -> u8
+    ensures { IsPassNumber permits_seen pass.old.held.value result permits.old pass.new.held.value permits.new }
+{
+    match pass.take(alloc) {
+        None => NO_PASS,
+        Some(mut seat) => {
+            let found = seat.available();
+            *pass = AqsPass::of(seat);
+            match found {
+                Some(available) => {
+                    *permits = available;
+                    ENTRY
+                }
+                None => BUSY,
+            }
+        }
+    }
+}
+
+/// Returns 0, and sets `count` to the count of a latch, or to 0 for any other object. If another call has its
+/// turn, or the pass is empty, it returns the kind of an answer, and `count` is as it was.
+#[unsafe(no_mangle)]
+pub extern "C" fn aqs_count_now(alloc: Global, pass: &mut AqsPass, count: &mut u32) -> u8
+    ensures { IsPassNumber count_seen pass.old.held.value result count.old pass.new.held.value count.new }
+{
+    match pass.take(alloc) {
+        None => NO_PASS,
+        Some(mut seat) => {
+            let found = seat.count();
+            *pass = AqsPass::of(seat);
+            match found {
+                Some(left) => {
+                    *count = left;
+                    ENTRY
+                }
+                None => BUSY,
+            }
+        }
+    }
+}
+
+/// Drops a pass, and leaves it empty. The object is freed with the last of its passes.
 #[unsafe(no_mangle)]
 pub extern "C" fn aqs_drop(alloc: Global, pass: &mut AqsPass)
     ensures { pass.new.held.value ≡ None }

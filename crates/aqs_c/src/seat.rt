@@ -1,8 +1,8 @@
-//! A seat: a pass with the monitor that it is of, and the call in which it waits.
+//! A seat: a pass with its monitor, and the call in which it waits.
 ghost use Rattle.std.specs.Prelude.{◌≡◌, Some, None, IfNone, IfSome, IfOk};
 ghost use Rattle.std.specs.Arc.{arc_value};
 ghost use Rattle.monitor.specs.Waits.{Waits};
-ghost use Rattle.aqs_c.specs.Calls.{IsCallBegun, IsCallGoneOn, IsSeatBegun, IsSeatEntry, IsSeatGoneOn, IsSeatLook, IsSeatStep, IsSeatTrim, IsStepped, text_seen};
+ghost use Rattle.aqs_c.specs.Calls.{IsCallBegun, IsCallGoneOn, IsSeatBegun, IsSeatEntry, IsSeatGoneOn, IsSeatLook, IsSeatStep, IsSeatTrim, IsStepped, count_seen, permits_seen, text_seen};
 ghost use Rattle.aqs_c.specs.Seated.{seated, waiting_in};
 ghost use Rattle.aqs_c.specs.Standing.{StandsBy};
 
@@ -116,6 +116,26 @@ impl Seat {
     {
         self.pass.is_true();
         self.monitor.trim_quietly(&mut self.pass)
+    }
+
+    /// Returns the free permits of a semaphore, unless another call has its turn.
+    pub(crate) fn available(&mut self) -> Option<i64>
+        ensures busy { IfNone result (self.new ≡ self.old) }
+        ensures looked { IfSome result (λ _. IsSeatLook self.old self.new) }
+        ensures value { IfSome result (λ permits. permits ≡ permits_seen self.new.pass) }
+    {
+        self.pass.is_true();
+        self.monitor.available_quietly(&mut self.pass)
+    }
+
+    /// Returns the count of a latch, unless another call has its turn.
+    pub(crate) fn count(&mut self) -> Option<u32>
+        ensures busy { IfNone result (self.new ≡ self.old) }
+        ensures looked { IfSome result (λ _. IsSeatLook self.old self.new) }
+        ensures value { IfSome result (λ left. left ≡ count_seen self.new.pass) }
+    {
+        self.pass.is_true();
+        self.monitor.count_quietly(&mut self.pass)
     }
 }
 

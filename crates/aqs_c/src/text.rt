@@ -1,4 +1,4 @@
-//! A history as a text, and a text in memory of C's.
+//! A history as a text, and a text in memory that C owns.
 ghost use Rattle.std.specs.Prelude.{◌≡◌, ◌≤◌, length, take, Some, IfOk};
 ghost use Rattle.std.specs.Option.{IsSomeAnd};
 ghost use Rattle.history_text.specs.Pieces.{history_text};
@@ -9,8 +9,8 @@ use history::fault::Fault;
 use history_text::{fits, write_text};
 use std::alloc::Global;
 
-/// The text of a history that stands on a base. That of an object always does, and fits its header; this is
-/// tested, since the writer asks for it.
+/// The text of a history on a base. The history of an object always has a base and fits its header. This is
+/// checked, since the writer asks for it.
 pub(crate) fn text_of(alloc: Global, history: &History) -> Result<Vec<u8>, Fault>
     ensures { IfOk result (λ text. IsTextOf history.now text.items) }
 {
@@ -23,7 +23,7 @@ pub(crate) fn text_of(alloc: Global, history: &History) -> Result<Vec<u8>, Fault
     write_text(alloc, &base.header, history)
 }
 
-/// Writes the text where it fits, and else nothing.
+/// Writes the text if it fits, and nothing otherwise.
 pub(crate) fn put_text(out: &mut [u8], text: &[u8])
     ensures { length text.now ≤ length out.old → take (length text.now) out.new ≡ text.now }
 {

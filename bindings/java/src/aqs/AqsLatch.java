@@ -16,6 +16,11 @@ public final class AqsLatch extends AqsObject {
         must(Native.Call.COUNT_DOWN, 0);
     }
 
+    /** The count. Another thread may lower it at any time. */
+    public long getCount() {
+        return number();
+    }
+
     public void await() throws InterruptedException {
         interruptibly(Native.Call.AWAIT_INTERRUPTIBLY, 0);
     }

@@ -28,6 +28,16 @@ public abstract class AqsObject implements AutoCloseable {
         return checked(Native.trim(kind, handle()));
     }
 
+    /** The free permits of a semaphore, or the count of a latch. */
+    final long number() {
+        long[] into = new long[1];
+        int status = Native.number(kind, handle(), into);
+        if (status != Native.OK) {
+            throw new AqsException(status);
+        }
+        return into[0];
+    }
+
     @Override
     public final void close() {
         if (object != 0) {

@@ -36,4 +36,9 @@ public final class AqsSemaphore extends AqsObject {
     public int drainPermits() {
         return (int) checked(Native.drain(handle()));
     }
+
+    /** The free permits, which may be below 0. Another thread may change them at any time. */
+    public int availablePermits() {
+        return (int) number();
+    }
 }

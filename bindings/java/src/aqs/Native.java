@@ -38,6 +38,9 @@ final class Native {
     /** How many permits were free, or the status, made negative. */
     static native long drain(long semaphore);
 
+    /** A status. It puts the free permits of a semaphore, or the count of a latch, into the first place. */
+    static native int number(int kind, long object, long[] into);
+
     static native byte[] history(int kind, long object);
 
     /** How many entries there were, or the status, made negative. */

@@ -73,6 +73,15 @@ impl Latch {
         check(unsafe { sys::aqs_latch_timedawait(self.latch, milliseconds(time)) })
     }
 
+    /// The count. Another thread may lower it before the caller reads it.
+    #[track_caller]
+    pub fn count(&self) -> u32 {
+        let mut count = 0;
+        // SAFETY: the latch is open, and the number lives.
+        must(unsafe { sys::aqs_latch_getcount(self.latch, &mut count) });
+        count
+    }
+
     /// The text of the history since the last trim.
     pub fn history(&self) -> Result<String, Error> {
         // SAFETY: the latch is open.

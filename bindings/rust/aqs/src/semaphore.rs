@@ -87,6 +87,15 @@ impl Semaphore {
         n
     }
 
+    /// The free permits, which may be below 0. Another thread may change them before the caller reads them.
+    #[track_caller]
+    pub fn available(&self) -> i64 {
+        let mut permits = 0;
+        // SAFETY: the semaphore is open, and the number lives.
+        must(unsafe { sys::aqs_sem_getvalue(self.semaphore, &mut permits) });
+        permits
+    }
+
     /// The text of the history since the last trim.
     pub fn history(&self) -> Result<String, Error> {
         // SAFETY: the semaphore is open.

@@ -67,6 +67,7 @@ extern "C" {
     pub fn aqs_sem_tryacquire(semaphore: *mut Sem, n: u32) -> Status;
     pub fn aqs_sem_release(semaphore: *mut Sem, n: u32) -> Status;
     pub fn aqs_sem_drain(semaphore: *mut Sem, n: *mut u32) -> Status;
+    pub fn aqs_sem_getvalue(semaphore: *mut Sem, permits: *mut i64) -> Status;
     pub fn aqs_sem_object(semaphore: *mut Sem) -> *mut Object;
 
     pub fn aqs_latch_open(latch: *mut *mut Latch, count: u32, options: *const Options) -> Status;
@@ -75,6 +76,7 @@ extern "C" {
     pub fn aqs_latch_await(latch: *mut Latch) -> Status;
     pub fn aqs_latch_await_interruptibly(latch: *mut Latch) -> Status;
     pub fn aqs_latch_timedawait(latch: *mut Latch, milliseconds: u32) -> Status;
+    pub fn aqs_latch_getcount(latch: *mut Latch, count: *mut u32) -> Status;
     pub fn aqs_latch_object(latch: *mut Latch) -> *mut Object;
 
     pub fn aqs_history_text(

@@ -197,6 +197,7 @@ fn semaphore_counts_permits() {
         permits.acquire(4);
     });
     permits.release(6);
+    assert_eq!(permits.available(), 6);
     assert_eq!(permits.drain(), 6);
     assert!(panic::catch_unwind(|| permits.acquire(3_000_000_000)).is_err());
     keep("semaphore", permits.history().unwrap());
@@ -206,6 +207,7 @@ fn semaphore_counts_permits() {
 fn latch_opens_once() {
     let latch = Latch::with(2, Options::new().keep_history()).unwrap();
     assert_eq!(latch.wait_for(SHORT), Err(Error::TimedOut));
+    assert_eq!(latch.count(), 2);
     thread::scope(|scope| {
         for _ in 0..3 {
             scope.spawn(|| latch.wait());

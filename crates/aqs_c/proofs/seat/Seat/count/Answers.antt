@@ -1,0 +1,10 @@
+use Rattle.std.specs.Arc.{arc_value}
+use Rattle.aqs_c.proofs.SeatTurns.{seat_read}
+use Rattle.aqs_c.proofs.seat.Seat.count.Goals as goal
+
+pub invariant_of-self : goal.invariant_of-self
+invariant_of-self c =
+    let looked = c.count_quietly.ensures in
+    seat_read (arc_value c.self.inside.monitor) c.self.inside.pass c.count_quietly.new.pass
+    c.self.inside.waiting c.count_quietly.result c.is_true.ensures looked.shows looked.busy looked.looked
+    c.self.invariant
