@@ -13,10 +13,14 @@
 //! word has changed and the thread doesn't sleep. If it comes later, the count isn't 0, and the sender wakes
 //! all who sleep. A sender that finds its signal set already does nothing more. The thread that set it has
 //! woken, or is about to wake, all who slept then, and any thread that comes later sees the signal.
+//!
+//! **A thread looks before it sleeps.** To sleep and to be woken takes two system calls, and each of them longer
+//! than most holders keep a lock.
 ghost use Rattle.std.specs.Prelude.{◌≡◌, ◌+◌, ◌-◌, ◌^◌, ◌↔◌, true};
 ghost use Rattle.permit.specs.Signal.{IsAwaited, IsSet, bit_of, woke_by};
 
 use crate::parking::Woke;
+use std::hint::spin_loop;
 use std::sync::Wait;
 use std::sync::atomic::{AtomicU64, Ordering};
 use std::time::Duration;
@@ -29,6 +33,9 @@ pub(crate) enum Signal {
 }
 
 const SLEEPER: u64 = 4;
+
+// How many times a thread looks for a signal before it sleeps.
+const LOOKS: u32 = 2000;
 
 // The bits that the system compares.
 const LOW: u64 = 0xffff_ffff;
@@ -143,6 +150,9 @@ impl Signals {
     /// It may return early.
     #[cold]
     pub(crate) fn sleep<R: Wait>(&self, rt: &R, interruptible: bool, left: Option<Duration>) {
+        if self.comes_soon(interruptible) {
+            return;
+        }
         let sleeper = self.count_in();
         if awaited(sleeper.read, interruptible).is_none() {
             let low = (sleeper.read & LOW) as u32;
@@ -152,6 +162,17 @@ impl Signals {
             }
         }
         self.strike_off(sleeper);
+    }
+
+    // Looks a few times, and returns whether a signal that the park takes is set.
+    fn comes_soon(&self, interruptible: bool) -> bool {
+        for _ in 0..LOOKS {
+            if awaited(self.read(), interruptible).is_some() {
+                return true;
+            }
+            spin_loop();
+        }
+        false
     }
 
     // Counts the thread as one that sleeps, and reads the word.

@@ -21,7 +21,7 @@ use std::marker::Model;
 use std::sync::Wait;
 
 // How often a thread reads the word before it sleeps.
-const LOOKS: u32 = 100;
+const LOOKS: u32 = 1000;
 
 /// A value that only one token at a time may have. Contracts see which lock it is, and the header of the
 /// value that it was opened with.
