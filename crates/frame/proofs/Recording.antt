@@ -15,6 +15,7 @@ use Rattle.history.specs.Naming.{named, named_by}
 use Rattle.history.specs.Room.{has_room, was_owed}
 use Rattle.history.specs.Steps.{entry_for}
 use Rattle.frame.specs.Core.{CoreView, made_by, places_behind, start_of, unmarked_at, IsAdded, IsAnswer, IsAnswered, IsRecorded, IsStepped, IsTold, IsOf, KeepsHolds, LacksMemory, NamesBelow}
+use Rattle.frame.specs.Tidied.{HasTidied, WasTidied}
 use Rattle.frame.proofs.Telling.{marks_slept}
 
 -- an entry that has room, and one that hasn't
@@ -76,6 +77,7 @@ pub record Entered (v : CoreView) (e : Entry) (r : Result Answer Fault) (new : C
   pub grown : new.entries ≡ made_by r ++ v.entries
   pub own : IfOk r (λ answer. IsOf e.seat answer)
   pub names : IfOk r (λ answer. NamesBelow v.header.seats answer)
+  pub tidied : IfOk r (λ answer. HasTidied e.seat answer)
 
 answered_by : (v new : CoreView) (i : ℕ) (step : Step) (e : Entry) (r : Result Answer Fault) →
     entry_for (start_of v) v.entries i step ≡ Ok (Some e) → IsRecorded v e r new → IsAnswered v i step r new
@@ -104,13 +106,14 @@ stepped v new i step e r made is =
       grown = is.grown;
       own = subst (λ j. IfOk r (λ answer. IsOf j answer)) own is.own;
       names = is.names;
+      tidied = subst (λ j. IfOk r (λ answer. HasTidied j answer)) own is.tidied;
     }
 
 -- one who waits on is told no more
 pub waited : (v new : CoreView) (i : ℕ) (step : Step) →
-    entry_for (start_of v) v.entries i step ≡ Ok None → new ≡ unmarked_at i v →
+    entry_for (start_of v) v.entries i step ≡ Ok None → new ≡ unmarked_at i v → WasTidied i →
     IsStepped v i step (Ok Sleep) new
-waited v new i step made is =
+waited v new i step made is tidied =
     subst (IsStepped v i step (Ok Sleep)) (sym is) (record {
       answered = inl (record {
         answer = sym (ap (λ m. (answer_by (start_of v) v.entries m).0) made);
@@ -129,6 +132,7 @@ waited v new i step made is =
       grown = refl;
       own = tt;
       names = tt;
+      tidied = tidied;
     })
 
 -- an entry that is made, by what it was called

@@ -30,6 +30,7 @@ use Rattle.history.specs.Start.{Start}
 use Rattle.history.specs.Steps.{entry_for}
 use Rattle.frame.specs.declared.seat.Seat.{Seat}
 use Rattle.frame.specs.Seat.{IsSeat, marks_in, no_holds}
+use Rattle.frame.specs.Tidied.{HasTidied}
 
 -- the header of an object as opened
 abbrev pub header_of : Object → ℕ → ℕ → ℕ → Header
@@ -223,3 +224,4 @@ pub record IsStepped (old : CoreView) (i : ℕ) (step : Step) (r : Result Answer
   pub grown : new.entries ≡ made_by r ++ old.entries
   pub own : IfOk r (λ answer. IsOf i answer)
   pub names : IfOk r (λ answer. NamesBelow old.header.seats answer)
+  pub tidied : IfOk r (λ answer. HasTidied i answer)

@@ -1,5 +1,7 @@
 -- That the cancelled nodes right before a seat's were freed.
 use Rattle.std.specs.Prelude.{ℕ}
+use Rattle.history.specs.declared.step.Answer.{Answer}
+use Rattle.history.specs.declared.step.Answer.TheVariants.{Recorded, Sleep}
 
 -- They were freed, if there were any. What it means stays hidden. So only a function that calls `tidy_before` can meet
 -- a contract that promises it.
@@ -10,3 +12,8 @@ WasTidied seat = Unit {0}
 pub tidied : (seat : ℕ) → WasTidied seat
 unfolding WasTidied
 tidied seat = tt
+
+-- before a seat slept on, they were freed
+abbrev pub HasTidied : ℕ → Answer → Type 0
+HasTidied seat (Recorded e named) = Unit {0}
+HasTidied seat Sleep = WasTidied seat

@@ -4,6 +4,7 @@ ghost use Rattle.std.specs.Prelude.{◌≡◌, ◌++◌, ◌<◌, true, if◌the
 ghost use Rattle.frame.specs.Core.{made_by, places_behind, ready_of};
 ghost use Rattle.frame.specs.Core.{IsAdded, IsNext, IsOf, IsRecorded, IsTold, KeepsHolds, NamesBelow};
 ghost use Rattle.frame.specs.Effects.{asks_before};
+ghost use Rattle.frame.specs.Tidied.{HasTidied};
 ghost use Rattle.history.specs.Room.{was_owed};
 
 use super::Core;
@@ -67,6 +68,7 @@ impl<H: Hooks + Drop> Core<H> {
         ensures grown { self.new.entries ≡ made_by result ++ self.old.entries }
         ensures own { IfOk result (λ answer. IsOf entry.seat answer) }
         ensures names { IfOk result (λ answer. NamesBelow self.old.header.seats answer) }
+        ensures tidied { IfOk result (λ answer. HasTidied entry.seat answer) }
     {
         let before = self.ready_before(entry.word);
         let name = self.write(entry, before)?;

@@ -4,7 +4,7 @@ ghost use Rattle.std.specs.Prelude.{◌≡◌, ◌≢◌, ◌<◌, ◌^◌, ◌+
 ghost use Rattle.acquire_queue.specs.Line.{IsTidy};
 ghost use Rattle.frame.specs.Core.{made_by, places_behind, ready_of, unmarked_at};
 ghost use Rattle.frame.specs.Core.{IsAnswered, IsOf, IsTold, KeepsHolds, MakesOwed, NamesBelow};
-ghost use Rattle.frame.specs.Tidied.{WasTidied};
+ghost use Rattle.frame.specs.Tidied.{HasTidied, WasTidied};
 
 use super::Core;
 use crate::hooks::Hooks;
@@ -48,7 +48,8 @@ impl<H: Hooks + Drop> Core<H> {
     ///
     /// - `Recorded`: the one entry that the step makes, and the waiter that it names. The first five faults
     ///   are recorded in this way.
-    /// - `Sleep`: nothing is recorded, and the seat keeps waiting. Its mark is cleared.
+    /// - `Sleep`: nothing is recorded, and the seat keeps waiting. Its mark is cleared, and the cancelled nodes
+    ///   right before it in the queue are freed.
     /// - `WrongMode`, `NoSuchCondition`, `BadAmount`, `OutOfPhase`: the seat can't make this step now.
     /// - `HistoryFull`: the entry, with what it would owe, doesn't fit in the history.
     /// - `OutOfMemory`: the history's memory couldn't grow. It is returned only if places are lacking for the
@@ -76,6 +77,7 @@ impl<H: Hooks + Drop> Core<H> {
         ensures grown { self.new.entries ≡ made_by result ++ self.old.entries }
         ensures own { IfOk result (λ answer. IsOf seat answer) }
         ensures names { IfOk result (λ answer. NamesBelow self.old.header.seats answer) }
+        ensures tidied { IfOk result (λ answer. HasTidied seat answer) }
     {
         match self.step_at_once(seat, step) {
             Some(entry) => Ok(Answer::Recorded(entry, None)),
@@ -99,6 +101,7 @@ impl<H: Hooks + Drop> Core<H> {
         ensures grown { self.new.entries ≡ made_by result ++ self.old.entries }
         ensures own { IfOk result (λ answer. IsOf seat answer) }
         ensures names { IfOk result (λ answer. NamesBelow self.old.header.seats answer) }
+        ensures tidied { IfOk result (λ answer. HasTidied seat answer) }
     {
         match step {
             Step::Acquire(mode, n) => self.acquire(seat, mode, n),
@@ -123,6 +126,7 @@ impl<H: Hooks + Drop> Core<H> {
         ensures grown { self.new.entries ≡ made_by result ++ self.old.entries }
         ensures own { IfOk result (λ answer. IsOf seat answer) }
         ensures names { IfOk result (λ answer. NamesBelow self.old.header.seats answer) }
+        ensures tidied { IfOk result (λ answer. HasTidied seat answer) }
     {
         let _header = &self.header;
         match self.decide(seat, step) {

@@ -48,6 +48,7 @@ returns-then-queues g c =
       grown = c.record.ensures.grown;
       own = c.record.ensures.own;
       names = c.record.ensures.names;
+      tidied = c.record.ensures.tidied;
     })
 
 pub returns-then-takes : goal.returns-then-takes
@@ -65,4 +66,5 @@ returns-then-takes g c =
       grown = c.record-then-takes.ensures.grown;
       own = c.record-then-takes.ensures.own;
       names = c.record-then-takes.ensures.names;
+      tidied = c.record-then-takes.ensures.tidied;
     })

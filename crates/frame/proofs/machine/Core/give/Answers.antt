@@ -35,4 +35,5 @@ returns-then-gives g c =
       grown = c.record.ensures.grown;
       own = c.record.ensures.own;
       names = c.record.ensures.names;
+      tidied = c.record.ensures.tidied;
     })

@@ -31,7 +31,7 @@ returns-then-is_some g c =
     c.self.view_is (c.arrival_of.ensures ∙ ap (place_of c.args.seat) c.self.invariant.waiting.line) in
     waited v c.sleep.new.self c.args.seat Look
     (waits_on v c.args.seat c.arrival_of.result header place (sym c.is_some.ensures ∙ c.if-is_some.true)
-    (sym c.is_ready.ensures ∙ c.if-is_ready.false)) c.sleep.ensures.unmarked
+    (sym c.is_ready.ensures ∙ c.if-is_ready.false)) c.sleep.ensures.unmarked c.sleep.ensures.tidied
 
 pub returns-else-first : goal.returns-else-first
 returns-else-first g c =
@@ -48,4 +48,5 @@ returns-else-first g c =
       grown = c.record.ensures.grown;
       own = c.record.ensures.own;
       names = c.record.ensures.names;
+      tidied = c.record.ensures.tidied;
     })
