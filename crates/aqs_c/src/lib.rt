@@ -15,7 +15,7 @@
 //! has them, and `specs/Codes.antt` the numbers.
 #![tactic(auto)]
 
-ghost use Rattle.std.specs.Prelude.{◌≡◌, None};
+ghost use Rattle.std.specs.Prelude.{◌≡◌, MatchOption, None};
 ghost use Rattle.aqs_c.specs.Calls.{IsPassBegun, IsPassEntry, IsPassGoneOn, IsPassNumber, IsPassStep, IsPassText, IsPassTrim, count_seen, permits_seen};
 ghost use Rattle.aqs_c.specs.Opening.{IsOpening};
 
@@ -195,13 +195,7 @@ pub extern "C" fn aqs_available_now(alloc: Global, pass: &mut AqsPass, permits: 
         Some(mut seat) => {
             let found = seat.available();
             *pass = AqsPass::of(seat);
-            match found {
-                Some(available) => {
-                    *permits = available;
-                    ENTRY
-                }
-                None => BUSY,
-            }
+            put_number(found, permits)
         }
     }
 }
@@ -217,13 +211,7 @@ pub extern "C" fn aqs_count_now(alloc: Global, pass: &mut AqsPass, count: &mut u
         Some(mut seat) => {
             let found = seat.count();
             *pass = AqsPass::of(seat);
-            match found {
-                Some(left) => {
-                    *count = left;
-                    ENTRY
-                }
-                None => BUSY,
-            }
+            put_number(found, count)
         }
     }
 }
@@ -234,4 +222,18 @@ pub extern "C" fn aqs_drop(alloc: Global, pass: &mut AqsPass)
     ensures { pass.new.held.value ≡ None }
 {
     drop(pass.take(alloc));
+}
+
+// Puts a number that was found into its place, and returns the kind of an answer.
+fn put_number<N: Copy>(found: Option<N>, place: &mut N) -> u8
+    ensures { MatchOption found ((result ≡ 3) × (place.new ≡ place.old))
+        (λ n. (result ≡ 0) × (place.new ≡ n)) }
+{
+    match found {
+        Some(number) => {
+            *place = number;
+            ENTRY
+        }
+        None => BUSY,
+    }
 }

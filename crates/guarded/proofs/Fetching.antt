@@ -1,52 +1,52 @@
 -- What the calls of a pool leave of the free permits, and so of the items that one has.
-use Rattle.std.proofs.Common.{◌≡◌, ◌⊎◌, inl, inr, ℕ, eqb, Bool, true, false, cond, List, [], ◌∷◌, length, Option, Some, None, IfErr, Result, Ok, Err, refl, sym, ap, ◌∙◌, subst, arith}
+use Rattle.std.proofs.Common.{◌≡◌, ◌⊎◌, inl, inr, ℕ, Bool, true, false, cond, List, [], ◌∷◌, length, Option, Some}
+use Rattle.std.proofs.Common.{None, IfErr, Result, Ok, Err, refl, sym, ap, ◌∙◌, subst, arith}
 use Rattle.std.specs.Prelude.{ℤ, pos, ◌+ℤ◌, int_lt}
 use Rattle.std.proofs.lemmas.Int.{ints}
 use Rattle.history.specs.declared.limits.TheConstants.{MOST_AMOUNT}
 use Rattle.history.specs.declared.entry.End.TheVariants as end
 use Rattle.history.specs.declared.entry.Entry.{Entry}
-use Rattle.history.specs.declared.entry.Mode.{Mode}
 use Rattle.history.specs.declared.entry.Mode.TheVariants.{S}
 use Rattle.history.specs.declared.entry.Word.{Word}
 use Rattle.history.specs.declared.entry.Word.TheVariants as word
 use Rattle.history.specs.declared.fault.Fault.{Fault}
 use Rattle.history.specs.declared.fault.Fault.TheVariants as fault
-use Rattle.history.specs.declared.fault.Fault.TheVariants.{HistoryFull}
 use Rattle.history.specs.declared.header.Header.{Header}
 use Rattle.history.specs.declared.header.Object.{Object}
 use Rattle.history.specs.declared.header.Object.TheVariants.{Lock, ReadWrite, Semaphore, Latch}
 use Rattle.history.specs.declared.step.Step.{Step}
-use Rattle.history.specs.declared.step.Step.TheVariants.{Acquire, EntryInterrupt, Give, Try, TryFair}
+use Rattle.history.specs.declared.step.Step.TheVariants.{EntryInterrupt, Give, Try}
 use Rattle.history.specs.Base.{Base}
 use Rattle.history.specs.Could.{could, limit, try_held_back}
 use Rattle.history.specs.Counts.{Counts, counts, free, free_after}
 use Rattle.history.specs.Line.{first_mode}
 use Rattle.history.specs.Object.{is_semaphore}
-use Rattle.history.specs.Start.{Start, opening}
+use Rattle.history.specs.Start.{opening}
 use Rattle.history.specs.Steps.{ended, entry_for, gave, plain}
 use Rattle.permit.specs.Deed.{Deed}
 use Rattle.word_lock.specs.Point.{header_of}
 use Rattle.word_lock.specs.Ticket.{LockId}
-use Rattle.monitor.specs.Acquire.{AtOnce, EndsAtOnce, IsAcquire, IsAtOnce, IsEndFor, first_step, has_time, is_timed}
+use Rattle.monitor.specs.Acquire.{AtOnce, EndsAtOnce, IsAcquire, IsAtOnce, IsEndFor, is_timed}
 use Rattle.monitor.specs.Lawful.{start_at, view_of}
 use Rattle.monitor.specs.Load.{Moves, free_of}
 use Rattle.monitor.specs.Shown.{Shown, IsSound}
 use Rattle.monitor.specs.Stepping.{IsEntered, IsSame}
 use Rattle.monitor.specs.Waits.{asking}
 use Rattle.monitor.specs.declared.how.How.{How}
-use Rattle.monitor.specs.declared.how.How.TheVariants.{Plain, Interruptible, Timed}
 use Rattle.monitor.specs.declared.room.WhenFull.{WhenFull}
 use Rattle.monitor.proofs.Acquiring.{idle_made}
 use Rattle.monitor.proofs.InLine.{records}
 use Rattle.monitor_fronts.specs.Told.{whether_of}
+use Rattle.monitor_fronts.proofs.Exactly.{first_plain, timed, tried_words}
+use Rattle.monitor_fronts.proofs.MakingRoom.{in_room}
 use Rattle.guarded.specs.declared.asking.PoolCall.{PoolCall}
 use Rattle.guarded.specs.declared.asking.PoolCall.TheVariants as asks
 use Rattle.guarded.specs.declared.shelf.Shelf.{Shelf}
 use Rattle.guarded.specs.Asking.{told_of}
-use Rattle.guarded.specs.Pooling.{Answers, asked_by, brought_by, free_after_call, free_if, has_after, is_done, pool_call}
+use Rattle.guarded.specs.Pooling.{Answers, asked_by, brought_by, free_after_call, free_if, has_after, is_done}
+use Rattle.guarded.specs.Pooling.{pool_call}
 use Rattle.guarded.specs.Shelved.{IsOfSemaphore}
 use Rattle.guarded.specs.Stowed.{MutexView, mutex_view}
-use Rattle.guarded.proofs.Room.{in_room}
 
 -- an entry that leaves the free permits as the answer to its call says
 record Frees (asked : PoolCall) (e : Entry) : Type 0 where
@@ -55,19 +55,6 @@ record Frees (asked : PoolCall) (e : Entry) : Type 0 where
 
 frees_as : (asked : PoolCall) (e f : Entry) → e ≡ f → Frees asked f → Frees asked e
 frees_as asked e f q frees = subst (λ (z : Entry). Frees asked z) (sym q) frees
-
-as_plain : (i : ℕ) (w : Word) (m : Mode) (n : ℕ) (e : Entry) → e ≡ plain i w m n → e ≡ plain i e.word m n
-as_plain i w m n e q = q ∙ ap (λ (z : Word). plain i z m n) (sym (ap (λ (z : Entry). z.word) q))
-
-first_plain : (s : Start) (h : List Entry) (i : ℕ) (how : How) (m : Mode) (n : ℕ) (e : Entry) →
-    entry_for s h i (first_step how m n) ≡ Ok (Some e) → e ≡ plain i e.word m n
-first_plain s h i Plain m n e q = as_plain i _ m n e (idle_made s h i (Acquire m n) e refl q).is
-first_plain s h i Interruptible m n e q = as_plain i _ m n e (idle_made s h i (Acquire m n) e refl q).is
-first_plain s h i (Timed ms) m n e q = by (eqb ms 0) q
-  where
-    by : (b : Bool) → entry_for s h i (cond b (TryFair m n) (Acquire m n)) ≡ Ok (Some e) → e ≡ plain i e.word m n
-    by true r = as_plain i _ m n e (idle_made s h i (TryFair m n) e refl r).is
-    by false r = as_plain i _ m n e (idle_made s h i (Acquire m n) e refl r).is
 
 at_once_frees : (how : How) (i n : ℕ) (w : Word) → AtOnce how w → Frees (asks.Acquire n how) (plain i w S n)
 at_once_frees how i n word.Got a = record { left = λ had. refl; answers = tt }
@@ -91,11 +78,6 @@ first_frees did old how n step e new (inr b) x =
     (idle_made (start_at m.front) m.front.entries old.seat (EntryInterrupt S n) e refl made).is
     record { left = λ had. refl; answers = tt }
 
-timed : (how : How) → has_time how → is_timed how
-timed Plain t = t
-timed Interruptible t = t
-timed (Timed ms) t = tt
-
 end_frees : (how : How) (i n : ℕ) (e : Entry) → IsEndFor how i (asking i S n) e → Frees (asks.Acquire n how) e
 end_frees how i n e (inl q) =
     frees_as (asks.Acquire n how) e (ended i word.Granted (asking i S n) end.None) q
@@ -106,14 +88,6 @@ end_frees how i n e (inr (inl q)) =
 end_frees how i n e (inr (inr q)) =
     frees_as (asks.Acquire n how) e (ended i word.Left (asking i S n) end.Interrupt) q.0
     record { left = λ had. refl; answers = tt }
-
-tried_words : (b c d : Bool) →
-    let w = cond b word.Missed (cond c (word.Refused fault.TooManyHolds) (cond d word.TryGot word.Missed)) in
-    (w ≡ word.Missed) ⊎ ((w ≡ word.Refused fault.TooManyHolds) ⊎ (w ≡ word.TryGot))
-tried_words true c d = inl refl
-tried_words false true d = inr (inl refl)
-tried_words false false true = inr (inr refl)
-tried_words false false false = inl refl
 
 tries_free : (i n : ℕ) (w : Word) →
     (w ≡ word.Missed) ⊎ ((w ≡ word.Refused fault.TooManyHolds) ⊎ (w ≡ word.TryGot)) →
@@ -239,11 +213,10 @@ call_left did w (asks.Release n) old new r semaphore same shows made =
     (ap (λ (l : LockId). is_semaphore l.header.object) of ∙ semaphore) at shows one) made
 
 -- a pass of a pool is of a semaphore
-pub is_of_semaphore : (monitor : LockId) (when_full : WhenFull) (m : MutexView) (p : Shown) →
-    mutex_view monitor when_full ≡ m → IsOfSemaphore monitor → p.lock ≡ m.lock →
-    is_semaphore p.lock.header.object ≡ true
-is_of_semaphore monitor when_full m p view semaphore of =
-    ap (λ (l : LockId). is_semaphore l.header.object) of
+pub is_of_semaphore : {monitor : LockId} {when_full : WhenFull} {m : MutexView} {l : LockId} →
+    mutex_view monitor when_full ≡ m → IsOfSemaphore monitor → l ≡ m.lock → is_semaphore l.header.object ≡ true
+is_of_semaphore {monitor} {when_full} {m} {l} view semaphore of =
+    ap (λ (k : LockId). is_semaphore k.header.object) of
     ∙ (ap (λ (v : MutexView). is_semaphore v.lock.header.object) (sym view) ∙ semaphore)
 
 -- what one has then, by what one brought
@@ -254,17 +227,26 @@ has_by true (asks.Try n) m has f brings q = omega (arith, ints, q, brings)
 has_by true (asks.Release n) m has f brings q = omega (arith, ints, q, brings)
 has_by false asked m has f brings q = omega (arith, ints, q, brings)
 
-pub has_then : {T : Type 0} (asked : PoolCall) (told : Result Bool Fault) (x y : Shelf T) (f g : ℤ) →
-    length x.items ≡ brought_by asked → g ≡ free_after_call asked told f →
-    Moves true (λ (s : Shelf T). length s.items) x f y g → length y.items ≡ has_after asked told
-has_then asked told x y f g brings is m =
-    has_by (is_done told) asked (length x.items) (length y.items) f brings
-    (ap (λ (z : ℤ). pos (length y.items) +ℤ z) (sym is) ∙ m.0)
+-- what a call leaves on its shelf by what is told of it, which such a call may tell
+pub record Ends {T : Type 0} (asked : PoolCall) (told : Result Bool Fault) (x y : Shelf T) : Type 0 where
+  pub answers : Answers asked told
+  pub has : length y.items ≡ has_after asked told
+  pub keeps : is_done told ≡ false → y ≡ x
 
-pub keeps_then : {T : Type 0} (asked : PoolCall) (told : Result Bool Fault) (x y : Shelf T) (f g : ℤ) →
-    g ≡ free_after_call asked told f → Moves true (λ (s : Shelf T). length s.items) x f y g →
-    is_done told ≡ false → y ≡ x
-keeps_then asked told x y f g is m missed = m.1 (is ∙ ap (λ (b : Bool). free_if b asked f) missed)
+pub call_ends : {T : Type 0} (did : Deed → Type 0) (w : WhenFull) (asked is : PoolCall) (old new : Shown)
+    (r : Result Entry Fault) (x y : Shelf T) → asked ≡ is → is_semaphore old.lock.header.object ≡ true →
+    length x.items ≡ brought_by asked → IsSame old new → IsSound new → pool_call did is w old r new →
+    Moves true (λ (s : Shelf T). length s.items) x (free_of old) y (free_of new) → Ends asked (whether_of r) x y
+call_ends {T} did w asked is old new r x y same_call semaphore brings same shows made m =
+    let left = call_left did w asked old new r semaphore same shows
+    (subst (λ (z : PoolCall). pool_call did z w old r new) (sym same_call) made) in
+    record {
+      answers = left.answers;
+      has =
+          has_by (is_done (whether_of r)) asked (length x.items) (length y.items) (free_of old) brings
+          (ap (λ (z : ℤ). pos (length y.items) +ℤ z) (sym left.free) ∙ m.0);
+      keeps = λ missed. m.1 (left.free ∙ ap (λ (b : Bool). free_if b asked (free_of old)) missed);
+    }
 
 -- an acquire that waits as long as it must has items
 pub never_none : {A : Type 0} (n : ℕ) (how : How) (got : Option A) → (is_timed how → ⊥) → got ≡ None →

@@ -1,5 +1,4 @@
 pub mod Stowing
-pub mod Room
 pub mod Calling
 pub mod Readers
 pub mod Shelving

@@ -10,7 +10,9 @@ use Rattle.guarded.specs.declared.slot.Slot.TheVariants.{Empty, Full}
 use Rattle.guarded.specs.Stowed.{IsStowed, Carries, Rests, differ, crosses}
 
 some_left : (n : ℕ) → eqb n 0 ≡ false → 0 < n
-some_left n q = ⊎_elim (λ z. let t = eq-eqb n 0 z in let f : true ≡ false = sym t ∙ q in cc) (λ ne. omega (arith, ne)) (cases_eq n 0)
+some_left n q =
+    ⊎_elim (λ z. let t = eq-eqb n 0 z in let f : true ≡ false = sym t ∙ q in cc) (λ ne. omega (arith, ne))
+    (cases_eq n 0)
 
 module _ (i : ℕ) (f g : ℕ → ℕ) (one_f : (a b : ℕ) → 0 < f a → 0 < f b → a ≡ b)
     (one_g : (a b : ℕ) → 0 < g a → 0 < g b → a ≡ b) (others : (j : ℕ) → j ≢ i → g j ≡ f j) where
@@ -25,7 +27,8 @@ module _ (i : ℕ) (f g : ℕ → ℕ) (one_f : (a b : ℕ) → 0 < f a → 0 < 
 
   free_free : {T : Type 0} → f i ≡ 0 → g i ≡ 0 → (here there : Slot T) → IsStowed f here → Carries (f i) there →
       IsStowed g here × Carries (g i) there
-  free_free a b Empty Empty s c = ((s.0, let e = others s.0 (elsewhere s.0 a s.1) in let l = s.1 in omega (arith, e, l)), b)
+  free_free a b Empty Empty s c =
+      let e = others s.0 (elsewhere s.0 a s.1) in let l = s.1 in ((s.0, omega (arith, e, l)), b)
   free_free a b Empty (Full y) s c = absurd (omega (arith, a, c))
   free_free a b (Full x) Empty s c = (none_now b (λ j ne. s j), b)
   free_free a b (Full x) (Full y) s c = absurd (omega (arith, a, c))
@@ -63,7 +66,8 @@ module _ (i : ℕ) (f g : ℕ → ℕ) (one_f : (a b : ℕ) → 0 < f a → 0 < 
 
 -- a turn of the lock with a trade
 pub moved : {T : Type 0} (i : ℕ) (k l : Counts) → IsTurn i k l → (b a : ℕ) → b ≡ k.held i X → a ≡ l.held i X →
-    (here there here' there' : Slot T) → here' ≡ cond (crosses b a) there here → there' ≡ cond (crosses b a) here there →
+    (here there here' there' : Slot T) → here' ≡ cond (crosses b a) there here →
+    there' ≡ cond (crosses b a) here there →
     Rests here k → Carries (k.held i X) there → Rests here' l × Carries (l.held i X) there'
 moved {T} i k l t b a before after here there here' there' h th r c =
     let lock : is_lock l.object ≡ true = ap is_lock t.object ∙ r.lock in
@@ -77,9 +81,6 @@ moved {T} i k l t b a before after here there here' there' h th r c =
       },
       subst (λ (z : Slot T). Carries (l.held i X) z) (sym (th ∙ ap (λ w. cond w here there) same)) x.1,
     )
-
-pub carried : {T : Type 0} (n : ℕ) (v w : Slot T) → v ≡ w → Carries n v → Carries n w
-carried {T} n v w q c = subst (λ (z : Slot T). Carries n z) q c
 
 pub rests_as : {T : Type 0} (v w : Slot T) (k : Counts) → w ≡ v → Rests v k → Rests w k
 rests_as {T} v w k q r = subst (λ (z : Slot T). Rests z k) (sym q) r

@@ -72,8 +72,9 @@ impl<'a, T: Drop, P: Parking, R: Wait + Clock, H: Hooks + Drop> Guard<'a, T, P, 
         ensures same { IsSame self.old.pass.now self.new.pass.now }
         ensures guards { Guards self.new.lock.now (P.seats self.new.parking.now) self.new.pass.now self.new.slot }
         ensures keeps { holds self.new.pass.now ≡ holds self.old.pass.now }
-        ensures awaited { Tells self.old.lock.now.when_full (awaits (P.did self.old.parking.now) condition Interruptible) self.old.pass.now
-            self.new.pass.now result }
+        ensures awaited { Tells self.old.lock.now.when_full
+            (awaits (P.did self.old.parking.now) condition Interruptible)
+            self.old.pass.now self.new.pass.now result }
     {
         let pass = &mut *self.pass;
         self.lock.sleep(
@@ -94,8 +95,9 @@ impl<'a, T: Drop, P: Parking, R: Wait + Clock, H: Hooks + Drop> Guard<'a, T, P, 
         ensures same { IsSame self.old.pass.now self.new.pass.now }
         ensures guards { Guards self.new.lock.now (P.seats self.new.parking.now) self.new.pass.now self.new.slot }
         ensures keeps { holds self.new.pass.now ≡ holds self.old.pass.now }
-        ensures awaited { Tells self.old.lock.now.when_full (awaits (P.did self.old.parking.now) condition (Timed ms)) self.old.pass.now
-            self.new.pass.now result }
+        ensures awaited { Tells self.old.lock.now.when_full
+            (awaits (P.did self.old.parking.now) condition (Timed ms))
+            self.old.pass.now self.new.pass.now result }
     {
         let pass = &mut *self.pass;
         self.lock.sleep(
@@ -116,8 +118,9 @@ impl<'a, T: Drop, P: Parking, R: Wait + Clock, H: Hooks + Drop> Guard<'a, T, P, 
         ensures same { IsSame self.old.pass.now self.new.pass.now }
         ensures guards { Guards self.new.lock.now (P.seats self.new.parking.now) self.new.pass.now self.new.slot }
         ensures keeps { holds self.new.pass.now ≡ holds self.old.pass.now }
-        ensures awaited { Tells self.old.lock.now.when_full (awaits (P.did self.old.parking.now) condition Plain) self.old.pass.now
-            self.new.pass.now result }
+        ensures awaited { Tells self.old.lock.now.when_full
+            (awaits (P.did self.old.parking.now) condition Plain)
+            self.old.pass.now self.new.pass.now result }
     {
         let pass = &mut *self.pass;
         self.lock.sleep(
@@ -138,8 +141,9 @@ impl<'a, T: Drop, P: Parking, R: Wait + Clock, H: Hooks + Drop> Guard<'a, T, P, 
         ensures same { IsSame self.old.pass.now self.new.pass.now }
         ensures guards { Guards self.new.lock.now (P.seats self.new.parking.now) self.new.pass.now self.new.slot }
         ensures keeps { holds self.new.pass.now ≡ holds self.old.pass.now }
-        ensures signalled { TellsDone self.old.lock.now.when_full (signals (P.did self.old.parking.now) false condition) self.old.pass.now
-            self.new.pass.now result }
+        ensures signalled { TellsDone self.old.lock.now.when_full
+            (signals (P.did self.old.parking.now) false condition)
+            self.old.pass.now self.new.pass.now result }
         ensures value { self.new.slot ≡ self.old.slot }
     {
         let pass = &mut *self.pass;
@@ -157,8 +161,9 @@ impl<'a, T: Drop, P: Parking, R: Wait + Clock, H: Hooks + Drop> Guard<'a, T, P, 
         ensures same { IsSame self.old.pass.now self.new.pass.now }
         ensures guards { Guards self.new.lock.now (P.seats self.new.parking.now) self.new.pass.now self.new.slot }
         ensures keeps { holds self.new.pass.now ≡ holds self.old.pass.now }
-        ensures signalled { TellsDone self.old.lock.now.when_full (signals (P.did self.old.parking.now) true condition) self.old.pass.now
-            self.new.pass.now result }
+        ensures signalled { TellsDone self.old.lock.now.when_full
+            (signals (P.did self.old.parking.now) true condition)
+            self.old.pass.now self.new.pass.now result }
         ensures value { self.new.slot ≡ self.old.slot }
     {
         let pass = &mut *self.pass;
@@ -173,8 +178,9 @@ impl<'a, T: Drop, P: Parking, R: Wait + Clock, H: Hooks + Drop> Guard<'a, T, P, 
         ensures same { IsSame self.old.pass.now self.new.pass.now }
         ensures guards { Guards self.new.lock.now (P.seats self.new.parking.now) self.new.pass.now self.new.slot }
         ensures gains { holds self.new.pass.now ≡ holds self.old.pass.now + gained result }
-        ensures acquired { Tells self.old.lock.now.when_full (acquires (P.did self.old.parking.now) Plain) self.old.pass.now
-            self.new.pass.now result }
+        ensures acquired { Tells self.old.lock.now.when_full
+            (acquires (P.did self.old.parking.now) Plain)
+            self.old.pass.now self.new.pass.now result }
     {
         let pass = &mut *self.pass;
         self.lock.again(self.rt, self.parking, pass, &mut self.slot)

@@ -36,12 +36,14 @@ impl<T: Drop, H: Hooks + Drop> Mutex<T, H> {
         requires places { lock.now.lock.header.seats ≤ P.seats parking.now }
         requires free { holds pass.old ≡ 0 }
         ensures* not_locked { sem 𝓛 (RestsIfErr the_row pass.entry (λ guard. guard.pass.ghost_name) result
-            (λ last. NotLocked lock.now.when_full (acquires (P.did parking.now) Plain) pass.old (told_by result) last)) }
+            (λ last. NotLocked lock.now.when_full (acquires (P.did parking.now) Plain)
+            pass.old (told_by result) last)) }
         ensures same_reference { IfOk result (λ guard. guard.pass.ghost_name ≡ pass.entry.ghost_name) }
         ensures guards { IfOk result (λ guard.
             Guards guard.lock.now (P.seats guard.parking.now) guard.pass.now guard.slot) }
         ensures locked { IfOk result (λ guard.
-            Locked lock.now.when_full (acquires (P.did parking.now) Plain) pass.old guard.slot guard.pass.now) }
+            Locked lock.now.when_full (acquires (P.did parking.now) Plain)
+            pass.old guard.slot guard.pass.now) }
     {
         let slot = lock.take(rt, parking, pass, How::Plain)?;
         Ok(Guard {
@@ -65,12 +67,14 @@ impl<T: Drop, H: Hooks + Drop> Mutex<T, H> {
         requires places { lock.now.lock.header.seats ≤ P.seats parking.now }
         requires free { holds pass.old ≡ 0 }
         ensures* not_locked { sem 𝓛 (RestsIfErr the_row pass.entry (λ guard. guard.pass.ghost_name) result
-            (λ last. NotLocked lock.now.when_full (acquires (P.did parking.now) Interruptible) pass.old (told_by result) last)) }
+            (λ last. NotLocked lock.now.when_full (acquires (P.did parking.now) Interruptible)
+            pass.old (told_by result) last)) }
         ensures same_reference { IfOk result (λ guard. guard.pass.ghost_name ≡ pass.entry.ghost_name) }
         ensures guards { IfOk result (λ guard.
             Guards guard.lock.now (P.seats guard.parking.now) guard.pass.now guard.slot) }
         ensures locked { IfOk result (λ guard.
-            Locked lock.now.when_full (acquires (P.did parking.now) Interruptible) pass.old guard.slot guard.pass.now) }
+            Locked lock.now.when_full (acquires (P.did parking.now) Interruptible)
+            pass.old guard.slot guard.pass.now) }
     {
         let slot = lock.take(rt, parking, pass, How::Interruptible)?;
         Ok(Guard {
@@ -94,7 +98,8 @@ impl<T: Drop, H: Hooks + Drop> Mutex<T, H> {
         requires places { lock.now.lock.header.seats ≤ P.seats parking.now }
         requires free { holds pass.old ≡ 0 }
         ensures* not_locked { sem 𝓛 (RestsIfErr the_row pass.entry (λ guard. guard.pass.ghost_name) result
-            (λ last. NotLocked lock.now.when_full (tries (P.did parking.now)) pass.old (told_if result) last)) }
+            (λ last. NotLocked lock.now.when_full (tries (P.did parking.now))
+            pass.old (told_if result) last)) }
         ensures same_reference { IfOk result (λ guard. guard.pass.ghost_name ≡ pass.entry.ghost_name) }
         ensures guards { IfOk result (λ guard.
             Guards guard.lock.now (P.seats guard.parking.now) guard.pass.now guard.slot) }
@@ -111,9 +116,9 @@ impl<T: Drop, H: Hooks + Drop> Mutex<T, H> {
         })
     }
 
-    /// Waits for the lock, for `ms` milliseconds at most, or until it is interrupted: `Err(Failed(Interrupted))`. With 0
-    /// it doesn't wait, and under a fair or strict policy it doesn't overtake waiters. This is
-    /// `ReentrantLock.tryLock(time, unit)`.
+    /// Waits for the lock, for `ms` milliseconds at most, or until it is interrupted:
+    /// `Err(Failed(Interrupted))`. With 0 it doesn't wait, and under a fair or strict policy it doesn't
+    /// overtake waiters. This is `ReentrantLock.tryLock(time, unit)`.
     pub fn try_lock_for<'a, P: Parking, R: Wait + Clock>(
         pass: &'a mut Pass,
         lock: &'a Mutex<T, H>,
@@ -125,12 +130,14 @@ impl<T: Drop, H: Hooks + Drop> Mutex<T, H> {
         requires places { lock.now.lock.header.seats ≤ P.seats parking.now }
         requires free { holds pass.old ≡ 0 }
         ensures* not_locked { sem 𝓛 (RestsIfErr the_row pass.entry (λ guard. guard.pass.ghost_name) result
-            (λ last. NotLocked lock.now.when_full (acquires (P.did parking.now) (Timed ms)) pass.old (told_if result) last)) }
+            (λ last. NotLocked lock.now.when_full (acquires (P.did parking.now) (Timed ms))
+            pass.old (told_if result) last)) }
         ensures same_reference { IfOk result (λ guard. guard.pass.ghost_name ≡ pass.entry.ghost_name) }
         ensures guards { IfOk result (λ guard.
             Guards guard.lock.now (P.seats guard.parking.now) guard.pass.now guard.slot) }
         ensures locked { IfOk result (λ guard.
-            Locked lock.now.when_full (acquires (P.did parking.now) (Timed ms)) pass.old guard.slot guard.pass.now) }
+            Locked lock.now.when_full (acquires (P.did parking.now) (Timed ms))
+            pass.old guard.slot guard.pass.now) }
     {
         let slot = lock.try_take(rt, parking, pass, Asked::Acquire(How::Timed(ms)))?;
         Ok(Guard {

@@ -78,7 +78,8 @@ impl<T: Drop, H: Hooks + Drop> Mutex<T, H> {
         ensures same { IsSame pass.old pass.new }
         ensures begins { Before pass.old.seen pass.new.seen }
         ensures shows { IsSound pass.new }
-        ensures tells { Tells self.now.when_full (reading_of (P.did parking.now) asked) pass.old pass.new (told_if result) }
+        ensures tells { Tells self.now.when_full (reading_of (P.did parking.now) asked) pass.old pass.new
+            (told_if result) }
         ensures gains { GainsReads pass.old (told_if result) pass.new }
     {
         let mut slot = Slot::Empty;
@@ -105,7 +106,8 @@ impl<T: Drop, H: Hooks + Drop> Mutex<T, H> {
         ensures same { IsSame pass.old pass.new }
         ensures begins { Before pass.old.seen pass.new.seen }
         ensures shows { IsSound pass.new }
-        ensures tells { Tells self.now.when_full (reads_by (P.did parking.now) how) pass.old pass.new (told_by result) }
+        ensures tells { Tells self.now.when_full (reads_by (P.did parking.now) how) pass.old pass.new
+            (told_by result) }
         ensures gains { GainsReads pass.old (told_by result) pass.new }
     {
         match self.try_read_by(rt, parking, pass, Reading::Acquire(how)) {

@@ -67,9 +67,9 @@ impl<T: Drop> Model for RwMutex<T> {
 }
 
 impl<T: Drop> RwMutex<T> {
-    /// Opens a lock that guards the value, and whose write lock has conditions 0 to `conditions - 1`. Returns a pass for
-    /// each seat too, in order. `cap` is the greatest number of entries of its history, owed ones included. If memory
-    /// is refused, it returns the value.
+    /// Opens a lock that guards the value, and whose write lock has conditions 0 to `conditions - 1`. Returns a
+    /// pass for each seat too, in order. `cap` is the greatest number of entries of its history, owed ones
+    /// included. If memory is refused, it returns the value.
     pub fn open(
         alloc: Global,
         value: T,
@@ -169,12 +169,14 @@ impl<T: Drop> RwMutex<T> {
         requires places { lock.now.lock.header.seats ≤ P.seats parking.now }
         requires free { holds pass.old ≡ 0 }
         ensures* not_locked { sem 𝓛 (RestsIfErr the_row pass.entry (λ guard. guard.pass.ghost_name) result
-            (λ last. NotLocked lock.now.when_full (acquires (P.did parking.now) Plain) pass.old (told_by result) last)) }
+            (λ last. NotLocked lock.now.when_full (acquires (P.did parking.now) Plain)
+            pass.old (told_by result) last)) }
         ensures same_reference { IfOk result (λ guard. guard.pass.ghost_name ≡ pass.entry.ghost_name) }
         ensures guards { IfOk result (λ guard.
             Guards guard.lock.now (P.seats guard.parking.now) guard.pass.now guard.slot) }
         ensures locked { IfOk result (λ guard.
-            Locked lock.now.when_full (acquires (P.did parking.now) Plain) pass.old guard.slot guard.pass.now) }
+            Locked lock.now.when_full (acquires (P.did parking.now) Plain)
+            pass.old guard.slot guard.pass.now) }
     {
         Mutex::lock(pass, &lock.mutex, rt, parking)
     }
@@ -191,12 +193,14 @@ impl<T: Drop> RwMutex<T> {
         requires places { lock.now.lock.header.seats ≤ P.seats parking.now }
         requires free { holds pass.old ≡ 0 }
         ensures* not_locked { sem 𝓛 (RestsIfErr the_row pass.entry (λ guard. guard.pass.ghost_name) result
-            (λ last. NotLocked lock.now.when_full (acquires (P.did parking.now) Interruptible) pass.old (told_by result) last)) }
+            (λ last. NotLocked lock.now.when_full (acquires (P.did parking.now) Interruptible)
+            pass.old (told_by result) last)) }
         ensures same_reference { IfOk result (λ guard. guard.pass.ghost_name ≡ pass.entry.ghost_name) }
         ensures guards { IfOk result (λ guard.
             Guards guard.lock.now (P.seats guard.parking.now) guard.pass.now guard.slot) }
         ensures locked { IfOk result (λ guard.
-            Locked lock.now.when_full (acquires (P.did parking.now) Interruptible) pass.old guard.slot guard.pass.now) }
+            Locked lock.now.when_full (acquires (P.did parking.now) Interruptible)
+            pass.old guard.slot guard.pass.now) }
     {
         Mutex::lock_interruptibly(pass, &lock.mutex, rt, parking)
     }
@@ -213,7 +217,8 @@ impl<T: Drop> RwMutex<T> {
         requires places { lock.now.lock.header.seats ≤ P.seats parking.now }
         requires free { holds pass.old ≡ 0 }
         ensures* not_locked { sem 𝓛 (RestsIfErr the_row pass.entry (λ guard. guard.pass.ghost_name) result
-            (λ last. NotLocked lock.now.when_full (tries (P.did parking.now)) pass.old (told_if result) last)) }
+            (λ last. NotLocked lock.now.when_full (tries (P.did parking.now))
+            pass.old (told_if result) last)) }
         ensures same_reference { IfOk result (λ guard. guard.pass.ghost_name ≡ pass.entry.ghost_name) }
         ensures guards { IfOk result (λ guard.
             Guards guard.lock.now (P.seats guard.parking.now) guard.pass.now guard.slot) }
@@ -237,12 +242,14 @@ impl<T: Drop> RwMutex<T> {
         requires places { lock.now.lock.header.seats ≤ P.seats parking.now }
         requires free { holds pass.old ≡ 0 }
         ensures* not_locked { sem 𝓛 (RestsIfErr the_row pass.entry (λ guard. guard.pass.ghost_name) result
-            (λ last. NotLocked lock.now.when_full (acquires (P.did parking.now) (Timed ms)) pass.old (told_if result) last)) }
+            (λ last. NotLocked lock.now.when_full (acquires (P.did parking.now) (Timed ms))
+            pass.old (told_if result) last)) }
         ensures same_reference { IfOk result (λ guard. guard.pass.ghost_name ≡ pass.entry.ghost_name) }
         ensures guards { IfOk result (λ guard.
             Guards guard.lock.now (P.seats guard.parking.now) guard.pass.now guard.slot) }
         ensures locked { IfOk result (λ guard.
-            Locked lock.now.when_full (acquires (P.did parking.now) (Timed ms)) pass.old guard.slot guard.pass.now) }
+            Locked lock.now.when_full (acquires (P.did parking.now) (Timed ms))
+            pass.old guard.slot guard.pass.now) }
     {
         Mutex::try_lock_for(pass, &lock.mutex, rt, parking, ms)
     }
@@ -266,7 +273,8 @@ impl<T: Drop> RwMutex<T> {
         ensures same { IsSame pass.old pass.new }
         ensures begins { Before pass.old.seen pass.new.seen }
         ensures shows { IsSound pass.new }
-        ensures tells { Tells self.now.when_full (reads_by (P.did parking.now) Plain) pass.old pass.new (told_by result) }
+        ensures tells { Tells self.now.when_full (reads_by (P.did parking.now) Plain) pass.old pass.new
+            (told_by result) }
         ensures gains { GainsReads pass.old (told_by result) pass.new }
     {
         self.mutex.read_by(rt, parking, pass, How::Plain)
@@ -286,7 +294,8 @@ impl<T: Drop> RwMutex<T> {
         ensures same { IsSame pass.old pass.new }
         ensures begins { Before pass.old.seen pass.new.seen }
         ensures shows { IsSound pass.new }
-        ensures tells { Tells self.now.when_full (reads_by (P.did parking.now) Interruptible) pass.old pass.new (told_by result) }
+        ensures tells { Tells self.now.when_full (reads_by (P.did parking.now) Interruptible) pass.old pass.new
+            (told_by result) }
         ensures gains { GainsReads pass.old (told_by result) pass.new }
     {
         self.mutex.read_by(rt, parking, pass, How::Interruptible)
@@ -307,7 +316,8 @@ impl<T: Drop> RwMutex<T> {
         ensures same { IsSame pass.old pass.new }
         ensures begins { Before pass.old.seen pass.new.seen }
         ensures shows { IsSound pass.new }
-        ensures tells { Tells self.now.when_full (tries_read (P.did parking.now)) pass.old pass.new (told_if result) }
+        ensures tells { Tells self.now.when_full (tries_read (P.did parking.now)) pass.old pass.new
+            (told_if result) }
         ensures gains { GainsReads pass.old (told_if result) pass.new }
     {
         self.mutex.try_read_by(rt, parking, pass, Reading::Try)
@@ -329,7 +339,8 @@ impl<T: Drop> RwMutex<T> {
         ensures same { IsSame pass.old pass.new }
         ensures begins { Before pass.old.seen pass.new.seen }
         ensures shows { IsSound pass.new }
-        ensures tells { Tells self.now.when_full (reads_by (P.did parking.now) (Timed ms)) pass.old pass.new (told_if result) }
+        ensures tells { Tells self.now.when_full (reads_by (P.did parking.now) (Timed ms)) pass.old pass.new
+            (told_if result) }
         ensures gains { GainsReads pass.old (told_if result) pass.new }
     {
         self.mutex
@@ -379,15 +390,16 @@ impl<T: Drop> RwMutex<T> {
 
 /// A writer may read too, and so become a reader.
 impl<T: Drop, P: Parking, R: Wait + Clock> Guard<'_, T, P, R, RwHooks> {
-    /// Acquires a read hold beside the write hold, and returns whether it did. This is `ReadLock.lock()` by the owner of the write
-    /// lock.
+    /// Acquires a read hold beside the write hold, and returns whether it did. This is `ReadLock.lock()` by the
+    /// owner of the write lock.
     pub fn read(&mut self) -> Result<bool, Fault>
         requires guards { Guards self.old.lock.now (P.seats self.old.parking.now) self.old.pass.now self.old.slot }
         ensures same_reference { self.new.pass.ghost_name ≡ self.old.pass.ghost_name }
         ensures same { IsSame self.old.pass.now self.new.pass.now }
         ensures guards { Guards self.new.lock.now (P.seats self.new.parking.now) self.new.pass.now self.new.slot }
-        ensures tells { Tells self.old.lock.now.when_full (reads_by (P.did self.old.parking.now) Plain) self.old.pass.now
-            self.new.pass.now result }
+        ensures tells { Tells self.old.lock.now.when_full
+            (reads_by (P.did self.old.parking.now) Plain)
+            self.old.pass.now self.new.pass.now result }
         ensures gains { GainsReads self.old.pass.now result self.new.pass.now }
     {
         let pass = &mut *self.pass;

@@ -1,6 +1,7 @@
 -- Each entry of a legal history of an object in range has a line of a history text: its amount and its
 -- condition are small.
-use Rattle.std.proofs.Common.{◌≡◌, ⊎_elim, ℕ, zero, suc, ℤ, pos, negsuc, ◌+◌, ◌<◌, ◌≤◌, Bool, true, false, cond, eqb, ltb, List, [], ◌∷◌, length, Some, ap, sym, subst, arith}
+use Rattle.std.proofs.Common.{◌≡◌, ⊎_elim, ℕ, zero, suc, ℤ, pos, negsuc, ◌+◌, ◌<◌, ◌≤◌, Bool, true}
+use Rattle.std.proofs.Common.{false, cond, eqb, ltb, List, [], ◌∷◌, length, Some, ap, sym, subst, arith}
 use Rattle.std.specs.Prelude.{FitsSigned}
 use Rattle.std.specs.Int.{w32}
 use Rattle.std.specs.List.{AllByRecursion}

@@ -1,5 +1,6 @@
 -- What the line of a base spells is read again, and is no other line.
-use Rattle.std.proofs.Common.{◌≡◌, ◌≢◌, ⊎_elim, ℕ, ◌+◌, ◌*◌, ◌^◌, ◌<◌, ◌≤◌, Bool, true, false, List, [], ◌∷◌, ◌++◌, length, get_or, Some, None, refl, sym, ap, subst, ◌∙◌, arith, decimal}
+use Rattle.std.proofs.Common.{◌≡◌, ⊎_elim, ℕ, ◌+◌, ◌*◌, ◌^◌, ◌<◌, ◌≤◌, Bool, true, false, List, [], ◌∷◌}
+use Rattle.std.proofs.Common.{length, get_or, Some, refl, sym, ap, subst, ◌∙◌, arith, decimal}
 use Rattle.std.specs.Prelude.{codes}
 use Rattle.std.specs.List.{AllByRecursion}
 use Rattle.std.proofs.lemmas.Fmt.{length-decimal-le_wide}
@@ -15,7 +16,8 @@ use Rattle.history.specs.declared.header.Object.{Object}
 use Rattle.history.specs.declared.header.Object.TheVariants.{Lock, ReadWrite, Semaphore, Latch}
 use Rattle.history.specs.Base.{Base}
 use Rattle.history.specs.EntryWords.{IsWritten, entry_words}
-use Rattle.history.specs.declared.limits.TheConstants.{LAST_CONDITION, MOST_AMOUNT, MOST_BASE_PERMITS, MOST_FOLDED, MOST_HOLDS}
+use Rattle.history.specs.declared.limits.TheConstants.{LAST_CONDITION, MOST_AMOUNT}
+use Rattle.history.specs.declared.limits.TheConstants.{MOST_BASE_PERMITS, MOST_FOLDED, MOST_HOLDS}
 use Rattle.history.specs.GoodBase.{Asks, GaveUp, Returns}
 use Rattle.history.specs.Header.{IsInRange, IsOpening}
 use Rattle.history.specs.Line.{coming_back}
@@ -33,7 +35,9 @@ use Rattle.line_text.proofs.Lawful.{Lacks}
 use Rattle.line_text.proofs.Lists.{head_is}
 use Rattle.line_text.proofs.WholeLines.{line_lacks}
 use Rattle.history_text.specs.declared.base_line.BaseLine.{BaseLine}
-use Rattle.history_text.specs.declared.base_line.BaseLine.TheVariants.{Folded, Released, CountedDown, Seat, Stands, Sleeps}
+use Rattle.history_text.specs.declared.base_line.BaseLine.TheVariants.{Folded, Released, CountedDown}
+use Rattle.history_text.specs.declared.base_line.BaseLine.TheVariants.{Seat, Stands, Sleeps}
+use Rattle.history_text.specs.declared.base_line.TheConstants.{LAST_SEAT}
 use Rattle.history_text.specs.BaseLineLimits.{IsBaseLine, stood_by}
 use Rattle.history_text.specs.BaseLines.{base_line, base_words, waiting_by}
 use Rattle.history_text.specs.BaseReading.{base_line_at, beside_at, folded_at, has_at, sleeps_at, stands_at}
@@ -65,43 +69,43 @@ alone_again : (t : ℕ) → beside_at t [] ≡ Some (Folded t, [])
 unfolding beside_at
 alone_again t = refl
 
-seat_again : (i : ℕ) (has : SeatBase) → i ≤ 255 → has.calls ≤ MOST_FOLDED → has.exclusive ≤ MOST_HOLDS →
+seat_again : (i : ℕ) (has : SeatBase) → i ≤ LAST_SEAT → has.calls ≤ MOST_FOLDED → has.exclusive ≤ MOST_HOLDS →
     has.shared ≤ MOST_BASE_PERMITS
     → has_at (decimal i ∷ codes "calls" ∷ decimal has.calls ∷ codes "x" ∷ decimal has.exclusive ∷ codes "s"
     ∷ decimal has.shared ∷ []) ≡ Some (Seat i has, [])
 unfolding has_at
 seat_again i has small calls exclusive shared =
     rw (
-      number_at_again 0 255 i _ (omega (arith, small)) (omega arith) small,
+      number_at_again 0 LAST_SEAT i _ (omega (arith, small)) (omega arith) small,
       number_at_again 0 MOST_FOLDED has.calls _ (omega (arith, calls)) (omega arith) calls,
       number_at_again 0 MOST_HOLDS has.exclusive _ (omega (arith, exclusive)) (omega arith) exclusive,
       wide_at_again 0 MOST_BASE_PERMITS has.shared [] (omega (arith, shared)) (omega arith) shared,
     ) refl
 
-stands_again : (p : LinePlace) (b : Bool) → p.who.seat ≤ 255 → IsWritten (waiting_by b p) →
+stands_again : (p : LinePlace) (b : Bool) → p.who.seat ≤ LAST_SEAT → IsWritten (waiting_by b p) →
     p ≡ stood_by b (waiting_by b p) →
     stands_at (decimal p.who.seat ∷ entry_words (waiting_by b p)) ≡ Some (Stands p, [])
 unfolding stands_at
 stands_again p true small written same =
     rw (
-      number_at_again 0 255 p.who.seat (entry_words (waiting_by true p)) (omega (arith, small)) (omega arith)
-          small,
+      number_at_again 0 LAST_SEAT p.who.seat (entry_words (waiting_by true p)) (omega (arith, small))
+          (omega arith) small,
       words_again_read (waiting_by true p) written,
     ) (ap (λ (q : LinePlace). Some (Stands q, [])) (sym same))
 stands_again p false small written same =
     rw (
-      number_at_again 0 255 p.who.seat (entry_words (waiting_by false p)) (omega (arith, small)) (omega arith)
-          small,
+      number_at_again 0 LAST_SEAT p.who.seat (entry_words (waiting_by false p)) (omega (arith, small))
+          (omega arith) small,
       words_again_read (waiting_by false p) written,
     ) (ap (λ (q : LinePlace). Some (Stands q, [])) (sym same))
 
-sleeps_again : (c i h : ℕ) → c ≤ LAST_CONDITION → i ≤ 255 → h ≤ MOST_HOLDS →
+sleeps_again : (c i h : ℕ) → c ≤ LAST_CONDITION → i ≤ LAST_SEAT → h ≤ MOST_HOLDS →
     sleeps_at (decimal c ∷ decimal i ∷ decimal h ∷ []) ≡ Some (Sleeps c (record { seat = i; holds = h }), [])
 unfolding sleeps_at
 sleeps_again c i h few small most =
     rw (
       number_at_again 0 LAST_CONDITION c _ (omega (arith, few)) (omega arith) few,
-      number_at_again 0 255 i _ (omega (arith, small)) (omega arith) small,
+      number_at_again 0 LAST_SEAT i _ (omega (arith, small)) (omega arith) small,
       number_at_again 0 MOST_HOLDS h [] (omega (arith, most)) (omega arith) most,
     ) refl
 
@@ -339,7 +343,7 @@ asks_line b p range back asks =
     (omega (arith, range.seats, asks.seat), both.0, both.1)
 
 gave_few : (b : Base) (i c n : ℕ) → IsInRange b.header → GaveUp b i c n →
-    (i ≤ 255) × (c ≤ LAST_CONDITION) × (n ≤ MOST_HOLDS)
+    (i ≤ LAST_SEAT) × (c ≤ LAST_CONDITION) × (n ≤ MOST_HOLDS)
 gave_few b i c n range gave = (
   omega (arith, range.seats, gave.seat),
   omega (arith, few_conditions b.header.object b.header.conditions range.opening, gave.condition),

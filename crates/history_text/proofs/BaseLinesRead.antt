@@ -1,5 +1,6 @@
 -- The lines of a base are read, one after another.
-use Rattle.std.proofs.Common.{◌≡◌, ℕ, zero, suc, ◌+◌, ◌-◌, ◌≤◌, ◌<◌, Bool, true, false, List, [], ◌∷◌, ◌++◌, length, get_or, set, refl, sym, ap, subst, ◌∙◌, arith}
+use Rattle.std.proofs.Common.{◌≡◌, ℕ, zero, suc, ◌+◌, ◌-◌, ◌≤◌, ◌<◌, Bool, true, false, List, []}
+use Rattle.std.proofs.Common.{◌∷◌, ◌++◌, length, get_or, set, refl, sym, ap, subst, ◌∙◌, arith}
 use Rattle.std.proofs.lemmas.Bool.{false≢true}
 use Rattle.std.proofs.lemmas.List.{length-append}
 use Rattle.history.specs.declared.base.SeatBase.{SeatBase}
@@ -9,9 +10,11 @@ use Rattle.history.specs.declared.header.Header.{Header}
 use Rattle.history.specs.Base.{Base, opening_base, sleepers_of}
 use Rattle.history.specs.Header.{IsInRange}
 use Rattle.history_text.specs.declared.base_line.BaseLine.{BaseLine}
-use Rattle.history_text.specs.declared.base_line.BaseLine.TheVariants.{Folded, Released, CountedDown, Seat, Sleeps, Stands}
+use Rattle.history_text.specs.declared.base_line.BaseLine.TheVariants.{Folded, Released, CountedDown}
+use Rattle.history_text.specs.declared.base_line.BaseLine.TheVariants.{Seat, Sleeps, Stands}
 use Rattle.history_text.specs.BaseFollowing.{AllRead, after_told, with_lines}
 use Rattle.history_text.specs.BaseLines.{base_lines}
+use Rattle.history_text.specs.declared.base_under_way.TheConstants.{MOST_LINES}
 use Rattle.history_text.specs.BaseRules.{AllSeated, MayFollow, BaseSums, with_sums, no_sums, with_line}
 use Rattle.history_text.specs.BaseTelling.{Follow, base_by, sums_of}
 use Rattle.history_text.specs.BaseText.{calls_sum}
@@ -19,7 +22,8 @@ use Rattle.history_text.specs.BaseUnderWay.{IsUnderWay, lines_by, lines_read}
 use Rattle.history_text.specs.NextLine.{LinesRead}
 use Rattle.history_text.specs.ToldBases.{GoodBeginsSo, GoodHas, IsToldBase}
 use Rattle.history_text.proofs.BaseRetold.{good_follows, good_is_told}
-use Rattle.history_text.proofs.BaseTold.{SoFar, asleep_place, goes_on, header_kept, line_place, stands_seated, told_so_far, whole_told}
+use Rattle.history_text.proofs.BaseTold.{SoFar, asleep_place, goes_on, header_kept}
+use Rattle.history_text.proofs.BaseTold.{line_place, stands_seated, told_so_far, whole_told}
 use Rattle.history_text.proofs.BaseWhole.{base-append, follow-append, some_base, told-append}
 use Rattle.history_text.proofs.HeadWritten.{sum_calls}
 
@@ -108,7 +112,7 @@ module _ (t : BaseSums) (b : Base) (lines : ℕ) (is : IsUnderWay t b lines) whe
       (subst (λ (z : BaseSums). SoFar xs z (base_by b.header xs)) is.told
       (told_so_far b.header xs is.range is.follow))
 
-  pub few : length xs ≤ 513
+  pub few : length xs ≤ MOST_LINES
   few =
       let all = few_more [] xs no_sums (opening_base b.header) (told_so_far b.header [] is.range tt)
       is.follow in

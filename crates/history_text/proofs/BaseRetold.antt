@@ -1,12 +1,13 @@
 -- The lines of a good base follow one another, and tell that base.
-use Rattle.std.proofs.Common.{◌≡◌, ◌≢◌, inl, inr, ⊎_elim, ℕ, zero, suc, ◌+◌, ◌<◌, ◌≤◌, List, [], ◌∷◌, ◌++◌, map, refl, ap, ◌∙◌, sym, subst, arith}
+use Rattle.std.proofs.Common.{◌≡◌, ◌≢◌, inl, inr, ⊎_elim, ℕ, zero, suc, ◌+◌, ◌<◌, ◌≤◌}
+use Rattle.std.proofs.Common.{List, [], ◌∷◌, ◌++◌, map, refl, ap, ◌∙◌, sym, subst, arith}
 use Rattle.std.specs.List.{AllByRecursion}
 use Rattle.std.specs.Prelude.{ℤ, pos, neg_ℤ, ◌⊎◌, ◌≤ℤ◌, ◌+ℤ◌, ◌-ℤ◌}
 use lib.IntN.{negsuc}
 use Rattle.std.proofs.lemmas.Bool.{cases_eq, cases_lt}
 use Rattle.std.proofs.lemmas.Int.{ints}
 use Rattle.std.proofs.lemmas.List.{get_or_past, map-append}
-use Rattle.history.specs.declared.limits.TheConstants.{MOST_AMOUNT}
+use Rattle.history.specs.declared.limits.TheConstants.{MOST_AMOUNT, MOST_SEATS}
 use Rattle.history.specs.declared.arrival.Arrival.{Arrival}
 use Rattle.history.specs.declared.base.SeatBase.{SeatBase}
 use Rattle.history.specs.declared.base.Sleeper.{Sleeper}
@@ -35,6 +36,7 @@ use Rattle.history_text.specs.BaseTelling.{Follow, base_by, sums_of}
 use Rattle.history_text.specs.ToldBases.{IsToldBase}
 use Rattle.history_text.specs.BaseLines.{base_lines, first_line}
 use Rattle.history_text.specs.BaseRules.{AllSeated, IsFree, IsSeated, MayFollow, MayHold, BaseSums, no_sums}
+use Rattle.history_text.proofs.Lists.{each_at}
 use Rattle.history_text.proofs.BaseTold.{SoFar, gave_moved, pos_kept, stands_moved, waits_of}
 use Rattle.history_text.proofs.BaseWhole.{follow_front}
 use Rattle.history_text.proofs.BaseWalk.{AtLine, AtSeats, AtSleepers, IsTold, base_told}
@@ -68,12 +70,6 @@ times_list : (i : ℕ) (xs ys : List Sleeper) →
 times_list i xs ys =
     ap (times i) (map-append (λ (x : Sleeper). x.seat) xs ys)
     ∙ times-append i (map (λ x. x.seat) xs) (map (λ x. x.seat) ys)
-
--- the element behind a front
-each_at : {A : Type 0} (P : A → Type 0) (xs : List A) (x : A) (ys : List A) →
-    AllByRecursion P (xs ++ x ∷ ys) → P x
-each_at P [] x ys all = all.0
-each_at P (y ∷ xs) x ys all = each_at P xs x ys all.1
 
 -- the permits, from how many are free
 permits_lowest : (c f : ℤ) (u s : ℕ) → f ≡ (c +ℤ pos u) -ℤ pos s → (pos 0 ≤ℤ f) ⊎ (c ≤ℤ f) →
@@ -217,7 +213,7 @@ module _ (g : Base) (range : IsInRange g.header) (good : IsGood g) where
         }
 
   -- who waits is free before
-  small : (i : ℕ) → i < g.header.seats → i < 256
+  small : (i : ℕ) → i < g.header.seats → i < MOST_SEATS
   small i l = let r = range.seats in omega (arith, l, r)
 
   -- the line
@@ -230,7 +226,7 @@ module _ (g : Base) (range : IsInRange g.header) (good : IsGood g) where
     well_now : StandsWell b p
     well_now = stands_moved g b p (sym at.agrees.header) (sym at.seats) well_here
 
-    stands_small : p.who.seat < 256
+    stands_small : p.who.seat < MOST_SEATS
     stands_small =
         ⊎_elim (λ a. small p.who.seat a.1.seat) (λ r. small p.who.seat r.1.gave.seat) well_here
 

@@ -1,12 +1,16 @@
 -- What lines of a base that follow one another tell so far: what holds of the numbers and of the base.
-use Rattle.std.proofs.Common.{◌≡◌, ◌≢◌, inl, inr, ⊎_elim, ℕ, zero, suc, ◌+◌, ◌<◌, ◌≤◌, Bool, true, false, cond, eqb, ltb, List, [], ◌∷◌, ◌++◌, length, map, get_or, take, refl, ap, ◌∙◌, sym, subst, arith}
+use Rattle.std.proofs.Common.{◌≡◌, ◌≢◌, inl, inr, ⊎_elim, ℕ, zero, suc, ◌+◌, ◌<◌}
+use Rattle.std.proofs.Common.{◌≤◌, Bool, true, false, cond, eqb, ltb, List, [], ◌∷◌, ◌++◌}
+use Rattle.std.proofs.Common.{length, map, get_or, take, refl, ap, ◌∙◌, sym, subst, arith}
 use Rattle.std.specs.List.{AllByRecursion}
 use Rattle.std.specs.Prelude.{ℤ, pos, neg_ℤ, ◌⊎◌, ◌≤ℤ◌, ◌+ℤ◌, ◌-ℤ◌}
 use lib.IntN.{negsuc}
 use Rattle.std.proofs.Math.ListN.{set}
 use Rattle.std.proofs.lemmas.Bool.{cases_eq, cases_lt, ltb-true}
 use Rattle.std.proofs.lemmas.Int.{ints}
-use Rattle.std.proofs.lemmas.List.{get_or_past, append-nil, append_assoc, map-append, get_or-set_same, get_or-set_other, length-map, length-take-le, length-set, length-replicate, take_all, take_more_set}
+use Rattle.std.proofs.lemmas.List.{get_or_past, append-nil, append_assoc, map-append}
+use Rattle.std.proofs.lemmas.List.{get_or-set_same, get_or-set_other, length-map, length-take-le}
+use Rattle.std.proofs.lemmas.List.{length-set, length-replicate, take_all, take_more_set}
 use Rattle.history.specs.declared.arrival.Arrival.{Arrival}
 use Rattle.history.specs.declared.base.SeatBase.{SeatBase}
 use Rattle.history.specs.declared.base.Sleeper.{Sleeper}
@@ -18,7 +22,7 @@ use Rattle.history.specs.declared.header.Object.{Object}
 use Rattle.history.specs.declared.header.Object.TheVariants.{Lock, ReadWrite, Semaphore, Latch}
 use Rattle.history.specs.Base.{Base, based, each_below, nothing, opening_base, seat_of, sleepers_of}
 use Rattle.history.specs.Counts.{free, held, total}
-use Rattle.history.specs.declared.limits.TheConstants.{MOST_AMOUNT, MOST_BASE_PERMITS, MOST_FOLDED}
+use Rattle.history.specs.declared.limits.TheConstants.{MOST_AMOUNT, MOST_BASE_PERMITS, MOST_FOLDED, MOST_SEATS}
 use Rattle.history.specs.GoodBase.{AreCounted, AreHeld, GaveUp, IsGood, SleepsWell, StandsWell}
 use Rattle.history.specs.Header.{IsInRange}
 use Rattle.history.specs.Object.{created, is_latch, is_lock, is_semaphore, opening_count}
@@ -33,14 +37,17 @@ use Rattle.history.proofs.SleepLemmas.{times-waiting}
 use Rattle.history.proofs.Sums.{total_nothing, total_same}
 use Rattle.history.proofs.Times.{each-append, once_other, once_same, one_if, pigeonhole_less, total_part}
 use Rattle.history_text.specs.declared.base_line.BaseLine.{BaseLine}
-use Rattle.history_text.specs.declared.base_line.BaseLine.TheVariants.{Folded, Released, CountedDown, Seat, Stands, Sleeps}
+use Rattle.history_text.specs.declared.base_line.BaseLine.TheVariants.{Folded, Released, CountedDown}
+use Rattle.history_text.specs.declared.base_line.BaseLine.TheVariants.{Seat, Stands, Sleeps}
 use Rattle.history_text.specs.BaseFollowing.{AllRead, with_lines, after_told}
 use Rattle.history_text.specs.BaseTelling.{Follow, base_by, sums_of}
 use Rattle.history_text.specs.ToldBases.{IsToldBase}
 use Rattle.history_text.specs.BaseLines.{base_lines, first_line, seat_lines, sleeper_lines}
 use Rattle.history_text.specs.BaseUnderWay.{lines_so_far}
-use Rattle.history_text.specs.BaseRules.{AllSeated, IsFirst, IsFree, IsSeated, MayFollow, MayHold, BaseSums, with_sums, no_sums, with_line}
-use Rattle.history_text.proofs.BasePlaces.{each_then, first_line_same, no_lines, seat_lines_push, sleeper_lines_push, times_stands, total_put, total_sleeps}
+use Rattle.history_text.specs.BaseRules.{AllSeated, IsFirst, IsFree, IsSeated, MayFollow}
+use Rattle.history_text.specs.BaseRules.{MayHold, BaseSums, with_sums, no_sums, with_line}
+use Rattle.history_text.proofs.BasePlaces.{each_then, first_line_same, no_lines, seat_lines_push}
+use Rattle.history_text.proofs.BasePlaces.{sleeper_lines_push, times_stands, total_put, total_sleeps}
 
 -- how often a seat waits
 abbrev pub waits_of : Base → ℕ → ℕ
@@ -77,8 +84,8 @@ HeldSoFar (Latch opening) t b = (i : ℕ) (m : Mode) → held (based b) [] i m �
 
 -- who waits
 pub record Waited (t : BaseSums) (b : Base) : Type 0 where
-  pub places : length t.waits ≡ 256
-  pub free : (i : ℕ) → i < 256 → get_or t.waits i false ≡ false → waits_of b i ≡ 0
+  pub places : length t.waits ≡ MOST_SEATS
+  pub free : (i : ℕ) → i < MOST_SEATS → get_or t.waits i false ≡ false → waits_of b i ≡ 0
   pub once : (i : ℕ) → waits_of b i ≤ 1
   pub conditions : length b.sleepers ≡ b.header.conditions
   pub line : AllByRecursion (StandsWell b) b.line
@@ -245,7 +252,7 @@ module _ (k : Header) (range : IsInRange k) where
         counted = (opening_good k range).counted;
         held = held_none k.object (opening_good k range).held;
         waited = record {
-          places = length-replicate 256 false;
+          places = length-replicate MOST_SEATS false;
           free = λ i l f. nobody_waits i;
           once = λ i. (let z = nobody_waits i in omega (arith, z));
           conditions = length-each k.conditions (λ c. []);
@@ -559,7 +566,7 @@ module _ (done : List BaseLine) (t : BaseSums) (b : Base) (so : SoFar done t b) 
           sleeper_lines 0 b.sleepers))) (first_line_same b.header.object b with_seat refl refl refl)
 
 -- who waits is marked, and waits once
-module _ (t : BaseSums) (b : Base) (w : Waited t b) (s : ℕ) (small : s < 256) (is_free : IsFree t s)
+module _ (t : BaseSums) (b : Base) (w : Waited t b) (s : ℕ) (small : s < MOST_SEATS) (is_free : IsFree t s)
     (after : ℕ → ℕ) (more : (i : ℕ) → after i ≡ waits_of b i + one_if (eqb s i)) where
   marked_once : (i : ℕ) → after i ≤ 1
   marked_once i =
@@ -571,7 +578,7 @@ module _ (t : BaseSums) (b : Base) (w : Waited t b) (s : ℕ) (small : s < 256) 
       (λ ne. (let o = once_other s i ne in let l = w.once i in omega (arith, m, o, l)))
       (cases_eq s i)
 
-  marked_free : (i : ℕ) → i < 256 → get_or (set t.waits s true) i false ≡ false → after i ≡ 0
+  marked_free : (i : ℕ) → i < MOST_SEATS → get_or (set t.waits s true) i false ≡ false → after i ≡ 0
   marked_free i l f =
       let m = more i in
       ⊎_elim
@@ -585,7 +592,7 @@ module _ (t : BaseSums) (b : Base) (w : Waited t b) (s : ℕ) (small : s < 256) 
       let z = w.free i l (sym d ∙ f) in omega (arith, m, o, z)))
       (cases_eq s i)
 
-  marked_places : length (set t.waits s true) ≡ 256
+  marked_places : length (set t.waits s true) ≡ MOST_SEATS
   marked_places = length-set t.waits s true ∙ w.places
 
 -- one in line
@@ -598,7 +605,7 @@ module _ (done : List BaseLine) (t : BaseSums) (b : Base) (so : SoFar done t b) 
   abbrev stands_told : BaseSums
   stands_told = record t { waits = set t.waits p.who.seat true }
 
-  stands_small : p.who.seat < 256
+  stands_small : p.who.seat < MOST_SEATS
   stands_small =
       let l = so.range.seats in
       ⊎_elim (λ a. (let m = a.1.seat in omega (arith, l, m)))
@@ -685,7 +692,7 @@ module _ (done : List BaseLine) (t : BaseSums) (b : Base) (so : SoFar done t b) 
   abbrev sleeps_told : BaseSums
   sleeps_told = record t { waits = set t.waits x.seat true; asleep = true; condition = c }
 
-  sleeps_small : x.seat < 256
+  sleeps_small : x.seat < MOST_SEATS
   sleeps_small = let l = so.range.seats in let m = well.seat in omega (arith, l, m)
 
   pub on_condition : c < length b.sleepers

@@ -1,8 +1,11 @@
 -- The lines of a base, told one by one: what the base so far has of the whole one.
-use Rattle.std.proofs.Common.{◌≡◌, ⊎_elim, ℕ, zero, suc, ◌+◌, ◌<◌, ◌≤◌, true, false, eqb, List, [], ◌∷◌, ◌++◌, length, map, get_or, drop, refl, ap, ◌∙◌, sym, subst, arith}
+use Rattle.std.proofs.Common.{◌≡◌, ⊎_elim, ℕ, zero, suc, ◌+◌, ◌<◌, ◌≤◌, true, false, eqb, List, []}
+use Rattle.std.proofs.Common.{◌∷◌, ◌++◌, length, map, get_or, drop, refl, ap, ◌∙◌, sym, subst, arith}
 use Rattle.std.proofs.Math.ListN.{set}
 use Rattle.std.proofs.lemmas.Bool.{cases_eq}
-use Rattle.std.proofs.lemmas.List.{append-nil, append_assoc, drop_all, drop_more, ext_get_or, get_or-replicate, get_or-set_same, get_or-set_other}
+use Rattle.std.proofs.lemmas.List.{append-nil, append_assoc, drop_all, drop_more, ext_get_or}
+use Rattle.std.proofs.lemmas.List.{get_or-replicate, get_or-set_same, get_or-set_other}
+use Rattle.history.specs.declared.limits.TheConstants.{MOST_SEATS}
 use Rattle.history.specs.declared.base.Sleeper.{Sleeper}
 use Rattle.history.specs.declared.base.LinePlace.{LinePlace}
 use Rattle.history.specs.declared.header.Header.{Header}
@@ -21,7 +24,8 @@ use Rattle.history_text.specs.BaseFollowing.{IsCountedFor, AllRead, with_lines, 
 use Rattle.history_text.specs.BaseTelling.{Follow, base_by, sums_of}
 use Rattle.history_text.specs.BaseLines.{base_lines, first_line, seat_lines, sleeper_lines}
 use Rattle.history_text.specs.BaseRules.{AllSeated, IsFree, MayFollow, BaseSums, with_sums, no_sums, with_line}
-use Rattle.history_text.proofs.BaseTold.{SoFar, all_told, begun, goes_on, no_sleepers, on_condition, sleeps_more, stands_more, waits_of}
+use Rattle.history_text.proofs.BaseTold.{SoFar, all_told, begun, goes_on, no_sleepers}
+use Rattle.history_text.proofs.BaseTold.{on_condition, sleeps_more, stands_more, waits_of}
 use Rattle.history_text.proofs.BaseWhole.{base-append, follow-append, told-append}
 
 -- what holds behind one part and another holds behind both
@@ -47,7 +51,7 @@ pub record Agrees (g : Base) (t : BaseSums) (b : Base) : Type 0 where
   pub entries : b.entries ≡ g.entries
   pub unheld : b.unheld ≡ g.unheld
   pub count : b.count ≡ g.count
-  pub free : (i : ℕ) → i < 256 → waits_of b i ≡ 0 → get_or t.waits i false ≡ false
+  pub free : (i : ℕ) → i < MOST_SEATS → waits_of b i ≡ 0 → get_or t.waits i false ≡ false
 
 pub record AtSeats (g : Base) (n : ℕ) (t : BaseSums) (b : Base) : Type 0 where
   pub agrees : Agrees g t b
@@ -121,7 +125,7 @@ module _ (g : Base) (range : IsInRange g.header) (long : length g.seats ≡ g.he
 
   -- one more is marked
   free_more : (t : BaseSums) (b : Base) (s : ℕ) (after : ℕ → ℕ) → Agrees g t b →
-      ((i : ℕ) → after i ≡ waits_of b i + one_if (eqb s i)) → (i : ℕ) → i < 256 → after i ≡ 0 →
+      ((i : ℕ) → after i ≡ waits_of b i + one_if (eqb s i)) → (i : ℕ) → i < MOST_SEATS → after i ≡ 0 →
       get_or (set t.waits s true) i false ≡ false
   free_more t b s after agrees more i l z =
       let m = more i in
@@ -208,7 +212,7 @@ module _ (g : Base) (range : IsInRange g.header) (long : length g.seats ≡ g.he
           entries = e;
           unheld = d;
           count = c;
-          free = λ i l z. get_or-replicate 256 i false false l;
+          free = λ i l z. get_or-replicate MOST_SEATS i false false l;
         };
         begun = some;
         seats = refl;

@@ -1,6 +1,7 @@
 -- Whatever lines of a base follow one another, more can follow until all seats are told: so some good base
 -- begins with them.
-use Rattle.std.proofs.Common.{◌≡◌, inl, inr, ⊎_elim, ℕ, zero, suc, ◌+◌, ◌-◌, ◌<◌, ◌≤◌, List, [], ◌∷◌, ◌++◌, refl, ap, sym, subst, arith}
+use Rattle.std.proofs.Common.{◌≡◌, inl, inr, ⊎_elim, ℕ, zero, suc, ◌+◌, ◌-◌, ◌<◌}
+use Rattle.std.proofs.Common.{◌≤◌, List, [], ◌∷◌, ◌++◌, refl, ap, sym, subst, arith}
 use Rattle.std.specs.Prelude.{neg_ℤ}
 use Rattle.std.proofs.lemmas.Bool.{cases_lt}
 use Rattle.history.specs.declared.limits.TheConstants.{MOST_AMOUNT}
@@ -22,7 +23,8 @@ use Rattle.history_text.specs.ToldBases.{IsToldBase}
 use Rattle.history_text.specs.BaseLines.{base_lines}
 use Rattle.history_text.specs.BaseRules.{AllSeated, MayFollow, MayHold, BaseSums, with_sums, no_sums, with_line}
 use Rattle.history_text.proofs.Amounts.{free_few}
-use Rattle.history_text.proofs.BaseTold.{HeldSoFar, SoFar, Summed, goes_on, header_after, header_kept, told_so_far, whole_told}
+use Rattle.history_text.proofs.BaseTold.{HeldSoFar, SoFar, Summed, goes_on, header_after}
+use Rattle.history_text.proofs.BaseTold.{header_kept, told_so_far, whole_told}
 
 -- lines behind lines
 pub told-append : (t : BaseSums) (xs ys : List BaseLine) →

@@ -1,6 +1,6 @@
 -- Lines of a base, written or followed one after another.
-use Rattle.std.proofs.Common.{◌≡◌, ℕ, suc, ◌+◌, ◌<◌, List, [], ◌∷◌, ◌++◌, length, map, get_or, drop, refl, sym, ap, ◌∙◌, arith, append_assoc, append-nil}
-use Rattle.std.specs.List.{AllByRecursion}
+use Rattle.std.proofs.Common.{◌≡◌, ℕ, suc, ◌+◌, ◌<◌, List, [], ◌∷◌, ◌++◌, length, map, get_or}
+use Rattle.std.proofs.Common.{drop, refl, sym, ap, ◌∙◌, arith, append_assoc, append-nil}
 use Rattle.std.proofs.lemmas.List.{drop-map}
 use Rattle.std.proofs.Math.Seq.{drop-cons}
 use Rattle.history.specs.declared.base.SeatBase.{SeatBase}
@@ -56,17 +56,6 @@ pub lines_written : (out new : List ℕ) (xs rest : List BaseLine) (all : List �
 lines_written out new xs rest all was is =
     ap (λ (t : List ℕ). t ++ lines_text rest) is ∙ append_assoc out (lines_text xs) (lines_text rest)
     ∙ ap (λ (t : List ℕ). out ++ t) (sym (lines_text-append xs rest)) ∙ was
-
--- each of two lists
-pub each_front : {X : Type 0} (P : X → Type 0) (xs ys : List X) → AllByRecursion P (xs ++ ys) →
-    AllByRecursion P xs
-each_front P [] ys all = tt
-each_front P (x ∷ xs) ys all = (all.0, each_front P xs ys all.1)
-
-pub each_back : {X : Type 0} (P : X → Type 0) (xs ys : List X) → AllByRecursion P (xs ++ ys) →
-    AllByRecursion P ys
-each_back P [] ys all = all
-each_back P (x ∷ xs) ys all = each_back P xs ys all.1
 
 -- all lines are written, the first one and those of three lists
 pub four_written : (out a b c d : List ℕ) (x : BaseLine) (xs ys zs : List BaseLine) →

@@ -1,5 +1,6 @@
 -- The first line and the lines of a base are written.
-use Rattle.std.proofs.Common.{◌≡◌, ⊎_elim, ℕ, zero, suc, ◌+◌, ◌≤◌, Bool, List, [], ◌∷◌, ◌++◌, length, get_or, refl, sym, ap, ◌∙◌, arith, append_assoc, append-nil, codes}
+use Rattle.std.proofs.Common.{◌≡◌, ⊎_elim, ℕ, zero, suc, ◌+◌, ◌≤◌, Bool, List, [], ◌∷◌, ◌++◌, length}
+use Rattle.std.proofs.Common.{get_or, refl, sym, ap, ◌∙◌, arith, append_assoc, append-nil, codes}
 use Rattle.std.specs.List.{AllByRecursion}
 use Rattle.history.specs.declared.base.SeatBase.{SeatBase}
 use Rattle.history.specs.declared.header.Header.{Header}
@@ -14,7 +15,8 @@ use Rattle.history.specs.Start.{Start}
 use Rattle.history.proofs.OpeningBase.{based_opening}
 use Rattle.history.specs.Text.{ended}
 use Rattle.history_text.specs.declared.base_line.BaseLine.{BaseLine}
-use Rattle.history_text.specs.declared.base_line.BaseLine.TheVariants.{Folded, Released, CountedDown, Seat, Stands, Sleeps}
+use Rattle.history_text.specs.declared.base_line.BaseLine.TheVariants.{Folded, Released, CountedDown}
+use Rattle.history_text.specs.declared.base_line.BaseLine.TheVariants.{Seat, Stands, Sleeps}
 use Rattle.history_text.specs.BaseFollowing.{AllFollow}
 use Rattle.history_text.specs.BaseLineLimits.{IsBaseLine}
 use Rattle.history_text.specs.BaseLines.{base_lines}

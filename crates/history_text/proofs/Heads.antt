@@ -1,5 +1,6 @@
 -- The first line of a text is written where no entry was folded.
-use Rattle.std.proofs.Common.{◌≡◌, ℕ, Bool, false, ltb, List, ◌++◌, Option, Some, None, refl, sym, subst, ⊎_elim, ap, ◌∙◌, arith, append-nil, codes}
+use Rattle.std.proofs.Common.{◌≡◌, ℕ, Bool, false, ltb, List, ◌++◌, Option, Some, None}
+use Rattle.std.proofs.Common.{refl, sym, subst, ⊎_elim, ap, ◌∙◌, arith, append-nil, codes}
 use Rattle.history.specs.declared.header.Header.{Header}
 use Rattle.history.specs.Base.{Base}
 use Rattle.history.specs.Entries.{IsBasedWell, or_opening}

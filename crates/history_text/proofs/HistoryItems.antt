@@ -1,5 +1,7 @@
 -- The lines of a history, and which lines may come next.
-use Rattle.std.proofs.Common.{◌≡◌, ◌⊎◌, ⊎_elim, inl, inr, ℕ, zero, suc, ◌+◌, ◌<◌, ◌≤◌, Bool, true, ltb, List, [], ◌∷◌, ◌++◌, length, map, refl, sym, ap, subst, ◌∙◌, arith, append_assoc, append-nil}
+use Rattle.std.proofs.Common.{◌≡◌, ◌⊎◌, ⊎_elim, inl, inr, ℕ, zero, suc, ◌+◌, ◌<◌, ◌≤◌}
+use Rattle.std.proofs.Common.{Bool, true, ltb, List, [], ◌∷◌, ◌++◌, length, map, refl}
+use Rattle.std.proofs.Common.{sym, ap, subst, ◌∙◌, arith, append_assoc, append-nil}
 use Rattle.std.specs.List.{AllByRecursion}
 use Rattle.std.proofs.lemmas.Bool.{lt-ltb, ltb-true}
 use Rattle.std.proofs.lemmas.List.{length-append, length-map}
@@ -22,10 +24,11 @@ use Rattle.history_text.specs.BaseLines.{base_lines, first_line, seat_lines, sle
 use Rattle.history_text.specs.BaseText.{calls_sum}
 use Rattle.history_text.specs.EntryLines.{HasLine, counts_line}
 use Rattle.history_text.specs.HistoryLines.{head_of, lines_told}
-use Rattle.history_text.specs.TextLines.{Based, Entered, IsHistoryOf, Line, SomeBeginsSo, calls_told, end_of, entries_told, lines_on, numbered, sum_of}
+use Rattle.history_text.specs.TextLines.{Based, Entered, IsHistoryOf, Line, SomeBeginsSo, calls_told}
+use Rattle.history_text.specs.TextLines.{end_of, entries_told, lines_on, numbered, sum_of}
 use Rattle.history_text.specs.HistoryText.{history_form}
 use Rattle.history_text.specs.ToldBases.{GoodBeginsSo, GoodHas, IsToldBase}
-use Rattle.history_text.proofs.BaseWritten.{each_back, each_front}
+use Rattle.history_text.proofs.Lists.{each_at, each_front}
 
 -- ---- one line more
 
@@ -469,7 +472,7 @@ module _ (h : Head) where
         lines = s.lines;
         number = s.number;
         room = few;
-        line = (each_back (HasLine h.header) s.fs (e ∷ s.gs) all).0;
+        line = each_at (HasLine h.header) s.fs e s.gs all;
       }
 
   each_push : (es : List Entry) (e : Entry) → AllByRecursion (HasLine h.header) es → HasLine h.header e →

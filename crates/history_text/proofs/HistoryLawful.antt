@@ -1,5 +1,6 @@
 -- The lines of a history text can be told apart.
-use Rattle.std.proofs.Common.{◌≡◌, ℕ, ◌<◌, ◌^◌, Bool, true, false, List, [], ◌∷◌, ◌++◌, refl, sym, ap, subst, ◌∙◌, arith, decimal}
+use Rattle.std.proofs.Common.{◌≡◌, ℕ, ◌<◌, ◌^◌, Bool, true, false, List, [], ◌∷◌}
+use Rattle.std.proofs.Common.{◌++◌, refl, sym, ap, subst, ◌∙◌, arith, decimal}
 use Rattle.std.specs.Prelude.{codes}
 use Rattle.std.specs.List.{AllByRecursion}
 use Rattle.history.specs.declared.entry.Entry.{Entry}
@@ -19,13 +20,14 @@ use Rattle.history_text.specs.declared.place.Head.{Head}
 use Rattle.history_text.specs.BaseLineLimits.{IsBaseLine}
 use Rattle.history_text.specs.EntryLines.{HasLine, entry_line, counts_line}
 use Rattle.history_text.specs.HistoryLines.{name_of}
-use Rattle.history_text.specs.TextLines.{Based, Entered, Line, SomeBeginsSo, SomeHas, calls_told, end_of, entries_told, line_text, lines_on, sum_of}
+use Rattle.history_text.specs.TextLines.{Based, Entered, Line, SomeBeginsSo, SomeHas, calls_told}
+use Rattle.history_text.specs.TextLines.{end_of, entries_told, line_text, lines_on, sum_of}
 use Rattle.history_text.specs.HistoryText.{history_form}
 use Rattle.history_text.specs.ToldBases.{GoodBeginsSo}
 use Rattle.history_text.proofs.BaseLineLemmas.{base_lacks, base_no_end, base_no_entry, same_base_line}
-use Rattle.history_text.proofs.BaseWritten.{each_back, each_front}
 use Rattle.history_text.proofs.EntryLemmas.{line_plain, entry_line-words, same_entry, counts_plain, counts_line-words}
 use Rattle.history_text.proofs.HeadWritten.{good_spelt, sums_few}
+use Rattle.history_text.proofs.Lists.{each_at, each_front}
 use Rattle.history_text.proofs.HistoryItems.{base_few, calls_on, entries_on, next_based, next_entry}
 
 entry_lacks : (h : Header) (k : ℕ) (e : Entry) → IsInRange h → k < 2 ^ 64 → HasLine h e →
@@ -77,19 +79,16 @@ one_head false true k l p q e = absurd (other_name (part_of k) (part_of l) e)
 
 -- ---- the lines behind it
 
-each_at : {A : Type 0} (P : A → Type 0) (xs : List A) (x : A) (ys : List A) →
-    AllByRecursion P ((xs ++ x ∷ []) ++ ys) → P x
-each_at P xs x ys all = (each_back P xs (x ∷ []) (each_front P (xs ++ x ∷ []) ys all)).0
-
 -- a line with which a good base begins is spelt
 pub good_line : (k : Header) (xs : List BaseLine) (x : BaseLine) → IsInRange k → GoodBeginsSo k (xs ++ x
     ∷ []) →
     IsBaseLine x
 good_line k xs x range (b, more, is, e) =
-    each_at IsBaseLine xs x more
+    each_at IsBaseLine xs x []
+    (each_front IsBaseLine (xs ++ x ∷ []) more
     (subst (AllByRecursion IsBaseLine) e
     (good_spelt b
-    (record { range = subst IsInRange (sym is.header) range; some = is.some; good = is.good })))
+    (record { range = subst IsInRange (sym is.header) range; some = is.some; good = is.good }))))
 
 pub spelt_next : (h : Head) (before : List Line) (x : BaseLine) → IsInRange h.header →
     SomeBeginsSo h (before ++ Based x ∷ []) → IsBaseLine x

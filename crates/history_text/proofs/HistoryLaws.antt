@@ -1,5 +1,6 @@
 -- A history text has one reading, and what is written of a history that fits is read.
-use Rattle.std.proofs.Common.{◌≡◌, ⊎_elim, ℕ, ◌≤◌, Bool, ltb, if◌then◌else◌, List, reverse, Result, Ok, Err, refl, sym, ap, subst, ◌∙◌}
+use Rattle.std.proofs.Common.{◌≡◌, ⊎_elim, ℕ, ◌≤◌, Bool, ltb, if◌then◌else◌, List}
+use Rattle.std.proofs.Common.{reverse, Result, Ok, Err, refl, sym, ap, subst, ◌∙◌}
 use Rattle.std.specs.List.{AllByRecursion}
 use Rattle.std.proofs.lemmas.List.Elements.{All-from_recursion}
 use Rattle.history.specs.declared.entry.Entry.{Entry}
@@ -20,7 +21,8 @@ use Rattle.history_text.specs.TextLines.{Line, lines_on}
 use Rattle.history_text.specs.ToldBases.{IsToldBase}
 use Rattle.history_text.proofs.BaseRetold.{good_is_told}
 use Rattle.history_text.specs.BaseTelling.{base_by}
-use Rattle.history_text.proofs.HistoryItems.{base_lines_again, base_lines_in, entries_again, entries_of, some_entries, told_some}
+use Rattle.history_text.proofs.HistoryItems.{base_lines_again, base_lines_in, entries_again}
+use Rattle.history_text.proofs.HistoryItems.{entries_of, some_entries, told_some}
 use Rattle.history_text.proofs.HistoryLawful.{lawful}
 
 -- of one header, a base is known by whether it has entries, and by its lines

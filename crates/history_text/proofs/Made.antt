@@ -13,7 +13,8 @@ use Rattle.history.specs.declared.entry.Word.TheVariants as word
 use Rattle.history.specs.declared.header.Object.{Object}
 use Rattle.history.specs.declared.header.Object.TheVariants.{Lock, ReadWrite, Semaphore, Latch}
 use Rattle.history.specs.declared.step.Step.{Step}
-use Rattle.history.specs.declared.step.Step.TheVariants.{Acquire, Try, TryFair, EntryInterrupt, Give, Look, Expire, Interrupt, Await, Signal, SignalAll, Drain}
+use Rattle.history.specs.declared.step.Step.TheVariants.{Acquire, Try, TryFair, EntryInterrupt, Give, Look}
+use Rattle.history.specs.declared.step.Step.TheVariants.{Expire, Interrupt, Await, Signal, SignalAll, Drain}
 use Rattle.history.specs.Could.{is_seat}
 use Rattle.std.specs.Prelude.{not}
 use Rattle.history.specs.Counts.{Counts, counts, owner}
@@ -22,7 +23,8 @@ use Rattle.history.specs.Fault.{IsRecorded}
 use Rattle.history.specs.Naming.{ready}
 use Rattle.history.specs.Phase.{Phase, Idle, InLine, Sleeping}
 use Rattle.history.specs.Start.{Start}
-use Rattle.history.specs.Steps.{phase_entry, idle_entry, queued_entry, sleeping_entry, plain, ended, back, lapse, gave, signals, at_most_one}
+use Rattle.history.specs.Steps.{phase_entry, idle_entry, queued_entry, sleeping_entry}
+use Rattle.history.specs.Steps.{plain, ended, back, lapse, gave, signals, at_most_one}
 
 abbrev pub RefusesByRecorded : Word → Type 0
 RefusesByRecorded (word.Refused f) = IsRecorded f

@@ -1,5 +1,6 @@
 -- What the next line of a history text says, behind its base.
-use Rattle.std.proofs.Common.{◌≡◌, ◌≢◌, ℕ, ◌+◌, ◌<◌, Bool, true, false, eqb, List, [], ◌∷◌, ◌++◌, length, Ok, Err, None, refl, sym, ap, subst, ◌∙◌, arith, inl, inr}
+use Rattle.std.proofs.Common.{◌≡◌, ◌≢◌, ℕ, ◌+◌, ◌<◌, Bool, true, false, eqb, List, [], ◌∷◌, ◌++◌}
+use Rattle.std.proofs.Common.{length, Ok, Err, None, refl, sym, ap, subst, ◌∙◌, arith, inl, inr}
 use Rattle.std.specs.Prelude.{codes}
 use Rattle.std.proofs.lemmas.Bool.{eqb-false}
 use Rattle.std.proofs.lemmas.List.{nil_from_length}
@@ -22,7 +23,8 @@ use Rattle.history_text.specs.HistoryLines.{name_of}
 use Rattle.history_text.specs.HistoryText.{history_form}
 use Rattle.history_text.specs.NextLine.{AreEntriesRead, IsEntryBehind}
 use Rattle.history_text.specs.TextLines.{Based, Entered, Line, SomeBeginsSo, end_of, line_text, lines_on}
-use Rattle.history_text.proofs.HistoryItems.{ends_on, entries_again, entries_of, entries_on, length-on, next_based, next_entry, none_behind}
+use Rattle.history_text.proofs.HistoryItems.{ends_on, entries_again, entries_of, entries_on}
+use Rattle.history_text.proofs.HistoryItems.{length-on, next_based, next_entry, none_behind}
 use Rattle.history_text.proofs.HistoryLawful.{good_line, numbered_so}
 
 -- ---- the first line

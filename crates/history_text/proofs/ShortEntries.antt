@@ -1,5 +1,6 @@
 -- The lines of a history text are short.
-use Rattle.std.proofs.Common.{◌≡◌, ℕ, ◌<◌, ◌≤◌, ◌^◌, Bool, true, false, List, [], ◌∷◌, ◌++◌, length, refl, ap, arith, decimal}
+use Rattle.std.proofs.Common.{◌≡◌, ℕ, ◌<◌, ◌≤◌, ◌^◌, Bool, true, false, List}
+use Rattle.std.proofs.Common.{[], ◌∷◌, ◌++◌, length, refl, ap, arith, decimal}
 use Rattle.std.specs.Prelude.{codes}
 use Rattle.history.specs.declared.limits.TheConstants.{LAST_CONDITION, MOST_AMOUNT}
 use Rattle.history.specs.declared.entry.End.{End}
@@ -11,7 +12,10 @@ use Rattle.history.specs.declared.entry.Word.{Word}
 use Rattle.history.specs.declared.entry.Word.TheVariants as word
 use Rattle.history.specs.declared.entry.Word.TheVariants.{Back, Queued}
 use Rattle.history.specs.declared.fault.Fault.{Fault}
-use Rattle.history.specs.declared.fault.Fault.TheVariants.{NotOwner, TooManyHolds, TooManyPermits, Interrupted, HoldsRead, OutOfPhase, NoSuchCondition, BadAmount, WrongMode, HistoryFull, OutOfMemory, TrimFull}
+use Rattle.history.specs.declared.fault.Fault.TheVariants.{NotOwner, TooManyHolds, TooManyPermits}
+use Rattle.history.specs.declared.fault.Fault.TheVariants.{Interrupted, HoldsRead, OutOfPhase}
+use Rattle.history.specs.declared.fault.Fault.TheVariants.{NoSuchCondition, BadAmount, WrongMode}
+use Rattle.history.specs.declared.fault.Fault.TheVariants.{HistoryFull, OutOfMemory, TrimFull}
 use Rattle.history.specs.declared.header.Header.{Header}
 use Rattle.history.specs.declared.base.LinePlace.{LinePlace}
 use Rattle.history.specs.EntryWords.{IsWritten, end_word, entry_words, spelt}
@@ -26,7 +30,8 @@ use Rattle.history_text.specs.declared.place.Head.{Head}
 use Rattle.history_text.specs.BaseLines.{waiting_by}
 use Rattle.history_text.specs.EntryLines.{HasLine, counts_line, entry_line}
 use Rattle.history_text.specs.HistoryLines.{head_line, name_of}
-use Rattle.history_text.specs.TextLines.{Based, Entered, Line, SomeBeginsSo, calls_told, entries_told, line_text, sum_of}
+use Rattle.history_text.specs.TextLines.{Based, Entered, Line, SomeBeginsSo}
+use Rattle.history_text.specs.TextLines.{calls_told, entries_told, line_text, sum_of}
 use Rattle.history_text.specs.HistoryText.{history_form}
 use Rattle.history_text.proofs.BaseLineLemmas.{base_short}
 use Rattle.history_text.proofs.EntryLemmas.{counts_line-words, entry_line-words}

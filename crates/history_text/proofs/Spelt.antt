@@ -1,5 +1,6 @@
 -- Each entry of a legal history of an object as opened has a spelling.
-use Rattle.std.proofs.Common.{◌≡◌, ◌≢◌, ◌⊎◌, inl, inr, ℕ, true, false, not, eqb, ltb, List, [], ◌∷◌, Some, Ok, refl, ap, sym, subst}
+use Rattle.std.proofs.Common.{◌≡◌, ◌≢◌, ◌⊎◌, inl, inr, ℕ, true, false, not, eqb}
+use Rattle.std.proofs.Common.{ltb, List, [], ◌∷◌, Some, Ok, refl, ap, sym, subst}
 use Rattle.std.specs.List.{AllByRecursion}
 use Rattle.std.proofs.lemmas.Bool.{or_parts, not-false, eqb-true}
 use Rattle.history.specs.declared.limits.TheConstants.{MOST_AMOUNT}

@@ -1,5 +1,6 @@
 -- A text is read whole: its first line, the lines of its base, and its entries.
-use Rattle.std.proofs.Common.{◌≡◌, ℕ, ◌-◌, false, ltb, ap, None, List, [], ◌++◌, length, drop, take, Result, Ok, Err, subst, sym, ◌∙◌}
+use Rattle.std.proofs.Common.{◌≡◌, ℕ, ◌-◌, false, ltb, ap, None, List, [], ◌++◌}
+use Rattle.std.proofs.Common.{length, drop, take, Result, Ok, Err, subst, sym, ◌∙◌}
 use Rattle.std.proofs.lemmas.Bool.{false≢true}
 use Rattle.std.proofs.lemmas.List.{append_cancel_left}
 use Rattle.std.specs.Prelude.{Option}

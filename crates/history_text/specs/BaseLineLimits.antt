@@ -8,6 +8,7 @@ use Rattle.history.specs.declared.limits.TheConstants.{LAST_CONDITION, MOST_AMOU
 use Rattle.history.specs.EntryWords.{IsWritten}
 use Rattle.history_text.specs.declared.base_line.BaseLine.{BaseLine}
 use Rattle.history_text.specs.declared.base_line.BaseLine.TheVariants.{Folded, Released, CountedDown, Seat, Stands, Sleeps}
+use Rattle.history_text.specs.declared.base_line.TheConstants.{LAST_SEAT}
 use Rattle.history_text.specs.BaseLines.{waiting_entry}
 
 -- a waiter that waits for what its acquire asks for, and one that comes back from a condition
@@ -39,8 +40,9 @@ IsBaseLine (Folded t) = (1 ≤ t) × (t ≤ MOST_FOLDED)
 IsBaseLine (Released t u) = (1 ≤ t) × (t ≤ MOST_FOLDED) × (u ≤ MOST_BASE_PERMITS)
 IsBaseLine (CountedDown t q) = (1 ≤ t) × (t ≤ MOST_FOLDED) × (q ≤ MOST_AMOUNT)
 IsBaseLine (Seat i has) =
-    (i ≤ 255) × (has.calls ≤ MOST_FOLDED) × (has.exclusive ≤ MOST_HOLDS) × (has.shared ≤ MOST_BASE_PERMITS)
+    (i ≤ LAST_SEAT) × (has.calls ≤ MOST_FOLDED) × (has.exclusive ≤ MOST_HOLDS)
+    × (has.shared ≤ MOST_BASE_PERMITS)
 IsBaseLine (Stands p) =
-    (p.who.seat ≤ 255) × IsWritten (waiting_entry p)
+    (p.who.seat ≤ LAST_SEAT) × IsWritten (waiting_entry p)
     × (p ≡ stood_by p.who.back (waiting_entry p))
-IsBaseLine (Sleeps c x) = (c ≤ LAST_CONDITION) × (x.seat ≤ 255) × (x.holds ≤ MOST_HOLDS)
+IsBaseLine (Sleeps c x) = (c ≤ LAST_CONDITION) × (x.seat ≤ LAST_SEAT) × (x.holds ≤ MOST_HOLDS)

@@ -9,6 +9,7 @@ use Rattle.history.specs.declared.limits.TheConstants.{LAST_CONDITION, MOST_AMOU
 use Rattle.history.specs.Reading.{Words, ◌>>=◌, keyword_at, named_at, number_at, wide_at}
 use Rattle.history_text.specs.declared.base_line.BaseLine.{BaseLine}
 use Rattle.history_text.specs.declared.base_line.BaseLine.TheVariants.{Folded, Released, CountedDown, Seat, Stands, Sleeps}
+use Rattle.history_text.specs.declared.base_line.TheConstants.{LAST_SEAT}
 use Rattle.history_text.specs.BaseLineLimits.{comes_back, queued}
 
 -- what follows the number of folded entries
@@ -28,7 +29,7 @@ folded_at words = do
 
 unfoldable pub has_at : Words → Option (BaseLine × Words)
 has_at words = do
-  i ← number_at 0 255 words
+  i ← number_at 0 LAST_SEAT words
   calls ← named_at (codes "calls") 0 MOST_FOLDED i.1
   exclusive ← named_at (codes "x") 0 MOST_HOLDS calls.1
   name ← keyword_at (codes "s") exclusive.1
@@ -43,7 +44,7 @@ standing_of w e = None
 
 unfoldable pub stands_at : Words → Option (BaseLine × Words)
 stands_at words = do
-  i ← number_at 0 255 words
+  i ← number_at 0 LAST_SEAT words
   e ← entry_at i.0 i.1
   p ← standing_of e.0.word e.0
   Some (Stands p, e.1)
@@ -51,7 +52,7 @@ stands_at words = do
 unfoldable pub sleeps_at : Words → Option (BaseLine × Words)
 sleeps_at words = do
   c ← number_at 0 LAST_CONDITION words
-  i ← number_at 0 255 c.1
+  i ← number_at 0 LAST_SEAT c.1
   h ← number_at 0 MOST_HOLDS i.1
   Some (Sleeps c.0 (record { seat = i.0; holds = h.0 }), h.1)
 

@@ -6,7 +6,7 @@ use Rattle.history.specs.declared.header.Header.{Header}
 use Rattle.history.specs.declared.header.Object.{Object}
 use Rattle.history.specs.declared.header.Object.TheVariants.{Lock, ReadWrite, Semaphore, Latch}
 use Rattle.history.specs.Base.{Base, sleepers_of}
-use Rattle.history.specs.declared.limits.TheConstants.{MOST_AMOUNT, MOST_BASE_PERMITS, MOST_FOLDED, MOST_HOLDS, MOST_READ_WRITE_HOLDS}
+use Rattle.history.specs.declared.limits.TheConstants.{MOST_AMOUNT, MOST_BASE_PERMITS, MOST_FOLDED, MOST_HOLDS, MOST_READ_WRITE_HOLDS, MOST_SEATS}
 use Rattle.history.specs.GoodBase.{SleepsWell, StandsWell}
 use Rattle.history.specs.Object.{is_latch, is_lock, is_semaphore, opening_count}
 use Rattle.history.specs.Steps.{at_least_none}
@@ -35,7 +35,7 @@ no_sums =
       calls = 0;
       exclusive = 0;
       shared = 0;
-      waits = replicate 256 false;
+      waits = replicate MOST_SEATS false;
       asleep = false;
       condition = 0;
     }

@@ -8,8 +8,12 @@ ghost use Rattle.history_text.specs.declared.base_line.BaseLine.TheVariants.{Sea
 
 use history::base::{LinePlace, SeatBase, Sleeper};
 use history::entry::{End, Entry, Mode, Word};
+use history::limits::MOST_SEATS;
 use history::number::{put_number, put_wide};
 use std::alloc::AllocError;
+
+/// The greatest number of a seat. Seats are numbered from 0.
+pub(crate) const LAST_SEAT: u16 = MOST_SEATS - 1;
 
 /// One line of a base.
 #[derive(Clone, Copy, Debug, PartialEq, Eq)]

@@ -6,19 +6,15 @@ ghost use Rattle.history.specs.Reading.{with_rest};
 ghost use Rattle.history_text.specs.declared.base_line.BaseLine.{BaseLine};
 ghost use Rattle.history_text.specs.BaseLineLimits.{IsBaseLine};
 ghost use Rattle.history_text.specs.BaseLines.{base_line, base_words};
-ghost use Rattle.history_text.specs.BaseReading.{base_line_at, beside_at, folded_at, has_at, sleeps_at, standing_of, stands_at};
+ghost use Rattle.history_text.specs.BaseReading.{base_line_at, beside_at, folded_at};
+ghost use Rattle.history_text.specs.BaseReading.{has_at, sleeps_at, standing_of, stands_at};
 
-use crate::base_line::BaseLine;
+use crate::base_line::{BaseLine, LAST_SEAT};
 use history::arrival::Arrival;
 use history::base::{LinePlace, SeatBase, Sleeper};
 use history::entry::{End, Entry, Mode, Word};
-use history::limits::{
-    LAST_CONDITION, MOST_AMOUNT, MOST_BASE_PERMITS, MOST_FOLDED, MOST_HOLDS, MOST_SEATS,
-};
+use history::limits::{LAST_CONDITION, MOST_AMOUNT, MOST_BASE_PERMITS, MOST_FOLDED, MOST_HOLDS};
 use history::words::Words;
-
-/// The greatest number of a seat.
-const LAST_SEAT: u64 = MOST_SEATS as u64 - 1;
 
 /// Reads what follows the number of folded entries.
 #[tactic(auto, unfolding(crate::specs::BaseReading::beside_at))]
@@ -58,7 +54,7 @@ fn has(words: &mut Words<'_>) -> Option<BaseLine>
     ensures found { IfSome result (λ x.
         IsBaseLine x × (codes "seat" ∷ words.old ≡ base_words x ++ words.new)) }
 {
-    let seat = words.number(0, LAST_SEAT)?;
+    let seat = words.number(0, LAST_SEAT as u64)?;
     words.expect(b"calls")?;
     let calls = words.number(0, MOST_FOLDED as u64)?;
     words.expect(b"x")?;
@@ -110,7 +106,7 @@ fn stands(words: &mut Words<'_>) -> Option<BaseLine>
     ensures found { IfSome result (λ x.
         IsBaseLine x × (codes "line" ∷ words.old ≡ base_words x ++ words.new)) }
 {
-    let seat = words.number(0, LAST_SEAT)?;
+    let seat = words.number(0, LAST_SEAT as u64)?;
     let entry = words.entry(seat as u16)?;
     let standing = standing_of(&entry)?;
     Some(BaseLine::Stands(standing))
@@ -123,7 +119,7 @@ fn sleeps(words: &mut Words<'_>) -> Option<BaseLine>
         × (codes "sleeper" ∷ words.old ≡ base_words x ++ words.new)) }
 {
     let condition = words.number(0, LAST_CONDITION as u64)?;
-    let seat = words.number(0, LAST_SEAT)?;
+    let seat = words.number(0, LAST_SEAT as u64)?;
     let holds = words.number(0, MOST_HOLDS as u64)?;
     let sleeper = Sleeper {
         seat: seat as u16,

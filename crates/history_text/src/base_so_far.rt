@@ -3,19 +3,24 @@
 ghost use Rattle.std.specs.Prelude.{◌≡◌, ◌⊎◌, ◌↔◌, ◌≤◌, ◌<◌, ◌+◌, IsTrue};
 ghost use Rattle.history.specs.declared.header.Object.TheVariants.{Semaphore};
 ghost use Rattle.history.specs.declared.header.Policy.{Policy};
-ghost use Rattle.history.specs.declared.limits.TheConstants.{MOST_FOLDED, MOST_READ_WRITE_HOLDS};
+ghost use Rattle.history.specs.declared.limits.TheConstants.{MOST_FOLDED, MOST_READ_WRITE_HOLDS, MOST_SEATS};
 ghost use Rattle.history.specs.Header.{IsInRange};
 ghost use Rattle.history_text.specs.declared.base_line.BaseLine.TheVariants.{Seat, Sleeps, Stands};
-ghost use Rattle.history_text.specs.BaseRules.{AllSeated, IsFirst, IsFree, IsSeated, MayFollow, MayHold, with_sums, no_sums};
+ghost use Rattle.history_text.specs.BaseRules.{AllSeated, IsFirst, IsFree, IsSeated};
+ghost use Rattle.history_text.specs.BaseRules.{MayFollow, MayHold, with_sums, no_sums};
 
 use crate::base_line::BaseLine;
-use crate::waiting_rules::{above_none, below_none, gave_up, is_lock, stands_well};
+use crate::waiting_rules::{above_none, below_none, gave_up, stands_well};
+use deciding::checks::is_lock;
 use history::base::{Base, LinePlace, SeatBase, Sleeper, opening_count};
 use history::header::{Header, Object};
 use history::limits::{
-    MOST_AMOUNT, MOST_BASE_PERMITS, MOST_FOLDED, MOST_HOLDS, MOST_READ_WRITE_HOLDS,
+    MOST_AMOUNT, MOST_BASE_PERMITS, MOST_FOLDED, MOST_HOLDS, MOST_READ_WRITE_HOLDS, MOST_SEATS,
 };
 use std::marker::Model;
+
+/// The greatest number of seats, as the length of a table.
+const SEATS: usize = MOST_SEATS as usize;
 
 /// The sums over the lines of a base that were read, and who waits.
 #[derive(Debug, Drop)]
@@ -26,7 +31,7 @@ pub struct BaseSoFar {
     calls: u64,
     exclusive: u32,
     shared: u128,
-    waits: [bool; 256],
+    waits: [bool; SEATS],
     asleep: bool,
     condition: u8,
 }
@@ -66,7 +71,7 @@ impl BaseSoFar {
             calls: 0,
             exclusive: 0,
             shared: 0,
-            waits: [false; 256],
+            waits: [false; SEATS],
             asleep: false,
             condition: 0,
         }
@@ -167,7 +172,7 @@ impl BaseSoFar {
     }
 
     fn is_free(&self, seat: u16) -> bool
-        requires { seat < 256 }
+        requires { seat < MOST_SEATS }
         ensures { IsTrue result ↔ IsFree self.now seat }
     {
         !self.waits[seat as usize]

@@ -1,6 +1,7 @@
 //! A base that is read line by line.
 
-ghost use Rattle.std.specs.Prelude.{◌≡◌, ◌+◌, ◌<◌, ◌≤◌, ◌∷◌, ◌++◌, [], ℕ, set, get_or, length, map, All, IfOk, IfErr, IsErrOf, None, Ok, vec_capacity};
+ghost use Rattle.std.specs.Prelude.{◌≡◌, ◌+◌, ◌<◌, ◌≤◌, ◌∷◌, ◌++◌, [], ℕ, set, get_or, length};
+ghost use Rattle.std.specs.Prelude.{map, All, IfOk, IfErr, IsErrOf, None, Ok, vec_capacity};
 ghost use Rattle.history.specs.declared.base.SeatBase.{SeatBase};
 ghost use Rattle.history.specs.declared.base.Sleeper.{Sleeper};
 ghost use Rattle.history.specs.declared.base.LinePlace.{LinePlace};
@@ -10,6 +11,7 @@ ghost use Rattle.history.specs.Header.{IsInRange};
 ghost use Rattle.history.specs.Text.{HasNoBreak};
 ghost use Rattle.line_text.specs.declared.fault.TextFault.TheVariants.{CutShort};
 ghost use Rattle.history_text.specs.declared.base_line.BaseLine.TheVariants.{Seat, Sleeps, Stands};
+ghost use Rattle.history_text.specs.declared.base_under_way.TheConstants.{MOST_LINES};
 ghost use Rattle.history_text.specs.BaseLines.{base_lines};
 ghost use Rattle.history_text.specs.BaseRules.{with_line};
 ghost use Rattle.history_text.specs.BaseText.{calls_sum};
@@ -23,11 +25,15 @@ use crate::place::Place;
 use history::base::{Base, Sleeper};
 use history::fault::Fault;
 use history::header::Header;
+use history::limits::MOST_SEATS;
 use history::text::first_line;
 use line_text::fault::TextFault;
 use line_text::limits::LINE_BYTES;
 use std::alloc::Global;
 use std::marker::Model;
+
+/// The most lines of a base: the first one, one for each seat, and one for each waiter.
+pub const MOST_LINES: u64 = 1 + 2 * MOST_SEATS as u64;
 
 /// A base of an object, as far as its lines were read. There is a good base whose lines begin with these.
 #[derive(Drop)]
@@ -66,7 +72,7 @@ impl BaseUnderWay {
 
     /// States how many lines a base has at most.
     fn recall_few(&self)
-        ensures { length self.now.lines ≤ 513 }
+        ensures { length self.now.lines ≤ MOST_LINES }
     {
         let _lines = &self.lines;
     }
@@ -112,7 +118,7 @@ impl BaseUnderWay {
         requires { GoodBeginsSo self.old.header (self.old.lines ++ line.now ∷ []) }
         ensures taken { self.new
             ≡ record { header = self.old.header; lines = self.old.lines ++ line.now ∷ [] } }
-        ensures few { length self.new.lines ≤ 513 }
+        ensures few { length self.new.lines ≤ MOST_LINES }
     {
         self.so_far.pass(&self.base, line);
         take_line(&mut self.base, line);
@@ -124,7 +130,7 @@ impl BaseUnderWay {
     pub fn take_next(&mut self, rest: &[u8]) -> Result<Option<usize>, TextFault>
         ensures line { IsBaseLineTaken self.old rest.now result self.new }
         ensures header { self.new.header ≡ self.old.header }
-        ensures few { length self.new.lines ≤ 513 }
+        ensures few { length self.new.lines ≤ MOST_LINES }
         ensures cut { IsErrOf result CutShort → HasNoBreak rest.now }
         ensures short { IfOk result (λ _. HasShortLine rest.now) }
     {

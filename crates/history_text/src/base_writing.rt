@@ -2,6 +2,7 @@
 
 ghost use Rattle.std.specs.Prelude.{◌≡◌, ◌∷◌, ◌++◌, ◌<◌, ◌≤◌, ◌^◌, [], OnOk, length, map};
 ghost use Rattle.std.specs.List.{AllByRecursion};
+ghost use Rattle.history.specs.declared.limits.TheConstants.{MOST_CONDITIONS};
 ghost use Rattle.history_text.specs.BaseLineLimits.{IsBaseLine};
 ghost use Rattle.history_text.specs.BaseLines.{base_lines, first_line, seat_lines, sleeper_lines};
 ghost use Rattle.history_text.specs.BaseText.{calls_sum};
@@ -15,7 +16,7 @@ use std::alloc::AllocError;
 
 /// Appends the lines of a base. On an error only the first bytes may have been appended.
 pub(crate) fn put_base(out: &mut Vec<u8>, base: &Base) -> Result<(), AllocError>
-    requires conditions { length base.now.sleepers ≤ 16 }
+    requires conditions { length base.now.sleepers ≤ MOST_CONDITIONS }
     requires each { AllByRecursion IsBaseLine (base_lines base.now) }
     ensures { OnOk result (out.new.items ≡ out.old.items ++ lines_text (base_lines base.now)) }
 {
@@ -67,7 +68,7 @@ fn put_standings(out: &mut Vec<u8>, line: &[LinePlace]) -> Result<(), AllocError
 }
 
 fn put_sleepers(out: &mut Vec<u8>, lists: &[Vec<Sleeper>]) -> Result<(), AllocError>
-    requires few { length lists.now ≤ 16 }
+    requires few { length lists.now ≤ MOST_CONDITIONS }
     requires each { AllByRecursion IsBaseLine (sleeper_lines 0 (map (λ list. list.items) lists.now)) }
     ensures { OnOk result (out.new.items
         ≡ out.old.items ++ lines_text (sleeper_lines 0 (map (λ list. list.items) lists.now))) }

@@ -1,28 +1,19 @@
 //! Who may wait on a base.
 
-ghost use Rattle.std.specs.Prelude.{◌≡◌, ◌↔◌, true, IsTrue, neg_ℤ};
+ghost use Rattle.std.specs.Prelude.{◌≡◌, ◌↔◌, true, false, IsTrue, neg_ℤ};
 ghost use Rattle.history.specs.declared.entry.Mode.{Mode};
 ghost use Rattle.history.specs.Base.{holds_of, seat_of};
 ghost use Rattle.history.specs.Faults.{is_bad_number, lacks_mode};
 ghost use Rattle.history.specs.GoodBase.{Asks, GaveUp, Returns, StandsWell};
-ghost use Rattle.history.specs.Object.{is_lock};
 ghost use Rattle.history.specs.Ownership.{most_exclusive};
 ghost use Rattle.history.specs.Steps.{at_least_none};
 
+use deciding::checks::{is_lock, refused_as};
 use history::base::{Base, LinePlace, SeatBase};
 use history::entry::{End, Mode};
-use history::header::Object;
-use history::limits::{MOST_AMOUNT, MOST_HOLDS, MOST_READ_WRITE_HOLDS};
-
-/// Returns whether it is a lock or a read-write lock.
-pub(crate) fn is_lock(object: Object) -> bool
-    ensures { result ≡ is_lock object }
-{
-    match object {
-        Object::Lock(_) | Object::ReadWrite(_) => true,
-        Object::Semaphore(_, _) | Object::Latch(_) => false,
-    }
-}
+use history::header::{Header, Object};
+use history::limits::{MOST_HOLDS, MOST_READ_WRITE_HOLDS};
+use history::step::Step;
 
 /// Returns the number, or 0 if it is negative.
 pub(crate) fn above_none(permits: i32) -> u128
@@ -56,26 +47,6 @@ fn seat_of(base: &Base, seat: u16) -> SeatBase
     }
 }
 
-fn lacks_mode(object: Object, mode: Mode) -> bool
-    ensures { result ≡ lacks_mode object mode }
-{
-    match (object, mode) {
-        (Object::Lock(_), Mode::X) | (Object::ReadWrite(_), _) => false,
-        (Object::Lock(_), Mode::S) => true,
-        (_, Mode::X) => true,
-        (_, Mode::S) => false,
-    }
-}
-
-fn is_bad_number(object: Object, n: u32) -> bool
-    ensures { result ≡ is_bad_number object n }
-{
-    match object {
-        Object::Semaphore(_, _permits) => MOST_AMOUNT < n,
-        _ => n != 1,
-    }
-}
-
 fn most_exclusive(object: Object) -> u32
     ensures { result ≡ most_exclusive object }
 {
@@ -106,15 +77,21 @@ fn holds_nothing(has: SeatBase) -> bool
     has.exclusive == 0 && has.shared == 0
 }
 
+/// Returns whether the object has the mode and the amount of an acquire.
+fn has_such(header: &Header, mode: Mode, n: u32) -> bool
+    ensures { IsTrue result ↔ ((lacks_mode header.now.object mode ≡ false)
+        × (is_bad_number header.now.object n ≡ false)) }
+{
+    refused_as(header, Step::Acquire(mode, n)).is_none()
+}
+
 /// Returns whether an acquire in the queue asks for what the object has, and comes back from no sleep.
 fn asks(base: &Base, standing: &LinePlace) -> bool
     ensures { IsTrue result ↔ Asks base.now standing.now }
 {
-    let object = base.header.object;
     let who = standing.who;
     who.seat < base.header.seats
-        && !lacks_mode(object, who.mode)
-        && !is_bad_number(object, who.n)
+        && has_such(&base.header, who.mode, who.n)
         && seat_of(base, who.seat).exclusive == 0
         && standing.condition == 0
         && standing.holds == 0

@@ -237,7 +237,8 @@ module _ (did : Deed → Type 0) (old mid : Shown) (how : How) (m : Mode) (n : �
           IsEndFor how old.seat (asking old.seat m n) last
       ends_for x = subst (λ (i : ℕ). IsEndFor how i (asking i m n) last) same.seat
           (⊎_elim inl
-          (λ r. inr (⊎_elim (λ t. inl (t.0, time_left how m n (is_acquire w) (only_timed did how l.until for.until t.1)))
+          (λ r. inr (⊎_elim
+          (λ t. inl (t.0, time_left how m n (is_acquire w) (only_timed did how l.until for.until t.1)))
           (λ t. inr (t.0, sym for.interruptible ∙ t.1)) r)) x)
 
       by : IsWait did mid (in_line (asking mid.seat m n)) Parks l last new → IsAcquire did old m n how (Ok last) new

@@ -42,7 +42,7 @@ use Rattle.monitor.specs.Load.{Brings, IsFreeAfter, Moves, given_by}
 use Rattle.monitor.specs.Stepping.{made_by}
 use Rattle.monitor.proofs.Acquiring.{idle_made}
 use Rattle.monitor.proofs.InLine.{records}
-use Rattle.monitor.proofs.Sections.{Left, Section, added_step, answered_shown, left, sectioned}
+use Rattle.monitor.proofs.Sections.{Left, Section, answered_shown, left, mine_grown, sectioned}
 
 -- the words of the entries that take permits, and of those that give them back
 abbrev takes : Word → Bool
@@ -129,7 +129,8 @@ gave_takes (Semaphore p c) k i m n = by (int_lt (pos 2147483647) (k.free +ℤ po
 gave_takes (Latch c) k i m n = refl
 
 -- an entry of an idle seat
-idle_suits : (s : Start) (h : List Entry) (i : ℕ) (step : Step) → waits step ≡ false → Suits step (idle_entry s h i step)
+idle_suits : (s : Start) (h : List Entry) (i : ℕ) (step : Step) → waits step ≡ false →
+    Suits step (idle_entry s h i step)
 idle_suits s h i (Acquire m n) w =
     suits_none (Acquire m n) (idle_entry s h i (Acquire m n)) refl
     (acquired_gives (held_back (counts s h) (first_mode s h) i m) (limit (counts s h) i m) (could (counts s h) i m n))
@@ -139,7 +140,8 @@ idle_suits s h i (Try m n) w =
 idle_suits s h i (TryFair m n) w =
     suits_none (TryFair m n) (idle_entry s h i (TryFair m n)) refl
     (fairly_gives (held_back (counts s h) (first_mode s h) i m) (limit (counts s h) i m) (could (counts s h) i m n))
-idle_suits s h i (EntryInterrupt m n) w = suits_none (EntryInterrupt m n) (idle_entry s h i (EntryInterrupt m n)) refl refl
+idle_suits s h i (EntryInterrupt m n) w =
+    suits_none (EntryInterrupt m n) (idle_entry s h i (EntryInterrupt m n)) refl refl
 idle_suits s h i (Give m n) w = record {
   given = λ _. refl;
   taken = λ took_some. (let z : true ≡ false = sym took_some ∙ gave_takes s.header.object (counts s h) i m n in cc);
@@ -200,7 +202,8 @@ could_free (Latch c) k i m n t u = cc
 took : (step : Step) (e : Entry) (o : Object) (k : Counts) (f : ℤ) → is_semaphore o ≡ true →
     given_by step ≡ 0 → could_of o k e.seat e.mode e.n ≡ true → k.free ≡ f → IsFreeAfter step f (f -ℤ pos e.n)
 took step e o k f t none can is =
-    inr (inl (none, (e.n, refl), subst (λ (z : ℤ). pos 0 ≤ℤ (z -ℤ pos e.n)) is (could_free o k e.seat e.mode e.n t can)))
+    let enough = could_free o k e.seat e.mode e.n t can in
+    inr (inl (none, (e.n, refl), subst (λ (z : ℤ). pos 0 ≤ℤ (z -ℤ pos e.n)) is enough))
 
 drain_free : (f : ℤ) → (f -ℤ pos (at_least_none f) ≡ f) ⊎ (pos 0 ≤ℤ (f -ℤ pos (at_least_none f)))
 drain_free (pos n) = by (int_lt (pos n) (pos 0))
@@ -268,7 +271,8 @@ turn_frees v w i step r kept kept' below answered t =
     by (Err f) is = inl refl
     by (Ok Sleep) is = inl refl
     by (Ok (Recorded e name)) is =
-        let made = records v w i step e name (subst (λ (z : Result Answer Fault). IsAnswered v i step z w) is answered) in
+        let recorded = subst (λ (z : Result Answer Fault). IsAnswered v i step z w) is answered in
+        let made = records v w i step e name recorded in
         entry_frees v.base v.entries i step e kept.lawful.may_fold.can
         (subst (λ (k : Header). i < k.seats) (sym kept.header) below) t made.made
 
@@ -296,8 +300,7 @@ section_frees t o n p q seat share step r s =
     let l = left seat p q s.beside s.beside_left step r s.answered in
     let here = free (start_at p) p.entries in
     let own = free (opening t.lock.header) (first_entries t.logs) in
-    let mine = x.grown
-    ∙ ap (λ (es : List Entry). es ++ first_entries t.logs) (added_step seat p q s.beside s.beside_left step r s.answered) in
+    let mine = mine_grown t o n p q seat share step r s in
     let new = ap (λ (k : LockId). free (opening k.header) (first_entries n.logs)) x.lock
     ∙ ap (λ (es : List Entry). free (opening t.lock.header) es) mine in
     let left_is = ap (λ (b : Base). free (based b) q.entries) (sym l.base)

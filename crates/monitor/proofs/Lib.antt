@@ -1,5 +1,6 @@
 pub mod Sections
 pub mod InLine
+pub mod Taking
 pub mod Turns
 pub mod Acquiring
 pub mod OnCondition

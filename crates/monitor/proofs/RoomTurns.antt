@@ -155,6 +155,11 @@ trim_ends : (q : Request) (how : How) (moment : ℕ) (was : Bool) (r : Result An
 trim_ends q how moment was r w many is =
     let t = ap (λ (z : Result Answer Fault). (first_turn q how moment was z).next) (sym many) ∙ is in cc
 
+-- a step under another name
+pub step_in_as : (w : WhenFull) (old new : Shown) (made step : Step) (r : Result Answer Fault) → made ≡ step →
+    IsStepIn w old made r new → IsStepIn w old step r new
+step_in_as w old new made step r same s = subst (λ (z : Step). IsStepIn w old z r new) same s
+
 pub awake_in : (w : WhenFull) (old new : Shown) (q : Request) (how : How) (was : Bool) (r : Result Answer Fault) →
     IsStepIn w old (step_by q how was) r new → r ≢ Ok Sleep
 awake_in w old new q how was r s = no_sleep_in w old new (step_by q how was) r (step_idle q how was) s

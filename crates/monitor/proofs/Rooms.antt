@@ -4,7 +4,7 @@ use Rattle.std.specs.Prelude.{ℤ, ◌+ℤ◌}
 use Rattle.std.proofs.lemmas.List.{append-nil}
 use Rattle.history.specs.declared.entry.Entry.{Entry}
 use Rattle.history.specs.declared.fault.Fault.{Fault}
-use Rattle.history.specs.declared.fault.Fault.TheVariants.{HistoryFull}
+use Rattle.history.specs.declared.fault.Fault.TheVariants.{HistoryFull, TrimFull}
 use Rattle.history.specs.declared.point.Point.{Point}
 use Rattle.history.specs.declared.step.Answer.{Answer}
 use Rattle.history.specs.declared.step.Step.{Step}
@@ -13,12 +13,12 @@ use Rattle.history.specs.Counts.{free}
 use Rattle.history.specs.Entries.{ended_calls}
 use Rattle.history.specs.Start.{opening}
 use Rattle.history.proofs.Folding.{fold_alike}
-use Rattle.frame.specs.Core.{CoreView, IsAnswered, IsTold, IsTrimmed, counts_of}
+use Rattle.frame.specs.Core.{CoreView, IsAnswered, IsTold, IsTrimFull, IsTrimmed, counts_of}
 use Rattle.word_lock.specs.Point.{Agrees, Before, Follows, added}
 use Rattle.word_lock.specs.Rule.{AllAgree}
-use Rattle.word_lock.specs.Ticket.{LockId, Ticket, first_entries, after_lock, after_unlock}
+use Rattle.word_lock.specs.Ticket.{LockId, Ticket, first_entries, first_seat, after_lock, after_unlock}
 use Rattle.word_lock.proofs.PointLaws.{added_behind, before_header, before_refl, before_trans, follows_before, follows_behind, follows_fold, follows_own}
-use Rattle.word_lock.proofs.Sections.{IsSection, section}
+use Rattle.word_lock.proofs.Sections.{IsSection, follows_taken, section}
 use Rattle.monitor.specs.Lawful.{beside_of, point_of, start_at, view_of, IsLawfulCore, IsLawful}
 use Rattle.monitor.specs.Load.{Moves, holds_in}
 use Rattle.monitor.specs.Room.{IsFold, IsStepIn, IsTooMany, at_point, fold_of}
@@ -38,6 +38,20 @@ full_is (Err _) q = cc
 
 pub not_full : (r : Result Answer Fault) → is_full r ≡ false → r ≢ Err HistoryFull
 not_full r q is = let z = ap is_full is in cc
+
+-- a step whose answer says so
+pub no_room : (v w : CoreView) (i : ℕ) (step : Step) (r : Result Answer Fault) → is_full r ≡ true →
+    IsCoreStep v i step r w → IsCoreStep v i step (Err HistoryFull) w
+no_room v w i step r full s =
+    subst (λ (z : Result Answer Fault). IsCoreStep v i step z w) (full_is r full) s
+
+-- and that too many entries were there for a fold, which changed nothing
+pub no_fold : (v full w : CoreView) (i : ℕ) (step : Step) (f : Fault) (moved : CoreView → Type 0) →
+    IsCoreStep v i step (Err HistoryFull) full → moved full → IsTrimmed full (Err f) w →
+    IsCoreStep v i step (Err HistoryFull) w × moved w × IsTrimFull w × (f ≡ TrimFull)
+no_fold v full w i step f moved s m t =
+    subst (λ (z : CoreView). IsCoreStep v i step (Err HistoryFull) z × moved z × IsTrimFull z × (f ≡ TrimFull))
+    (sym t.2) (s, m, t.0, t.1)
 
 -- a step that found no room left the history as it was
 pub refused_left : (v w : CoreView) (i : ℕ) (step : Step) (f : Fault) → IsLawfulCore v → IsLawfulCore w →
@@ -106,6 +120,13 @@ module _ (moved : CoreView → Type 0) (v w : CoreView) (seat : ℕ) (step : Ste
         added_step seat (point_of v) (point_of w) (beside_of v) (beside_of w) step (Err HistoryFull) a
             ∙ ap made_by (sym x.3),
       )
+
+pub follows_room : (t o : Ticket) (moved : CoreView → Type 0) (v w : CoreView) (seat share : ℕ) (step : Step)
+    (r : Result Answer Fault) → o ≡ after_lock t (point_of v) → IsPass t seat share → IsLawfulCore v →
+    IsLawfulCore w → IsCoreStepIn moved v seat step r w → Follows (first_seat o.logs) o.seen (point_of w)
+follows_room t o moved v w seat share step r taken was kept left s =
+    follows_taken o t (point_of v) (point_of w) seat taken was.seat_is
+    (follows_in moved v w seat step r kept left s).0
 
 -- the section of the lock around it
 pub record Around (t o n : Ticket) (v w : CoreView) (seat share : ℕ) : Type 0 where

@@ -143,8 +143,8 @@ core_shown v kept = λ d. record {
   told = v.told;
 }
 
-pub answered_shown : (v w : CoreView) (i : ℕ) (step : Step) (r : Result Answer Fault) → IsLawfulCore v → IsLawfulCore w →
-    IsAnswered v i step r w →
+pub answered_shown : (v w : CoreView) (i : ℕ) (step : Step) (r : Result Answer Fault) →
+    IsLawfulCore v → IsLawfulCore w → IsAnswered v i step r w →
     IsAnswered (view_of (point_of v) (beside_of v)) i step r (view_of (point_of w) (beside_of w))
 answered_shown v w i step r kept left a =
     subst (λ x. IsAnswered x i step r (view_of (point_of w) (beside_of w))) (sym (core_shown v kept))
@@ -218,7 +218,7 @@ module _ (t o n : Ticket) (p q : Point) (seat share : ℕ) (step : Step) (r : Re
       section t o n p q seat s.taken s.given s.was.one s.was.seat_is s.begins s.entries
       (follows_step seat p q s.beside s.beside_left step r s.answered)
 
-  mine_grown : Section → first_entries n.logs ≡ made_by r ++ first_entries t.logs
+  pub mine_grown : Section → first_entries n.logs ≡ made_by r ++ first_entries t.logs
   mine_grown s =
       (sectioned s).grown ∙ ap (λ (l : List Entry). l ++ first_entries t.logs)
       (added_step seat p q s.beside s.beside_left step r s.answered)

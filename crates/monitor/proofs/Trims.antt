@@ -6,9 +6,9 @@ use Rattle.history.specs.Entries.{ended_calls}
 use Rattle.frame.specs.Core.{CoreView, IsTrimmed}
 use Rattle.word_lock.specs.Point.{Before, Follows, added}
 use Rattle.word_lock.specs.Rule.{AllAgree}
-use Rattle.word_lock.specs.Ticket.{Ticket, first_entries, after_lock, after_unlock}
+use Rattle.word_lock.specs.Ticket.{Ticket, first_entries, first_seat, after_lock, after_unlock}
 use Rattle.word_lock.proofs.PointLaws.{added_more, follows_fold, follows_more}
-use Rattle.word_lock.proofs.Sections.{IsSection, section}
+use Rattle.word_lock.proofs.Sections.{IsSection, follows_taken, section}
 use Rattle.monitor.specs.Lawful.{point_of, view_of, beside_of, Beside, IsLawfulCore, IsLawful}
 use Rattle.monitor.specs.Shown.{shown, IsPass, IsSound}
 use Rattle.monitor.specs.Stepping.{IsTrim}
@@ -73,4 +73,29 @@ module _ (t o n : Ticket) (p q : Point) (seat share : ℕ) (r : Result ℕ Fault
     after = x.begins;
     mine = mine s;
     share = refl;
+  }
+
+-- one trim of the core that was taken
+module _ (t o : Ticket) (v w : CoreView) (seat share : ℕ) (r : Result ℕ Fault) where
+  pub follows_trimmed : o ≡ after_lock t (point_of v) → IsPass t seat share → IsLawfulCore v → IsLawfulCore w →
+      IsTrimmed v r w → Follows (first_seat o.logs) o.seen (point_of w)
+  follows_trimmed taken was kept left trimmed =
+      follows_taken o t (point_of v) (point_of w) seat taken was.seat_is
+      (follows_trim seat (point_of v) (point_of w) (beside_of v) (beside_of w) r kept.lawful
+      (trimmed_shown v w r kept left trimmed)).0
+
+  pub trim_of : (n : Ticket) → o ≡ after_lock t (point_of v) → n ≡ after_unlock o (point_of w) →
+      IsPass t seat share → Before t.seen (point_of v) → AllAgree (point_of v) t.logs → IsLawfulCore v →
+      IsLawfulCore w → IsTrimmed v r w → Trim t o n (point_of v) (point_of w) seat share r
+  trim_of n taken given was begins entries kept left trimmed = record {
+    taken = taken;
+    given = given;
+    was = was;
+    begins = begins;
+    entries = entries;
+    beside = beside_of v;
+    beside_left = beside_of w;
+    trimmed = trimmed_shown v w r kept left trimmed;
+    found = kept.lawful;
+    lawful = left.lawful;
   }

@@ -488,13 +488,20 @@ is_noted l Looks woke kept noted q = cc
 is_noted l GivenUp woke kept noted q = cc
 
 -- a step that waited for nobody
-pub stepped_now : (old new : Shown) (step : Step) (reply : Result Now Fault) (r : Result Answer Fault) →
-    IsStepNow old step reply new → answer_of reply ≡ Some r → IsStep old step r new
-stepped_now old new step (Ok (Done a)) r s q =
-    let same : Ok a ≡ r = cc in subst (λ (z : Result Answer Fault). IsStep old step z new) same s
-stepped_now old new step (Ok Busy) r s q = cc
-stepped_now old new step (Err f) r s q =
-    let same : Err f ≡ r = cc in subst (λ (z : Result Answer Fault). IsStep old step z new) same s
+-- a step under another name
+pub step_as : (old new : Shown) (made step : Step) (r : Result Answer Fault) → made ≡ step →
+    IsStep old made r new → IsStep old step r new
+step_as old new made step r same s = subst (λ (z : Step). IsStep old z r new) same s
+
+pub stepped_now : (old new : Shown) (made step : Step) (reply : Result Now Fault) (r : Result Answer Fault) →
+    made ≡ step → IsStepNow old made reply new → answer_of reply ≡ Some r → IsStep old step r new
+stepped_now old new made step (Ok (Done a)) r same s q =
+    let is : Ok a ≡ r = cc in
+    step_as old new made step r same (subst (λ (z : Result Answer Fault). IsStep old made z new) is s)
+stepped_now old new made step (Ok Busy) r same s q = cc
+stepped_now old new made step (Err f) r same s q =
+    let is : Err f ≡ r = cc in
+    step_as old new made step r same (subst (λ (z : Result Answer Fault). IsStep old made z new) is s)
 
 pub busy_now : (old new : Shown) (step : Step) (reply : Result Now Fault) → IsStepNow old step reply new →
     answer_of reply ≡ None → new ≡ old

@@ -1,10 +1,12 @@
 -- What the calls of a lock leave of a pass's holds.
-use Rattle.std.proofs.Common.{◌≡◌, ◌⊎◌, inl, inr, ℕ, zero, suc, ◌+◌, ◌==◌, nat_lt, Bool, true, false, ◌&&◌, not, cond, List, ◌∷◌, length, Option, Result, Ok, Err, refl, sym, ap, ◌∙◌, subst, arith}
+use Rattle.std.proofs.Common.{◌≡◌, ◌⊎◌, inl, inr, ℕ, zero, suc, ◌+◌, ◌==◌, nat_lt, Bool, true, false, ◌&&◌, not, cond}
+use Rattle.std.proofs.Common.{List, ◌∷◌, length, Option, Result, Ok, Err, refl, sym, ap, ◌∙◌, subst, arith}
 use Rattle.std.specs.List.{All}
 use Rattle.std.proofs.lemmas.List.Elements.{All-nil, All-cons}
 use Rattle.history.specs.declared.entry.End.{End}
 use Rattle.history.specs.declared.entry.End.TheVariants as end
 use Rattle.history.specs.declared.entry.Entry.{Entry}
+use Rattle.history.specs.declared.entry.Mode.{Mode}
 use Rattle.history.specs.declared.entry.Mode.TheVariants.{X, S}
 use Rattle.history.specs.declared.entry.Word.{Word}
 use Rattle.history.specs.declared.entry.Word.TheVariants as word
@@ -34,19 +36,20 @@ use Rattle.history.specs.Sleepers.{sleepers}
 use Rattle.monitor.specs.Lawful.{start_at, view_of}
 use Rattle.history.specs.declared.point.Point.{Point}
 use Rattle.monitor.specs.Shown.{Shown, IsSound, opening_pass, opening_passes}
-use Rattle.monitor.specs.Load.{is_signal}
-use Rattle.monitor.specs.Stepping.{IsEntered, IsSame, IsStep, IsTrim}
+use Rattle.monitor.specs.Load.{holds_of, is_signal}
+use Rattle.monitor.specs.Stepping.{IsEntered, IsSame, IsStep}
 use Rattle.monitor.specs.declared.how.How.{How}
 use Rattle.monitor.proofs.Acquiring.{idle_made}
 use Rattle.monitor.proofs.InLine.{records}
 use Rattle.monitor_fronts.specs.Holding.{holds}
 
--- the holds of a pass, with an entry in front
-abbrev pub after : Header → ℕ → Entry → ℕ → ℕ
-after k i e had = cond ((e.seat == i) && same_mode e.mode X) (holds_after k.object e.word e.n had) had
+-- the holds of a seat in a mode, with an entry in front
+abbrev pub after : Mode → Header → ℕ → Entry → ℕ → ℕ
+after m k i e had = cond ((e.seat == i) && same_mode e.mode m) (holds_after k.object e.word e.n had) had
 
-pub of_own : (old new : Shown) → IsSame old new → holds new ≡ held (opening old.lock.header) new.mine old.seat X
-of_own old new same = λ d. held (opening (same.lock d).header) new.mine (same.seat d) X
+pub of_own : (old new : Shown) (m : Mode) → IsSame old new →
+    holds_of new m ≡ held (opening old.lock.header) new.mine old.seat m
+of_own old new m same = λ d. held (opening (same.lock d).header) new.mine (same.seat d) m
 
 pub one_hold : (o : Object) (n : ℕ) → is_lock o ≡ true → in_holds o n ≡ 1
 one_hold (Lock p) n q = refl
@@ -54,14 +57,19 @@ one_hold (ReadWrite p) n q = refl
 one_hold (Semaphore p c) n q = cc
 one_hold (Latch c) n q = cc
 
-pub queued_adds_none : (k : Header) (i : ℕ) (e : Entry) (had : ℕ) → e.word ≡ word.Queued → after k i e had ≡ had
-queued_adds_none k i e had w =
-    ap (λ (z : Word). cond ((e.seat == i) && same_mode e.mode X) (holds_after k.object z e.n had) had) w
-    ∙ same ((e.seat == i) && same_mode e.mode X)
-  where
-    same : (b : Bool) → cond b had had ≡ had
-    same true = refl
-    same false = refl
+same_either : (b : Bool) (n : ℕ) → cond b n n ≡ n
+same_either true n = refl
+same_either false n = refl
+
+pub queued_adds_none : (m : Mode) (k : Header) (i : ℕ) (e : Entry) (had : ℕ) → e.word ≡ word.Queued →
+    after m k i e had ≡ had
+queued_adds_none m k i e had w =
+    ap (λ (z : Word). cond ((e.seat == i) && same_mode e.mode m) (holds_after k.object z e.n had) had) w
+    ∙ same_either ((e.seat == i) && same_mode e.mode m) had
+
+-- the same lock has the same object
+pub of_lock : {l k : LockId} → l ≡ k → is_lock k.header.object ≡ true → is_lock l.header.object ≡ true
+of_lock {l} {k} same lock = ap (λ (z : LockId). is_lock z.header.object) same ∙ lock
 
 -- the object of a history that a step found is that of the lock
 pub found_lock : (old new : Shown) (step : Step) (e : Entry) (name : Option ℕ) →
@@ -71,46 +79,41 @@ unfolding header_of
 found_lock old new step e name lock same shows s =
     let r = records (view_of s.found s.beside) (view_of new.seen s.beside_left) old.seat step e name s.answered in
     ap (λ (b : Base). is_lock b.header.object) (sym r.base)
-    ∙ (ap (λ (k : Header). is_lock k.object) shows.header
-    ∙ (ap (λ (l : LockId). is_lock l.header.object) same.lock ∙ lock))
+    ∙ (ap (λ (k : Header). is_lock k.object) shows.header ∙ of_lock same.lock lock)
 
 -- an await that sleeps leaves nothing
 await_leaves : (k : Header) (l : Counts) (i c : ℕ) (e : Entry) (had : ℕ) → e ≡ awaits l i c → e.word ≡ word.Await →
-    after k i e had ≡ 0
+    after X k i e had ≡ 0
 await_leaves k l i c e had q w = by (not (is_seat (owner l) i)) (nat_lt 0 (l.held i S)) q
   where
     sleeps : (n : ℕ) →
-        after k i (record { seat = i; word = word.Await; mode = X; n = n; at = c; end = end.None }) had ≡ 0
+        after X k i (record { seat = i; word = word.Await; mode = X; n = n; at = c; end = end.None }) had ≡ 0
     sleeps n = subst (λ (b : Bool). cond (b && true) 0 had ≡ 0) (sym (eq-eqb i i refl)) refl
 
     by : (b d : Bool) →
         e ≡ cond b (plain i (word.Refused fault.NotOwner) X 1)
         (cond d (plain i (word.Refused fault.HoldsRead) X 1)
         (record { seat = i; word = word.Await; mode = X; n = l.held i X; at = c; end = end.None })) →
-        after k i e had ≡ 0
+        after X k i e had ≡ 0
     by true d u = let v = sym (ap (λ (z : Entry). z.word) u) ∙ w in cc
     by false true u = let v = sym (ap (λ (z : Entry). z.word) u) ∙ w in cc
-    by false false u = subst (λ (z : Entry). after k i z had ≡ 0) (sym u) (sleeps (l.held i X))
+    by false false u = subst (λ (z : Entry). after X k i z had ≡ 0) (sym u) (sleeps (l.held i X))
 
 -- who comes back holds what it gave up
-back_adds : (k : Header) (i : ℕ) (w : Sleep) (had : ℕ) → after k i (back_from i w) had ≡ had + w.holds
+back_adds : (k : Header) (i : ℕ) (w : Sleep) (had : ℕ) → after X k i (back_from i w) had ≡ had + w.holds
 back_adds k i w had =
     subst (λ (b : Bool). cond (b && true) (had + w.holds) had ≡ had + w.holds) (sym (eq-eqb i i refl)) refl
 
 lapse_adds_none : (k : Header) (i : ℕ) (w : Sleep) (how : End) (had : ℕ) →
-    after k i (lapse_from i w how) had ≡ had
+    after X k i (lapse_from i w how) had ≡ had
 lapse_adds_none k i w how had =
     subst (λ (b : Bool). cond (b && true) had had ≡ had) (sym (eq-eqb i i refl)) refl
 
 refused_adds_none : (k : Header) (i : ℕ) (e : Entry) (had : ℕ) (f : Fault) → e.word ≡ word.Refused f →
-    after k i e had ≡ had
+    after X k i e had ≡ had
 refused_adds_none k i e had f w =
     ap (λ (z : Word). cond ((e.seat == i) && same_mode e.mode X) (holds_after k.object z e.n had) had) w
-    ∙ same ((e.seat == i) && same_mode e.mode X)
-  where
-    same : (b : Bool) → cond b had had ≡ had
-    same true = refl
-    same false = refl
+    ∙ same_either ((e.seat == i) && same_mode e.mode X) had
 
 refused_word : (did : Deed → Type 0) (i : ℕ) (how : How) (c : ℕ) (step : Step) (w : Word) →
     IsAwaitRefused did i how c step w → (f : Fault) × (w ≡ word.Refused f)
@@ -128,7 +131,7 @@ pub await_holds : (did : Deed → Type 0) (old new : Shown) (c : ℕ) (how : How
 await_holds did old new c how (Ok e) same (inl a) =
     let k = old.lock.header in
     let f = refused_word did old.seat how c a.0 e.word a.1 in
-    of_own old new same ∙ (ap (λ (l : List Entry). held (opening k) l old.seat X) a.2.mine
+    of_own old new X same ∙ (ap (λ (l : List Entry). held (opening k) l old.seat X) a.2.mine
     ∙ refused_adds_none k old.seat e (holds old) f.0 f.1)
 await_holds did old new c how (Ok e) same (inr x) = by x.end
   where
@@ -147,7 +150,7 @@ await_holds did old new c how (Ok e) same (inr x) = by x.end
     holds_back w rest n nothing q mine =
         let had : ℕ = held (opening k) rest old.seat X in
         let is : holds new ≡ held (opening k) (back_from old.seat w ∷ rest) old.seat X =
-        of_own old new same ∙ (ap (λ (l : List Entry). held (opening k) l old.seat X) mine
+        of_own old new X same ∙ (ap (λ (l : List Entry). held (opening k) l old.seat X) mine
         ∙ ap (λ (z : Entry). held (opening k) (z ∷ rest) old.seat X) q) in
         let adds = back_adds k old.seat w had in
         let gave = x.gave_up in
@@ -163,18 +166,14 @@ await_holds did old new c how (Ok e) same (inr x) = by x.end
         (lapse_adds_none k old.seat v z.end (held (opening k) (x.slept ∷ old.mine) old.seat X) ∙ none)
         z.back z.mine
 await_holds did old new c how (Err f) same x =
-    of_own old new same ∙ ap (λ (l : List Entry). held (opening old.lock.header) l old.seat X) x.stepped.mine
-
-same_either : (b : Bool) (n : ℕ) → cond b n n ≡ n
-same_either true n = refl
-same_either false n = refl
+    of_own old new X same ∙ ap (λ (l : List Entry). held (opening old.lock.header) l old.seat X) x.stepped.mine
 
 -- a signal changes no holds
 signal_adds_none : (k : Header) (l : Counts) (w : Word) (n i c : ℕ) (had : ℕ) →
-    ((m : ℕ) → holds_after k.object w m had ≡ had) → after k i (signals l w n i c) had ≡ had
+    ((m : ℕ) → holds_after k.object w m had ≡ had) → after X k i (signals l w n i c) had ≡ had
 signal_adds_none k l w n i c had none = by (not (is_seat (owner l) i))
   where
-    by : (b : Bool) → after k i (cond b (plain i (word.Refused fault.NotOwner) X 1)
+    by : (b : Bool) → after X k i (cond b (plain i (word.Refused fault.NotOwner) X 1)
         (record { seat = i; word = w; mode = X; n = n; at = c; end = end.None })) had ≡ had
     by true = same_either ((i == i) && true) had
     by false =
@@ -182,13 +181,13 @@ signal_adds_none k l w n i c had none = by (not (is_seat (owner l) i))
 
 told_keeps : (old new : Shown) (step : Step) (e : Entry) (name : Option ℕ) → is_signal step ≡ true →
     (s : IsStep old step (Ok (Recorded e name)) new) →
-    after old.lock.header old.seat e (holds old) ≡ holds old
+    after X old.lock.header old.seat e (holds old) ≡ holds old
 told_keeps old new (Signal c) e name signal s =
     let k = old.lock.header in
     let r = records (view_of s.found s.beside) (view_of new.seen s.beside_left) old.seat (Signal c) e name
     s.answered in
     let i = idle_made (start_at s.found) s.found.entries old.seat (Signal c) e refl r.made in
-    ap (λ (z : Entry). after k old.seat z (holds old)) i.is
+    ap (λ (z : Entry). after X k old.seat z (holds old)) i.is
     ∙ signal_adds_none k (counts (start_at s.found) s.found.entries) word.Signal
     (at_most_one (length (sleepers (start_at s.found) s.found.entries c))) old.seat c (holds old) (λ m. refl)
 told_keeps old new (SignalAll c) e name signal s =
@@ -196,7 +195,7 @@ told_keeps old new (SignalAll c) e name signal s =
     let r = records (view_of s.found s.beside) (view_of new.seen s.beside_left) old.seat (SignalAll c) e name
     s.answered in
     let i = idle_made (start_at s.found) s.found.entries old.seat (SignalAll c) e refl r.made in
-    ap (λ (z : Entry). after k old.seat z (holds old)) i.is
+    ap (λ (z : Entry). after X k old.seat z (holds old)) i.is
     ∙ signal_adds_none k (counts (start_at s.found) s.found.entries) word.SignalAll
     (length (sleepers (start_at s.found) s.found.entries c)) old.seat c (holds old) (λ m. refl)
 told_keeps old new _ e name signal s = cc
@@ -204,16 +203,10 @@ told_keeps old new _ e name signal s = cc
 pub signal_keeps : (did : Deed → Type 0) (old new : Shown) (step : Step) (r : Result Entry Fault) →
     is_signal step ≡ true → IsSame old new → IsEntered did old step r new → holds new ≡ holds old
 signal_keeps did old new step (Ok e) signal same s =
-    of_own old new same ∙ (ap (λ (l : List Entry). held (opening old.lock.header) l old.seat X) s.1.mine
+    of_own old new X same ∙ (ap (λ (l : List Entry). held (opening old.lock.header) l old.seat X) s.1.mine
     ∙ told_keeps old new step e s.0 signal s.1)
 signal_keeps did old new step (Err f) signal same s =
-    of_own old new same ∙ ap (λ (l : List Entry). held (opening old.lock.header) l old.seat X) s.mine
-
--- a fold changes no holds
-pub trim_keeps : (old new : Shown) (r : Result ℕ Fault) → IsSame old new → IsTrim old r new →
-    holds new ≡ holds old
-trim_keeps old new r same t =
-    of_own old new same ∙ ap (λ (l : List Entry). held (opening old.lock.header) l old.seat X) t.mine
+    of_own old new X same ∙ ap (λ (l : List Entry). held (opening old.lock.header) l old.seat X) s.mine
 
 -- nobody holds anything yet
 pub none_yet : (lock : LockId) (p : Point) (k n : ℕ) → All (λ (s : Shown). holds s ≡ 0) (opening_passes lock p k n)

@@ -1,5 +1,6 @@
 -- The release of a hold is recorded: whoever owns is idle, and its release was owed room and memory.
-use Rattle.std.proofs.Common.{◌≡◌, ℕ, ◌+◌, ◌<◌, Bool, true, false, not, cond, List, Option, Some, Result, Ok, Err, IsOk, refl, ap, ◌∙◌, sym, subst}
+use Rattle.std.proofs.Common.{◌≡◌, ℕ, ◌+◌, ◌<◌, Bool, true, false, not, cond, List, Option, Some, Result, Ok, Err}
+use Rattle.std.proofs.Common.{IsOk, refl, ap, ◌∙◌, sym, subst}
 use Rattle.history.specs.declared.entry.Entry.{Entry}
 use Rattle.history.specs.declared.entry.Mode.{Mode}
 use Rattle.history.specs.declared.entry.Mode.TheVariants.{X}
@@ -28,7 +29,7 @@ use Rattle.monitor.specs.Stepping.{IsEntered, IsSame}
 use Rattle.monitor.proofs.Loads.{own_holds}
 use Rattle.monitor.proofs.Opening.{header_shown}
 use Rattle.monitor_fronts.specs.Holding.{holds}
-use Rattle.monitor_fronts.specs.Told.{whether_of}
+use Rattle.monitor_fronts.specs.Told.{done_of}
 use Rattle.monitor_fronts.proofs.Exactly.{gave_is, gave_own, give_takes}
 
 -- an owner's give makes one entry
@@ -55,7 +56,7 @@ give_made s h i lock some idle =
     (has_mode s.header.object lock)
     ∙ (ap amount (has_amount s.header.object lock)
     ∙ (ap rest idle
-    ∙ ap (λ (w : Word). Ok (Some (plain i w X 1))) (gave_own s.header.object (counts s h) i lock some)))
+    ∙ ap (λ (w : Word). Ok (Some (plain i w X 1))) (gave_own s.header.object (counts s h) i X lock some)))
 
 pub point_gives : (p : Point) (i : ℕ) → IsLawful p → is_lock p.base.header.object ≡ true →
     0 < held (start_at p) p.entries i X →
@@ -66,10 +67,12 @@ point_gives p i l lock some =
 
 -- An owner's give is recorded: it finds room and memory, since it was owed.
 pub give_recorded : (did : Deed → Type 0) (old new : Shown) (r : Result Entry Fault) →
-    is_lock old.lock.header.object ≡ true → IsSame old new → IsSound old → IsEntered did old (Give X 1) r new → 0 < holds old → IsOk r
+    is_lock old.lock.header.object ≡ true → IsSame old new → IsSound old →
+    IsEntered did old (Give X 1) r new → 0 < holds old → IsOk r
 give_recorded did old new (Ok e) lock same shows s some = refl
 give_recorded did old new (Err f) lock same shows s some =
-    let header : header_of s.found ≡ old.lock.header = sym (before_header old.seen s.found s.begins) ∙ shows.header in
+    let header : header_of s.found ≡ old.lock.header =
+    sym (before_header old.seen s.found s.begins) ∙ shows.header in
     let is : is_lock s.found.base.header.object ≡ true =
     ap (λ (k : Header). is_lock k.object) (sym (header_shown s.found) ∙ header) ∙ lock in
     let own = own_holds s.found old.lock.header old.seat old.mine s.agrees header in
@@ -77,19 +80,20 @@ give_recorded did old new (Err f) lock same shows s some =
     subst (λ (f : Mode → ℕ). 0 < f X) own some in
     s.owed (plain old.seat word.Gave X 1, point_gives s.found old.seat s.lawful is there, is)
 
--- and that is what is told of it
-pub give_told : (did : Deed → Type 0) (old new : Shown) (r : Result Entry Fault) →
-    is_lock old.lock.header.object ≡ true → IsSame old new → IsSound old → IsSound new → IsEntered did old (Give X 1) r new → 0 < holds old →
-    whether_of r ≡ Ok true
-give_told did old new (Ok e) lock same was shows s some =
-    ap (λ (z : Entry). whether_of (Ok z)) (gave_is did old new e lock same shows s some)
-give_told did old new (Err f) lock same was shows s some =
+-- so an owner's unlock succeeds
+pub give_is_ok : (did : Deed → Type 0) (old new : Shown) (r : Result Entry Fault) (told : Result (Unit {0}) Fault) →
+    is_lock old.lock.header.object ≡ true → IsSame old new → IsSound old → IsSound new →
+    IsEntered did old (Give X 1) r new → 0 < holds old → told ≡ done_of r → IsOk told
+give_is_ok did old new (Ok e) told lock same was shows s some is =
+    subst (λ (z : Result (Unit {0}) Fault). IsOk z)
+    (sym (is ∙ ap (λ (z : Entry). done_of (Ok z)) (gave_is did old new X e lock same shows s some))) refl
+give_is_ok did old new (Err f) told lock same was shows s some is =
     absurd (let ok = give_recorded did old new (Err f) lock same was s some in cc)
 
 -- it takes one hold
 pub give_loses : (did : Deed → Type 0) (old new : Shown) (r : Result Entry Fault) →
     is_lock old.lock.header.object ≡ true → IsSame old new → IsSound old → IsSound new →
     IsEntered did old (Give X 1) r new → 0 < holds old → holds new + 1 ≡ holds old
-give_loses did old new (Ok e) lock same was shows s some = give_takes did old new e lock same shows s some
+give_loses did old new (Ok e) lock same was shows s some = (give_takes did old new X e lock same shows s some).0
 give_loses did old new (Err f) lock same was shows s some =
     absurd (let ok = give_recorded did old new (Err f) lock same was s some in cc)

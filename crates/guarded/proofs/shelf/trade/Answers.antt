@@ -20,7 +20,9 @@ returns-clause-takes g c n is few none =
     (ap nat_abs (to_z-of_z w64 c.args.free c.ranges.free ∙ is)) c.settle.ensures.takes few none
 
 pub returns-clause-gives : goal.returns-clause-gives
-returns-clause-gives g c is some = c.settle.ensures.gives (sym (ap nat_abs (to_z-of_z w64 c.args.free c.ranges.free ∙ is))) some
+returns-clause-gives g c is some =
+    c.settle.ensures.gives (sym (ap nat_abs (to_z-of_z w64 c.args.free c.ranges.free ∙ is))) some
 
 pub returns-clause-stays : goal.returns-clause-stays
-returns-clause-stays g c is = c.settle.ensures.stays (sym (ap nat_abs (to_z-of_z w64 c.args.free c.ranges.free ∙ is)))
+returns-clause-stays g c is =
+    c.settle.ensures.stays (sym (ap nat_abs (to_z-of_z w64 c.args.free c.ranges.free ∙ is)))

@@ -10,7 +10,8 @@ use Rattle.history_text.specs.declared.base_line.BaseLine.TheVariants.{Stands}
 use Rattle.history_text.specs.BaseLineLimits.{IsBaseLine}
 use Rattle.history_text.specs.BaseLines.{first_line, seat_lines, sleeper_lines}
 use Rattle.history_text.specs.Pieces.{lines_text}
-use Rattle.history_text.proofs.BaseWritten.{each_back, each_front, four_written}
+use Rattle.history_text.proofs.BaseWritten.{four_written}
+use Rattle.history_text.proofs.Lists.{each_back, each_front}
 use Rattle.history_text.proofs.base_writing.put_base.Goals as goal
 
 pub put_standings-requires : goal.put_standings-requires

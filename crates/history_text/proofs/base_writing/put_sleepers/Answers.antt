@@ -5,7 +5,8 @@ use Rattle.history_text.specs.declared.base_line.BaseLine.TheVariants.{Sleeps}
 use Rattle.history_text.specs.BaseLineLimits.{IsBaseLine}
 use Rattle.history_text.specs.BaseLines.{sleeper_lines}
 use Rattle.history_text.specs.Pieces.{lines_text}
-use Rattle.history_text.proofs.BaseWritten.{each_back, each_front, lines_written, lists_left}
+use Rattle.history_text.proofs.BaseWritten.{lines_written, lists_left}
+use Rattle.history_text.proofs.Lists.{each_back, each_front}
 use Rattle.history_text.proofs.base_writing.put_sleepers.Goals as goal
 
 pub put_asleep-requires : goal.put_asleep-requires

@@ -1,4 +1,5 @@
-use Rattle.std.proofs.Common.{◌≡◌, ℕ, ◌+◌, ◌<◌, List, Option, Some, reverse, get_or, refl, subst, ◌∙◌, arith, below_more, rules}
+use Rattle.std.proofs.Common.{◌≡◌, ℕ, ◌+◌, ◌<◌, List, Option, Some, reverse}
+use Rattle.std.proofs.Common.{get_or, refl, subst, ◌∙◌, arith, below_more, rules}
 use Rattle.std.specs.List.{slice_get}
 use Rattle.std.proofs.lemmas.List.{length-reverse}
 use Rattle.std.proofs.lemmas.Option.{same_Some, slice_get-get_or}

@@ -1,10 +1,8 @@
-use Rattle.std.proofs.Common.{rules, ◌≡◌, inl, inr, true, false, Err, Result, ◌∙◌, sym, ap, subst}
-use Rattle.frame.specs.Core.{CoreView, IsTrimFull}
+use Rattle.std.proofs.Common.{rules, ◌≡◌, inl, inr, true, false, Err, ◌∙◌, sym, ap}
 use Rattle.history.specs.declared.fault.Fault.{Fault}
 use Rattle.history.specs.declared.fault.Fault.TheVariants.{HistoryFull}
-use Rattle.history.specs.declared.step.Answer.{Answer}
-use Rattle.monitor.specs.inner.CoreSteps.{IsCoreStep}
-use Rattle.monitor.proofs.Rooms.{full_is, not_full}
+use Rattle.monitor.specs.inner.CoreSteps.{IsCoreStep, Unmoved}
+use Rattle.monitor.proofs.Rooms.{no_fold, no_room, not_full}
 use Rattle.monitor.proofs.kept.signal_laden_in_room.Goals.{After-trim_laden}
 use Rattle.monitor.proofs.kept.signal_laden_in_room.Goals as goal
 
@@ -24,9 +22,9 @@ refused : (g : _) (c : After-trim_laden g) →
 refused g c =
     let s = c.signal_laden-answer.ensures in
     let is : c.is_full.result ≡ true = search rules in
-    let full = full_is c.signal_laden-answer.result (sym c.is_full.ensures ∙ is) in
-    subst (λ (r : Result Answer Fault). IsCoreStep c.args.laden.now.core c.args.seat c.args.step r
-    c.signal_laden-answer.new.laden.core) full (record { answered = s.answered; told = s.told; owed = s.owed })
+    no_room c.args.laden.now.core c.signal_laden-answer.new.laden.core c.args.seat c.args.step
+    c.signal_laden-answer.result (sym c.is_full.ensures ∙ is)
+    (record { answered = s.answered; told = s.told; owed = s.owed })
 
 pub returns-in-Ok-clause-stepped : goal.returns-in-Ok-clause-stepped
 returns-in-Ok-clause-stepped g c =
@@ -48,12 +46,6 @@ returns-in-Ok-clause-stepped g c =
 pub returns-in-Err-clause-stepped : goal.returns-in-Err-clause-stepped
 returns-in-Err-clause-stepped g c =
     let before = (goal.at.returns-in-Err-clause-stepped g c).After-trim_laden in
-    let t = c.in-Err.ensures.trimmed in
-    let same = sym t.2 in
-    inr (inr (
-      subst (λ (z : CoreView). IsCoreStep c.args.laden.now.core c.args.seat c.args.step (Err HistoryFull) z) same
-          (refused g before),
-      tt,
-      subst IsTrimFull same t.0,
-      ap (λ (f : Fault). Err f) t.1,
-    ))
+    let x = no_fold c.args.laden.now.core c.signal_laden-answer.new.laden.core _ c.args.seat c.args.step _
+    Unmoved (refused g before) tt c.in-Err.ensures.trimmed in
+    inr (inr (x.0, tt, x.2, ap (λ (f : Fault). Err f) x.3))

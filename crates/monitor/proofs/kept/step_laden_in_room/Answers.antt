@@ -1,13 +1,12 @@
-use Rattle.std.proofs.Common.{rules, ◌≡◌, ◌∙◌, inl, inr, true, false, Err, Result, refl, sym, ap, subst, ℕ}
-use Rattle.frame.specs.Core.{CoreView, IsTrimFull, counts_of}
+use Rattle.std.proofs.Common.{rules, ◌≡◌, ◌∙◌, inl, inr, true, false, Err, refl, sym, ap, subst, ℕ}
+use Rattle.frame.specs.Core.{CoreView, counts_of}
 use Rattle.history.specs.declared.entry.Mode.{Mode}
 use Rattle.history.specs.declared.fault.Fault.{Fault}
 use Rattle.history.specs.declared.fault.Fault.TheVariants.{HistoryFull}
-use Rattle.history.specs.declared.step.Answer.{Answer}
 use Rattle.monitor.specs.Load.{Moves}
 use Rattle.monitor.specs.inner.CoreSteps.{IsCoreStep}
 use Rattle.monitor.proofs.Freeing.{brings_still, moves_since}
-use Rattle.monitor.proofs.Rooms.{full_is, not_full, refused_stays, trimmed_holds}
+use Rattle.monitor.proofs.Rooms.{no_fold, no_room, not_full, refused_stays, trimmed_holds}
 use Rattle.monitor.proofs.kept.step_laden_in_room.Goals.{After-trim_laden}
 use Rattle.monitor.proofs.kept.step_laden_in_room.Goals as goal
 
@@ -27,9 +26,9 @@ refused : (g : _) (c : After-trim_laden g) →
 refused g c =
     let s = c.step_laden-answer.ensures in
     let is : c.is_full.result ≡ true = search rules in
-    let full = full_is c.step_laden-answer.result (sym c.is_full.ensures ∙ is) in
-    subst (λ (r : Result Answer Fault). IsCoreStep c.args.laden.now.core c.args.seat c.args.step r
-    c.step_laden-answer.new.laden.core) full (record { answered = s.answered; told = s.told; owed = s.owed })
+    no_room c.args.laden.now.core c.step_laden-answer.new.laden.core c.args.seat c.args.step
+    c.step_laden-answer.result (sym c.is_full.ensures ∙ is)
+    (record { answered = s.answered; told = s.told; owed = s.owed })
 
 stays : (g : _) (c : After-trim_laden g) → g.L.Load.is_counted ≡ true →
     c.step_laden-answer.new.there ≡ c.args.there.now
@@ -73,14 +72,8 @@ returns-in-Ok-clause-stepped g c =
 pub returns-in-Err-clause-stepped : goal.returns-in-Err-clause-stepped
 returns-in-Err-clause-stepped g c =
     let before = (goal.at.returns-in-Err-clause-stepped g c).After-trim_laden in
-    let t = c.in-Err.ensures.trimmed in
-    let same = sym t.2 in
-    inr (inr (
-      subst (λ (z : CoreView). IsCoreStep c.args.laden.now.core c.args.seat c.args.step (Err HistoryFull) z) same
-          (refused g before),
-      subst (λ (z : CoreView). Moves g.L.Load.is_counted g.L.Load.amount c.args.there.now
-          (counts_of c.args.laden.now.core).free c.step_laden-answer.new.there (counts_of z).free) same
-          c.step_laden-answer.ensures.moves,
-      subst IsTrimFull same t.0,
-      ap (λ (f : Fault). Err f) t.1,
-    ))
+    let x = no_fold c.args.laden.now.core c.step_laden-answer.new.laden.core _ c.args.seat c.args.step _
+    (λ (z : CoreView). Moves g.L.Load.is_counted g.L.Load.amount c.args.there.now
+    (counts_of c.args.laden.now.core).free c.step_laden-answer.new.there (counts_of z).free)
+    (refused g before) c.step_laden-answer.ensures.moves c.in-Err.ensures.trimmed in
+    inr (inr (x.0, x.1, x.2, ap (λ (f : Fault). Err f) x.3))

@@ -1,18 +1,16 @@
-use Rattle.guarded.proofs.Calling.{give_loses, is_of_lock, never_fails}
-use Rattle.monitor_fronts.proofs.Owning.{give_recorded}
+use Rattle.monitor_fronts.proofs.Owning.{give_loses, give_recorded}
+use Rattle.guarded.proofs.Calling.{is_of_lock, never_fails}
 use Rattle.guarded.proofs.mutex.Mutex.give.Goals as goal
 
 pub unreachable-requires : goal.unreachable-requires
 unreachable-requires g c =
-    let lock = is_of_lock c.self.inside.monitor c.self.inside.when_full c.args.self.now c.args.pass.now c.self.view_is
-    c.self.invariant c.requires.is_of in
-    let ok = give_recorded (g.P.Parking.did c.args.parking.now) c.args.pass.now c.enter.new.pass c.enter.result lock
-    c.enter.ensures.same c.is_true.ensures c.enter.ensures.entered c.requires.has in
+    let lock = is_of_lock c.self.view_is c.self.invariant c.requires.is_of in
+    let ok = give_recorded (g.P.Parking.did c.args.parking.now) c.args.pass.now c.enter.new.pass c.enter.result
+    lock c.enter.ensures.same c.is_true.ensures c.enter.ensures.entered c.requires.has in
     never_fails c.enter.result _ ok c.in-Err.is
 
 pub returns-clause-loses : goal.returns-clause-loses
 returns-clause-loses g c =
-    let lock = is_of_lock c.self.inside.monitor c.self.inside.when_full c.args.self.now c.args.pass.now c.self.view_is
-    c.self.invariant c.requires.is_of in
-    give_loses (g.P.Parking.did c.args.parking.now) c.args.pass.now c.enter.new.pass c.enter.result lock
+    give_loses (g.P.Parking.did c.args.parking.now) c.args.pass.now c.enter.new.pass c.enter.result
+    (is_of_lock c.self.view_is c.self.invariant c.requires.is_of)
     c.enter.ensures.same c.is_true.ensures c.enter.ensures.shows c.enter.ensures.entered c.requires.has

@@ -1,17 +1,23 @@
 use Rattle.std.proofs.Common.{rules, ◌≡◌, None, sym, ◌∙◌, subst, ℕ, ap}
-use Rattle.history.specs.declared.step.Step.{Step}
 use Rattle.monitor.specs.Load.{Brings, given_by}
+use Rattle.monitor.specs.Machine.{step_by}
 use Rattle.monitor.specs.Stepping.{IsStep, answer_of}
 use Rattle.monitor.proofs.TurnByTurn.{begins_awake, busy_now, stepped_now, step_gives_none}
+use Rattle.monitor.proofs.monitor.Monitor.begin_quietly.Goals.{In-Some}
 use Rattle.monitor.proofs.monitor.Monitor.begin_quietly.Goals as goal
+
+-- what was made is the step of the request
+made : (g : _) (c : In-Some g) → IsStep c.args.pass.now (step_by c.args.request c.args.how c.args.interrupted)
+    c.in-Some.answer c.step_quietly.new.pass
+made g c =
+    stepped_now c.args.pass.now c.step_quietly.new.pass c.step-step.result _ c.step_quietly.result
+    c.in-Some.answer c.step-step.ensures c.step_quietly.ensures.stepped
+    (sym c.answer_of.ensures ∙ c.in-Some.is)
 
 pub first_turn-requires : goal.first_turn-requires
 first_turn-requires g c =
     begins_awake c.args.pass.now c.step_quietly.new.pass c.args.request c.args.how c.args.interrupted
-    c.in-Some.answer
-    (subst (λ (z : Step). IsStep c.args.pass.now z c.in-Some.answer c.step_quietly.new.pass) c.step-step.ensures
-    (stepped_now c.args.pass.now c.step_quietly.new.pass c.step-step.result c.step_quietly.result c.in-Some.answer
-    c.step_quietly.ensures.stepped (sym c.answer_of.ensures ∙ c.in-Some.is)))
+    c.in-Some.answer (made g (goal.at.first_turn-requires g c).In-Some)
 
 pub returns-in_default-clause-busy : goal.returns-in_default-clause-busy
 returns-in_default-clause-busy g c =
@@ -22,13 +28,12 @@ returns-in_default-clause-busy g c =
 pub returns-clause-begun : goal.returns-clause-begun
 returns-clause-begun g c = (
   c.in-Some.answer,
-  (subst (λ (z : Step). IsStep c.args.pass.now z c.in-Some.answer c.step_quietly.new.pass) c.step-step.ensures
-      (stepped_now c.args.pass.now c.step_quietly.new.pass c.step-step.result c.step_quietly.result c.in-Some.answer
-      c.step_quietly.ensures.stepped (sym c.answer_of.ensures ∙ c.in-Some.is))),
+  made g (goal.at.returns-clause-begun g c).In-Some,
   c.first_turn.ensures,
 )
 
 pub step_quietly-requires-clause-brings : goal.step_quietly-requires-clause-brings
 step_quietly-requires-clause-brings g c =
     subst (λ (n : ℕ). Brings g.L.Load.is_counted (g.L.Load.amount c.args.load.now) n)
-    (sym (ap given_by c.step-step.ensures ∙ step_gives_none c.args.request c.args.how c.args.interrupted)) c.requires.brings
+    (sym (ap given_by c.step-step.ensures ∙ step_gives_none c.args.request c.args.how c.args.interrupted))
+    c.requires.brings

@@ -1,22 +1,20 @@
 use Rattle.std.proofs.Common.{subst, ℕ, sym, ap, ◌∙◌}
-use Rattle.history.specs.declared.step.Step.{Step}
 use Rattle.monitor.specs.Load.{Brings, given_by}
-use Rattle.monitor.specs.Room.{IsStepIn}
-use Rattle.monitor.proofs.RoomTurns.{awake_in}
+use Rattle.monitor.proofs.RoomTurns.{awake_in, step_in_as}
 use Rattle.monitor.proofs.TurnByTurn.{step_gives_none}
 use Rattle.monitor.proofs.monitor.Monitor.begin_when_full.Goals as goal
 
 pub first_turn-requires : goal.first_turn-requires
 first_turn-requires g c =
-    awake_in c.args.when_full c.args.pass.now c.step_when_full-answer.new.pass c.args.request c.args.how c.args.interrupted
-    c.step_when_full-answer.result
-    (subst (λ (z : Step). IsStepIn c.args.when_full c.args.pass.now z c.step_when_full-answer.result c.step_when_full-answer.new.pass)
+    awake_in c.args.when_full c.args.pass.now c.step_when_full-answer.new.pass c.args.request c.args.how
+    c.args.interrupted c.step_when_full-answer.result
+    (step_in_as c.args.when_full c.args.pass.now c.step_when_full-answer.new.pass c.step-step.result _ _
     c.step-step.ensures c.step_when_full-answer.ensures.stepped)
 
 pub returns-clause-begun : goal.returns-clause-begun
 returns-clause-begun g c = (
   c.step_when_full-answer.result,
-  subst (λ (z : Step). IsStepIn c.args.when_full c.args.pass.now z c.step_when_full-answer.result c.step_when_full-answer.new.pass)
+  step_in_as c.args.when_full c.args.pass.now c.step_when_full-answer.new.pass c.step-step.result _ _
       c.step-step.ensures c.step_when_full-answer.ensures.stepped,
   c.first_turn.ensures,
 )
@@ -24,4 +22,5 @@ returns-clause-begun g c = (
 pub step_when_full-answer-requires-clause-brings : goal.step_when_full-answer-requires-clause-brings
 step_when_full-answer-requires-clause-brings g c =
     subst (λ (n : ℕ). Brings g.L.Load.is_counted (g.L.Load.amount c.args.load.now) n)
-    (sym (ap given_by c.step-step.ensures ∙ step_gives_none c.args.request c.args.how c.args.interrupted)) c.requires.brings
+    (sym (ap given_by c.step-step.ensures ∙ step_gives_none c.args.request c.args.how c.args.interrupted))
+    c.requires.brings

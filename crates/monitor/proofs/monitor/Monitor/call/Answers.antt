@@ -9,6 +9,7 @@ unpark-requires g c =
     let lock : c.step_when_full-answer.new.pass.lock ≡ c.args.self.now =
     c.step_when_full-answer.ensures.same.lock ∙ c.requires.is_of in
     subst (λ z. IfSome z (λ j. j < seats)) (sym c.named_in.ensures)
-    (place_in c.args.when_full c.args.pass.now c.step_when_full-answer.new.pass c.args.step c.step_when_full-answer.result seats
-    c.step_when_full-answer.ensures.stepped c.step_when_full-answer.ensures.shows
+    (place_in c.args.when_full c.args.pass.now c.step_when_full-answer.new.pass c.args.step
+    c.step_when_full-answer.result seats c.step_when_full-answer.ensures.stepped
+    c.step_when_full-answer.ensures.shows
     (subst (λ (l : LockId). l.header.seats ≤ seats) (sym lock) c.requires.places))

@@ -210,7 +210,8 @@ returns-clause-balance g c =
 
 pub returns-clause-rests : goal.returns-clause-rests
 returns-clause-rests g c =
+    let load = c.close-kept.result.laden.value.load in
     subst (λ l. g.L.Load.rests l (counts (start_on c.args.self.header c.into_history-history.result)
     c.into_history-history.result.entries)) (sym c.into_parts-core.ensures.load)
-    (subst (λ (z : Point). g.L.Load.rests c.close-kept.result.laden.value.load (counts (start_at z) z.entries)) (left_is g c)
+    (subst (λ (z : Point). g.L.Load.rests load (counts (start_at z) z.entries)) (left_is g c)
     c.close-kept.ensures.fact.1)

@@ -2,26 +2,24 @@ use Rattle.std.proofs.Common.{ap, ◌∙◌, subst, ℕ, sym}
 use Rattle.history.specs.declared.step.Step.{Step}
 use Rattle.monitor.specs.Machine.{later_turn}
 use Rattle.monitor.specs.Load.{Brings, given_by}
-use Rattle.monitor.specs.Stepping.{IsStep}
-use Rattle.monitor.proofs.TurnByTurn.{goes_on, later_gives_none}
+use Rattle.monitor.proofs.TurnByTurn.{goes_on, later_gives_none, step_as}
 use Rattle.monitor.proofs.monitor.Monitor.go_on.Goals as goal
 
 pub turn-requires : goal.turn-requires
 turn-requires g c =
     goes_on c.args.pass.now c.step_with-answer.new.pass c.args.waiting c.args.woke c.step_with-answer.result
     c.is_true.ensures c.requires.waits
-    (subst (λ (z : Step). IsStep c.args.pass.now z c.step_with-answer.result c.step_with-answer.new.pass)
-    c.step-step.ensures c.step_with-answer.ensures.stepped)
+    (step_as _ _ c.step-step.result _ _ c.step-step.ensures c.step_with-answer.ensures.stepped)
 
 pub returns-clause-gone_on : goal.returns-clause-gone_on
 returns-clause-gone_on g c = (
   c.step_with-answer.result,
-  subst (λ (z : Step). IsStep c.args.pass.now z c.step_with-answer.result c.step_with-answer.new.pass)
-      c.step-step.ensures c.step_with-answer.ensures.stepped,
+  step_as _ _ c.step-step.result _ _ c.step-step.ensures c.step_with-answer.ensures.stepped,
   c.turn.ensures ∙ ap (λ (z : Step). later_turn c.args.waiting z c.step_with-answer.result) c.step-step.ensures,
 )
 
 pub step_with-answer-requires-clause-brings : goal.step_with-answer-requires-clause-brings
 step_with-answer-requires-clause-brings g c =
     subst (λ (n : ℕ). Brings g.L.Load.is_counted (g.L.Load.amount c.args.load.now) n)
-    (sym (ap given_by c.step-step.ensures ∙ later_gives_none c.args.waiting c.args.woke)) c.requires.brings
+    (sym (ap given_by c.step-step.ensures ∙ later_gives_none c.args.waiting c.args.woke))
+    c.requires.brings

@@ -35,14 +35,15 @@ unpark-requires g c =
     let seats = g.P.Parking.seats c.args.parking.now in
     let lock : c.begin_when_full-turn.new.pass.lock ≡ c.args.self.now =
     c.begin_when_full-turn.ensures.same.lock ∙ c.requires.is_of in
-    place_first_in c.args.when_full c.args.pass.now c.begin_when_full-turn.new.pass c.args.request c.args.how c.moment-moment.result _
-    c.begin_when_full-turn.result seats c.begin_when_full-turn.ensures.begun c.begin_when_full-turn.ensures.shows
+    place_first_in c.args.when_full c.args.pass.now c.begin_when_full-turn.new.pass c.args.request c.args.how
+    c.moment-moment.result _ c.begin_when_full-turn.result seats c.begin_when_full-turn.ensures.begun
+    c.begin_when_full-turn.ensures.shows
     (subst (λ (l : LockId). l.header.seats ≤ seats) (sym lock) c.requires.places)
 
 pub returns-in-Ends-clause-begins : goal.returns-in-Ends-clause-begins
 returns-in-Ends-clause-begins g c =
-    begun_after_in c.args.when_full c.args.pass.now c.begin_when_full-turn.new.pass c.args.request c.args.how c.moment-moment.result _
-    c.begin_when_full-turn.result c.begin_when_full-turn.ensures.begun
+    begun_after_in c.args.when_full c.args.pass.now c.begin_when_full-turn.new.pass c.args.request c.args.how
+    c.moment-moment.result _ c.begin_when_full-turn.result c.begin_when_full-turn.ensures.begun
 
 pub returns-in-Ends-clause-made : goal.returns-in-Ends-clause-made
 returns-in-Ends-clause-made g c =
@@ -83,8 +84,8 @@ wait-requires-clause-first g c =
 pub returns-in-Waits-clause-begins : goal.returns-in-Waits-clause-begins
 returns-in-Waits-clause-begins g c =
     before_trans c.args.pass.now.seen c.begin_when_full-turn.new.pass.seen c.wait.new.pass.seen
-    (begun_after_in c.args.when_full c.args.pass.now c.begin_when_full-turn.new.pass c.args.request c.args.how c.moment-moment.result _
-    c.begin_when_full-turn.result c.begin_when_full-turn.ensures.begun)
+    (begun_after_in c.args.when_full c.args.pass.now c.begin_when_full-turn.new.pass c.args.request c.args.how
+    c.moment-moment.result _ c.begin_when_full-turn.result c.begin_when_full-turn.ensures.begun)
     c.wait.ensures.begins
 
 pub returns-in-Waits-clause-made : goal.returns-in-Waits-clause-made

@@ -9,8 +9,9 @@ unpark-requires g c =
     let seats = g.P.Parking.seats c.args.parking.now in
     let lock : c.begin_when_full-refusal.new.pass.lock ≡ c.args.self.now =
     c.begin_when_full-refusal.ensures.same.lock ∙ c.requires.is_of in
-    place_first_in c.args.when_full c.args.pass.now c.begin_when_full-refusal.new.pass c.args.request c.args.how 0 true
-    c.begin_when_full-refusal.result seats c.begin_when_full-refusal.ensures.begun c.begin_when_full-refusal.ensures.shows
+    place_first_in c.args.when_full c.args.pass.now c.begin_when_full-refusal.new.pass c.args.request
+    c.args.how 0 true c.begin_when_full-refusal.result seats c.begin_when_full-refusal.ensures.begun
+    c.begin_when_full-refusal.ensures.shows
     (subst (λ (l : LockId). l.header.seats ≤ seats) (sym lock) c.requires.places)
 
 pub unreachable-requires : goal.unreachable-requires
@@ -21,8 +22,8 @@ unreachable-requires g c =
 
 pub returns-clause-begins : goal.returns-clause-begins
 returns-clause-begins g c =
-    begun_after_in c.args.when_full c.args.pass.now c.begin_when_full-refusal.new.pass c.args.request c.args.how 0 true
-    c.begin_when_full-refusal.result c.begin_when_full-refusal.ensures.begun
+    begun_after_in c.args.when_full c.args.pass.now c.begin_when_full-refusal.new.pass c.args.request
+    c.args.how 0 true c.begin_when_full-refusal.result c.begin_when_full-refusal.ensures.begun
 
 pub returns-clause-made : goal.returns-clause-made
 returns-clause-made g c =

@@ -9,6 +9,7 @@ unpark-requires g c =
     let lock : c.signal_step_when_full-told.new.pass.lock ≡ c.args.self.now =
     c.signal_step_when_full-told.ensures.same.lock ∙ c.requires.is_of in
     subst (λ z. IfSome z (λ j. j < seats)) (sym c.named_in.ensures)
-    (place_in c.args.when_full c.args.pass.now c.signal_step_when_full-told.new.pass c.args.step c.signal_step_when_full-told.result seats
-    c.signal_step_when_full-told.ensures.stepped c.signal_step_when_full-told.ensures.shows
+    (place_in c.args.when_full c.args.pass.now c.signal_step_when_full-told.new.pass c.args.step
+    c.signal_step_when_full-told.result seats c.signal_step_when_full-told.ensures.stepped
+    c.signal_step_when_full-told.ensures.shows
     (subst (λ (l : LockId). l.header.seats ≤ seats) (sym lock) c.requires.places))

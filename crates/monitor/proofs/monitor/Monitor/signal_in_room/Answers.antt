@@ -1,38 +1,21 @@
-use Rattle.std.proofs.Common.{◌≡◌, ◌<◌, ◌∙◌, refl, sym, ap, subst}
-use Rattle.history.specs.declared.header.Header.{Header}
 use Rattle.word_lock.specs.Held.{held_ticket}
-use Rattle.word_lock.specs.Ticket.{LockId}
-use Rattle.word_lock.proofs.Sections.{follows_taken}
-use Rattle.monitor.specs.Lawful.{point_of}
-use Rattle.monitor.specs.Shown.{Shown, IsSound, shown}
-use Rattle.monitor.proofs.Rooms.{Around, follows_in, pass_in, step_in, true_in}
-use Rattle.monitor.proofs.Sections.{seat_below, share_few}
+use Rattle.monitor.proofs.Rooms.{Around, follows_room, pass_in, step_in, true_in}
+use Rattle.monitor.proofs.Taking.{seat_taken, share_fits}
 use Rattle.monitor.proofs.monitor.Monitor.signal_in_room.Goals as goal
 
 pub signal_in_room-answer-requires-clause-seat : goal.signal_in_room-answer-requires-clause-seat
 signal_in_room-answer-requires-clause-seat g c =
-    let of : c.self.inside.lock ≡ c.pass.inside.token.lock =
-    c.self.view_is ∙ (sym c.requires.is_of ∙ ap (λ (s : Shown). s.lock) (sym c.pass.view_is)) in
-    subst (λ (k : Header). c.pass.inside.seat < k.seats) c.lock-held.ensures.fact.0.header
-    (seat_below (point_of c.lock-held.result.value.laden.value.core) _ c.pass.inside.token.lock.header
-    c.pass.inside.seat
-    c.lock-held.ensures.header (ap (λ (l : LockId). l.header) of) c.pass.invariant.below)
+    seat_taken c.pass.inside.token _ _ _ _ c.pass.inside.share _ c.pass.invariant c.lock-held.ensures.fact.0
+    c.lock-held.ensures.header c.self.view_is c.requires.is_of c.pass.view_is
 
 pub unlock-requires-clause-follows : goal.unlock-requires-clause-follows
 unlock-requires-clause-follows g c =
-    follows_taken _ c.pass.inside.token _ _ c.pass.inside.seat c.lock-held.ensures.taken.1
-    c.pass.invariant.seat_is
-    (follows_in _ c.lock-held.result.value.laden.value.core c.signal_in_room-answer.new.self.laden.value.core
-    c.pass.inside.seat c.args.step c.signal_in_room-answer.result c.lock-held.ensures.fact.0
-    c.signal_in_room-answer.ensures.kept c.signal_in_room-answer.ensures.stepped).0
+    follows_room c.pass.inside.token _ _ c.lock-held.result.value.laden.value.core _ _
+    c.pass.inside.share c.args.step _ c.lock-held.ensures.taken.1 c.pass.invariant c.lock-held.ensures.fact.0
+    c.signal_in_room-answer.ensures.kept c.signal_in_room-answer.ensures.stepped
 
 pub share_behind-pass-inside-requires : goal.share_behind-pass-inside-requires
-share_behind-pass-inside-requires g c =
-    let i = c.pass.invariant in
-    share_few c.pass.inside.token.seen c.pass.inside.seat _ c.pass.inside.share i.agrees i.lawful
-    (seat_below c.pass.inside.token.seen _ c.pass.inside.token.lock.header c.pass.inside.seat i.header refl
-    i.below)
-    i.counted
+share_behind-pass-inside-requires g c = share_fits _ _ _ c.pass.invariant
 
 around : (g : _) (c : goal.After-pass-1 g) → Around c.pass.inside.token (held_ticket c.lock-held.result)
     c.unlock.new.token c.lock-held.result.value.laden.value.core c.signal_in_room-answer.new.self.laden.value.core
@@ -56,11 +39,7 @@ pub returns-clause-stepped : goal.returns-clause-stepped
 returns-clause-stepped g c =
     rw (← c.pass.view_is) (step_in _ _ _ _ _ _ _ (around g c) _ _ _ c.signal_in_room-answer.ensures.stepped _)
 
-shows : (g : _) (c : goal.After-pass-1 g) → IsSound (shown c.unlock.new.token c.pass.inside.seat
-    c.share_behind-pass-inside.result)
-shows g c =
+pub returns-clause-shows : goal.returns-clause-shows
+returns-clause-shows g c =
     true_in _ _ _ _ _ _ _ (around g c) _ _ _ c.signal_in_room-answer.ensures.stepped _
     c.share_behind-pass-inside.ensures
-
-pub returns-clause-shows : goal.returns-clause-shows
-returns-clause-shows g c = shows g c

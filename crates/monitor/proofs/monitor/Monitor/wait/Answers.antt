@@ -60,7 +60,8 @@ still g c =
     (c.loop.interrupts.taken ≡ true) (taken g c) c.loop.pass c.loop.waiting.stage c.next_woke-woke.ensures.kept
     c.loop.invariant.2
 
-noted : (g : _) (c : After-go_on-turn g) → step_of_waiting c.loop.waiting c.next_woke-woke.result ≡ Interrupt → taken g c
+noted : (g : _) (c : After-go_on-turn g) →
+    step_of_waiting c.loop.waiting c.next_woke-woke.result ≡ Interrupt → taken g c
 noted g c =
     is_noted c.loop.waiting.limits c.loop.waiting.stage c.next_woke-woke.result (taken g c)
     c.next_woke-woke.ensures.noted
