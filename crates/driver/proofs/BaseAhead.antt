@@ -1,5 +1,7 @@
 -- The lines of a base ahead of a reader's window.
-use Rattle.std.proofs.Common.{◌≡◌, inl, inr, ◌⊎◌, ℕ, ◌-◌, ◌≤◌, true, List, [], ◌∷◌, ◌++◌, length, map, drop, Option, None, Some, Ok, Err, IfSome, refl, sym, ap, subst, ◌∙◌, arith, append_assoc}
+use Rattle.std.proofs.Common.{◌≡◌, inl, inr, ◌⊎◌, ℕ, ◌-◌, ◌≤◌, true, List, [], ◌∷◌}
+use Rattle.std.proofs.Common.{◌++◌, length, map, drop, Option, None, Some, Ok, Err}
+use Rattle.std.proofs.Common.{IfSome, refl, sym, ap, subst, ◌∙◌, arith, append_assoc}
 use Rattle.std.specs.Io.KnownBytes.{Keeps, IsAtEnd, prepend_known}
 use Rattle.history.specs.declared.header.Header.{Header}
 use Rattle.history.specs.Base.{Base, based, opening_base}
@@ -14,13 +16,15 @@ use Rattle.line_text.specs.declared.fault.TextFault.TheVariants.{CutShort}
 use Rattle.line_text.specs.Reading.{Begins}
 use Rattle.line_text.proofs.OneReading.{lacks, same_lines}
 use Rattle.line_text.proofs.UnderWay.{last_bytes}
+use Rattle.history_text.specs.declared.base_under_way.TheConstants.{MOST_LINES}
 use Rattle.history_text.specs.declared.base_line.BaseLine.{BaseLine}
 use Rattle.history_text.specs.declared.place.Head.{Head}
 use Rattle.history_text.specs.declared.place.Place.{Place}
 use Rattle.history_text.specs.BaseLines.{base_line, base_lines}
 use Rattle.history_text.specs.HistoryLines.{head_of}
 use Rattle.history_text.specs.HistoryText.{history_form}
-use Rattle.history_text.specs.NextLine.{AreEntriesRead, HasShortLine, IsBaseLineNext, IsBaseLineTaken, LacksBaseLine, LinesRead}
+use Rattle.history_text.specs.NextLine.{AreEntriesRead, HasShortLine, IsBaseLineNext}
+use Rattle.history_text.specs.NextLine.{IsBaseLineTaken, LacksBaseLine, LinesRead}
 use Rattle.history_text.specs.TextLines.{Based, Line}
 use Rattle.history_text.specs.ToldBases.{GoodBeginsSo, IsToldBase}
 use Rattle.history_text.proofs.BaseTextRead.{line_begins, place_behind, whole_begins}
@@ -105,7 +109,7 @@ module _ (h : Head) (based_so : h.is_based ≡ true) (b : Base) (xs : List BaseL
       (sym parts ∙ ap (λ (w : List ℕ). w ++ ys) s.parts ∙ append_assoc s.line (10 ∷ s.after) ys) in
       none s.line s.after x s.parts s.whole spelt (sym first.0 ∙ same))
 
-  pub base_placed : length xs ≤ 513 → IsPlacedBehind b (place_behind b xs)
+  pub base_placed : length xs ≤ MOST_LINES → IsPlacedBehind b (place_behind b xs)
   base_placed few =
       record { lines = omega (arith, few); folded = refl; count = refl; calls = sum_calls b is.good }
 

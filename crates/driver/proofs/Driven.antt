@@ -1,5 +1,6 @@
 -- The acts of a text are done as their lines are read.
-use Rattle.std.proofs.Common.{◌≡◌, ℕ, ◌+◌, ◌≤◌, List, [], ◌∷◌, ◌++◌, All, length, reverse, Option, None, Some, Result, Ok, Err, IfSome, refl, subst, sym, ap, ◌∙◌, arith}
+use Rattle.std.proofs.Common.{◌≡◌, ℕ, ◌+◌, ◌≤◌, List, [], ◌∷◌, ◌++◌, All, length, reverse, Option}
+use Rattle.std.proofs.Common.{None, Some, Result, Ok, Err, IfSome, refl, subst, sym, ap, ◌∙◌, arith}
 use Rattle.std.proofs.lemmas.List.{length-append, length-reverse}
 use Rattle.std.proofs.lemmas.List.Elements.{All-nil}
 use Rattle.frame.specs.declared.acts.Act.{Act}
@@ -37,9 +38,12 @@ use Rattle.driver.specs.ReplayText.{answer_line, behind_acts, done_lines, entrie
 use Rattle.driver.specs.TextReader.{Progress, IsNext}
 use Rattle.driver.proofs.ReadingAhead.{ReadOn}
 use Rattle.driver.proofs.Behind.{replayed}
-use Rattle.driver.proofs.Doing.{all_counted, all_in_order, all_stay, folded_calls, folded_counted, has_trimmed, spelt_more}
-use Rattle.driver.proofs.Remarking.{Remarked, added_count, added_is, remarked_all, remarked_none, remarked_on, remarked_trim}
-use Rattle.driver.proofs.ReplayUnderWay.{IsTrimOf, PlayedSoFar, answered, base_all, base_behind, entries_all, list_behind, told_all, told_more, told_none, told_trim}
+use Rattle.driver.proofs.Doing.{all_counted, all_in_order, all_stay, folded_calls}
+use Rattle.driver.proofs.Doing.{folded_counted, has_trimmed, spelt_more}
+use Rattle.driver.proofs.Remarking.{Remarked, added_count, added_is, remarked_all}
+use Rattle.driver.proofs.Remarking.{remarked_none, remarked_on, remarked_trim}
+use Rattle.driver.proofs.ReplayUnderWay.{IsTrimOf, PlayedSoFar, answered, base_all, base_behind}
+use Rattle.driver.proofs.ReplayUnderWay.{entries_all, list_behind, told_all, told_more, told_none, told_trim}
 
 -- These acts were read. The entries that were folded, the oldest first, and the list behind them, with these
 -- remarks, tell their answers.

@@ -1,5 +1,7 @@
 -- The items of a text ahead of a reader's window.
-use Rattle.std.proofs.Common.{Bool, true, false, inl, inr, ◌≡◌, ◌≢◌, ℕ, ◌+◌, ◌-◌, ◌<◌, ◌≤◌, List, [], ◌∷◌, ◌++◌, length, drop, Option, None, Some, Result, Ok, Err, IfSome, refl, sym, ap, ◌∙◌, arith, append_assoc, append-nil, subst}
+use Rattle.std.proofs.Common.{Bool, true, false, inl, inr, ◌≡◌, ◌≢◌, ℕ, ◌+◌, ◌-◌, ◌<◌, ◌≤◌, List}
+use Rattle.std.proofs.Common.{[], ◌∷◌, ◌++◌, length, drop, Option, None, Some, Result, Ok, Err}
+use Rattle.std.proofs.Common.{IfSome, refl, sym, ap, ◌∙◌, arith, append_assoc, append-nil, subst}
 use Rattle.std.proofs.KnownBytes.{Keeps-refl, Keeps-trans}
 use Rattle.std.proofs.lemmas.Bool.{false≢true}
 use Rattle.std.proofs.lemmas.List.{length-append}
@@ -22,7 +24,8 @@ use Rattle.streams.specs.declared.stream_fault.StreamFault.TheVariants.{Text, Re
 use Rattle.streams.specs.Streams.{IsReadNoFurther}
 use Rattle.streams.specs.ReadingOn.{IsOfReading, IsTooLong}
 use Rattle.streams.specs.Window.{Grows, StaysAhead, room}
-use Rattle.driver.specs.TextReader.{Progress, reader_at, WereRead, IsFaultOf, IsBehindEnd, IsNext, IsPartLeft, KeepsPlace}
+use Rattle.driver.specs.TextReader.{Progress, reader_at, WereRead, IsFaultOf}
+use Rattle.driver.specs.TextReader.{IsBehindEnd, IsNext, IsPartLeft, KeepsPlace}
 
 -- ---- the source
 

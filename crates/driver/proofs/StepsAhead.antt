@@ -1,5 +1,6 @@
 -- The acts of a text ahead of a reader's window.
-use Rattle.std.proofs.Common.{◌≡◌, ℕ, zero, suc, ◌<◌, ◌≤◌, ◌^◌, List, [], ◌∷◌, ◌++◌, length, Option, None, Some, Ok, refl, ap, arith}
+use Rattle.std.proofs.Common.{◌≡◌, ℕ, zero, suc, ◌<◌, ◌≤◌, ◌^◌, List, [], ◌∷◌}
+use Rattle.std.proofs.Common.{◌++◌, length, Option, None, Some, Ok, refl, ap, arith}
 use Rattle.frame.specs.declared.acts.Act.{Act}
 use Rattle.history.specs.Header.{IsInRange}
 use Rattle.line_text.specs.Form.{Form}

@@ -1,6 +1,7 @@
 //! The answers to the steps and trims of a text, kept in short form until they are written.
 
-ghost use Rattle.std.specs.Prelude.{◌≡◌, ◌↔◌, ◌-◌, ◌++◌, ◌≤◌, [], false, All, IfOk, IfErr, IsErr, IsErrOf, IsTrue, OnErr, OnOk, drop, length, reverse, slice_get, take};
+ghost use Rattle.std.specs.Prelude.{◌≡◌, ◌↔◌, ◌-◌, ◌++◌, ◌≤◌, [], false, All, IfOk, IfErr, IsErr};
+ghost use Rattle.std.specs.Prelude.{IsErrOf, IsTrue, OnErr, OnOk, drop, length, reverse, slice_get, take};
 ghost use Rattle.std.specs.Io.KnownBytes.{Appends};
 ghost use Rattle.history.specs.Base.{based};
 ghost use Rattle.history.specs.Entries.{base_on, ended_calls};
@@ -9,7 +10,8 @@ ghost use Rattle.history.specs.Header.{IsInRange};
 ghost use Rattle.history.specs.Legal.{IsLegal};
 ghost use Rattle.history.specs.Text.{ended};
 ghost use Rattle.streams.specs.declared.stream_fault.StreamFault.TheVariants.{Memory};
-ghost use Rattle.driver.specs.Answers.{AreFolded, Writes, all_of, answers_text, first_line, lines_text, remarks_in, text_behind};
+ghost use Rattle.driver.specs.Answers.{AreFolded, Writes, all_of, answers_text};
+ghost use Rattle.driver.specs.Answers.{first_line, lines_text, remarks_in, text_behind};
 ghost use Rattle.driver.specs.LineWriter.{Gathers};
 ghost use Rattle.driver.specs.Remarks.{said_line, told_lines};
 ghost use Rattle.history_text.specs.Pieces.{entry_lines};

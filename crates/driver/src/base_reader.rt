@@ -3,6 +3,7 @@
 ghost use Rattle.std.specs.Prelude.{◌≡◌, ◌≤◌, ◌↔◌, false, length, true, IsTrue, IsErrOf, IfOk};
 ghost use Rattle.history.specs.GoodBase.{IsBaseOf};
 ghost use Rattle.history.specs.Header.{IsInRange};
+ghost use Rattle.history_text.specs.declared.base_under_way.TheConstants.{MOST_LINES};
 ghost use Rattle.driver.specs.BaseReader.{IsBaseRead, IsLineTaken, IsPlacedBehind};
 ghost use Rattle.streams.specs.Window.{room};
 
@@ -55,7 +56,7 @@ fn take_line<R: Source>(
     ensures taken { IsLineTaken base.old window.old.bytes (R.left reader.old) result base.new
         window.new.bytes (R.left reader.new) }
     ensures header { base.new.header ≡ base.old.header }
-    ensures few { IfOk result (λ _. length base.new.lines ≤ 513) }
+    ensures few { IfOk result (λ _. length base.new.lines ≤ MOST_LINES) }
     ensures places { window.new.places ≡ window.old.places }
     ensures held { length window.new.bytes ≤ room }
     ensures failing { IsErrOf result StreamFault.ReadFailed ↔ IsTrue (R.failed reader.new) }

@@ -1,6 +1,7 @@
 //! The answers to the steps and trims of a text.
 
-ghost use Rattle.std.specs.Prelude.{◌≡◌, ◌+◌, ◌++◌, ◌<◌, ◌≤◌, ◌^◌, ◌↔◌, [], All, false, IfErr, IfOk, IsErr, IsErrOf, IsTrue, OnErr, OnOk, Err, length, reverse};
+ghost use Rattle.std.specs.Prelude.{◌≡◌, ◌+◌, ◌++◌, ◌<◌, ◌≤◌, ◌^◌, ◌↔◌, [], All, false, IfErr};
+ghost use Rattle.std.specs.Prelude.{IfOk, IsErr, IsErrOf, IsTrue, OnErr, OnOk, Err, length, reverse};
 ghost use Rattle.std.specs.Io.KnownBytes.{IsAtEnd};
 ghost use Rattle.frame.specs.Acts.{IsOfSeats};
 ghost use Rattle.frame.specs.Core.{IsTrimmed, start_of};

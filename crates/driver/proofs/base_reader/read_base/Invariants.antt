@@ -1,4 +1,5 @@
 use Rattle.std.proofs.Common.{◌≡◌, ◌≤◌, ◌-◌, ℕ, List, Option, false, length, map}
+use Rattle.history_text.specs.declared.base_under_way.TheConstants.{MOST_LINES}
 use Rattle.history_text.specs.TextLines.{Based}
 use Rattle.streams.specs.Window.{room}
 use Rattle.driver.specs.BaseReader.{HeadRead, LinesBehind}
@@ -10,10 +11,10 @@ invariant-loop-base g l = record {
   places : l.window.places ≡ room;
   held : length l.window.bytes ≤ room;
   header : l.base.header ≡ l.head.header;
-  few : length l.base.lines ≤ 513;
+  few : length l.base.lines ≤ MOST_LINES;
   under : (text : Option (List ℕ)) → HeadRead text l.head l.fn.window.bytes (g.R.Source.left l.fn.reader) →
       LinesBehind text l.head (map Based l.base.lines) l.window.bytes (g.R.Source.left l.reader);
 }
 
 abbrev pub decreases-loop-base : goal.decreases-loop-base
-decreases-loop-base g l = 513 - length l.base.lines
+decreases-loop-base g l = MOST_LINES - length l.base.lines

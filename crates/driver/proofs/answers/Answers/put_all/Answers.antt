@@ -6,7 +6,8 @@ use Rattle.history_text.specs.EntryLines.{counts_line}
 use Rattle.driver.specs.Answers.{AllAnswers, all_of, remarks_in}
 use Rattle.driver.specs.Remarks.{told_lines}
 use Rattle.streams.specs.Writing.{AppendsFront}
-use Rattle.driver.proofs.Gathering.{front_longer, front_more, gathered_more, if_failed, where_failed, where_written, written_all, written_front}
+use Rattle.driver.proofs.Gathering.{front_longer, front_more, gathered_more, if_failed}
+use Rattle.driver.proofs.Gathering.{where_failed, where_written, written_all, written_front}
 use Rattle.driver.proofs.answers.Answers.put_all.Goals as goal
 
 pub put_lines-requires-clause-spelt : goal.put_lines-requires-clause-spelt

@@ -6,7 +6,8 @@ use Rattle.line_text.proofs.Faults.{err_is}
 use Rattle.streams.specs.declared.stream_fault.StreamFault.{StreamFault}
 use Rattle.streams.specs.declared.stream_fault.StreamFault.TheVariants.{Text}
 use Rattle.driver.specs.contracts.history_reader.HistoryReader.{the_view}
-use Rattle.driver.proofs.EntriesAhead.{entries_ended, entries_kept, entries_read_failed, entry_failed, entry_here, entry_keeps, few_calls, few_entries}
+use Rattle.driver.proofs.EntriesAhead.{entries_ended, entries_kept, entries_read_failed}
+use Rattle.driver.proofs.EntriesAhead.{entry_failed, entry_here, entry_keeps, few_calls, few_entries}
 use Rattle.driver.proofs.ReadingAhead.{end_kept, stands_behind, stands_failed}
 use Rattle.driver.proofs.history_reader.HistoryReader.next_after_reading.Goals as goal
 
