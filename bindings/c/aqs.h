@@ -87,7 +87,8 @@ typedef struct {
     aqs_when_full_t when_full; /* default AQS_TRIM */
     uint32_t history;          /* the most entries that are kept, at least 16. Default 8192 with AQS_TRIM, and
                                   4294967295 with AQS_REFUSE. Memory is taken as entries come: 12 bytes each */
-    uint16_t threads;          /* how many threads use it, 1 to AQS_THREADS. Default 64. Each takes memory */
+    uint16_t threads;          /* above the number of each thread that uses it, 1 to AQS_THREADS. Default 64.
+                                  Each takes memory */
     uint8_t conditions;        /* of a lock or a read-write lock, 1 to 16. Default 1. Else 0 */
 } aqs_options_t;
 

@@ -1,9 +1,10 @@
-/* calls.c FOLDER: each call of aqs.h, each status that it returns, and what it leaves. */
+/* calls.c FOLDER: each call of aqs.h, each status, and what a call leaves. */
 #include "check.h"
 
 #include "aqs_core.h"
 
 #include <pthread.h>
+#include <signal.h>
 #include <stdatomic.h>
 #include <string.h>
 
@@ -169,6 +170,67 @@ static void read_write_locks(void) {
     IS(aqs_rwlock_wrunlock(lock), AQS_NOT_OWNER);
     keep_history(aqs_rwlock_object(lock), folder, "calls-rwlock");
     aqs_rwlock_close(lock);
+}
+
+static aqs_status_t write_and_wait(void *lock) {
+    IS(aqs_rwlock_wrlock(lock), AQS_OK);
+    aqs_status_t status = AQS_OK;
+    while (signals == 0 && status == AQS_OK) status = aqs_rwlock_wait_interruptibly(lock, 0);
+    if (status == AQS_OK) signals--;
+    IS(aqs_rwlock_wrunlock(lock), AQS_OK);
+    return status;
+}
+
+static void read_write_conditions(void) {
+    aqs_rwlock_t *lock;
+    aqs_options_t options = {.when_full = AQS_REFUSE};
+    IS(aqs_rwlock_open(&lock, &options), AQS_OK);
+    IS(aqs_rwlock_wait_interruptibly(lock, 0), AQS_NOT_OWNER);
+    other_t other = {.call = write_and_wait, .object = lock};
+    pthread_t thread = start(&other);
+    usleep(5000);
+    IS(aqs_thread_interrupt((aqs_thread_t)(atomic_load(&other.thread) - 1)), AQS_OK);
+    IS(ended(thread, &other), AQS_INTERRUPTED);
+    thread = start(&other);
+    usleep(5000);
+    IS(aqs_rwlock_wrlock(lock), AQS_OK);
+    signals++;
+    IS(aqs_rwlock_signal(lock, 0), AQS_OK);
+    IS(aqs_rwlock_wrunlock(lock), AQS_OK);
+    IS(ended(thread, &other), AQS_OK);
+    keep_history(aqs_rwlock_object(lock), folder, "calls-rwlock-conditions");
+    aqs_rwlock_close(lock);
+}
+
+static aqs_lock_t *of_handler;
+static _Atomic int in_handler;
+
+static void try_in_handler(int number) {
+    (void)number;
+    atomic_store(&in_handler, aqs_lock_trylock(of_handler));
+}
+
+/* No handler may call an object. One that calls the lock for which its thread parks is told so. */
+static void calls_within_calls(void) {
+    aqs_lock_t *lock;
+    aqs_options_t options = {.policy = AQS_FAIR};
+    IS(aqs_lock_open(&lock, &options), AQS_OK);
+    IS(aqs_lock_lock(lock), AQS_OK);
+    of_handler = lock;
+    struct sigaction action = {.sa_handler = try_in_handler};
+    CHECK(sigaction(SIGUSR1, &action, NULL) == 0);
+    other_t other = {.call = lock_and_unlock, .object = lock};
+    pthread_t thread = start(&other);
+    for (int tries = 0; atomic_load(&in_handler) != AQS_MISUSE; tries++) {
+        CHECK(tries < 1000);
+        usleep(10000);
+        CHECK(pthread_kill(thread, SIGUSR1) == 0);
+        usleep(1000);
+    }
+    IS(aqs_lock_unlock(lock), AQS_OK);
+    IS(ended(thread, &other), AQS_OK);
+    keep_history(aqs_lock_object(lock), folder, "calls-within-calls");
+    aqs_lock_close(lock);
 }
 
 /* Either side of a read-write lock can be held 65535 times, if the history has room for as many unlocks. */
@@ -407,6 +469,8 @@ int main(int count, char **words) {
     locks();
     conditions();
     read_write_locks();
+    read_write_conditions();
+    calls_within_calls();
     hold_limits();
     semaphores();
     latches();
