@@ -38,6 +38,7 @@ from trial import ONE_JOB, seconds, tried, tried_by_itself
 MEMORY = 2_000_000_000  # of a crate's checks, one at a time
 FEW = 5  # wrong bodies of a crate that are tried each by itself: more go into one check
 SAMPLE = 150  # processor seconds, after which no more of the sample are begun
+OF_SAMPLE = 2  # of the sample at the same time: each of them goes on behind that moment
 
 
 def tell(text):
@@ -71,11 +72,11 @@ class Ledger:
         is_kept = lambda edit: self.is_refused(edit) and not (edit in self.results and self.results[edit].is_by_limit)
         return {os.path.basename(edit): made for edit, made in self.sums.items() if is_kept(edit)}
 
-    def note(self, edit, result):
+    def note(self, edit, result, took=""):
         self.results[edit] = result
         limit = ", but only by a limit of the prover, so it gets no line" if result.is_by_limit else ""
         verdict = "refused" if result.is_refused else "NOT REFUSED"
-        tell(f"{self.crate.name}/{os.path.basename(edit)}: {verdict}{limit}: {result.text}")
+        tell(f"{self.crate.name}/{os.path.basename(edit)}: {verdict}{limit}{took}: {result.text}")
 
 
 def at_once():
@@ -92,7 +93,11 @@ def try_together(of, edits, is_built):
 
 
 def try_by_itself(of, edit):
-    of.note(edit, tried_by_itself(of.crate, edit))
+    begun = time.monotonic()
+    result = tried_by_itself(of.crate, edit)
+    if result.text.startswith("NOT TRIED"):  # its check broke off, as when memory is short
+        result = tried_by_itself(of.crate, edit)
+    of.note(edit, result, f" in {time.monotonic() - begun:.0f} s")
 
 
 def try_left(ledgers, is_anew, is_built):
@@ -130,8 +135,9 @@ def try_sample(ledgers, seed):
             begun += 1
             try_by_itself(of, edit)
 
-    with ThreadPoolExecutor(at_once()) as pool:
-        [*pool.map(go_on, range(at_once()))]
+    threads = min(OF_SAMPLE, at_once())
+    with ThreadPoolExecutor(threads) as pool:
+        [*pool.map(go_on, range(threads))]
     return begun
 
 

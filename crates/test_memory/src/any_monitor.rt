@@ -32,10 +32,9 @@ fn step_now(monitor: &Inner, passes: &mut Vec<Pass>, seat: u16, step: Step) -> O
     ensures { All (λ p. p.lock ≡ monitor.now) passes.new.items }
 {
     match passes.get_mut(usize::from(seat)) {
-        Some(pass) => match monitor.step_now(pass, step) {
-            Ok(Now::Done(answer)) => Ok(Done::Answered(answer)),
-            Ok(Now::Busy) => Err(Fault::OutOfMemory),
-            Err(fault) => Err(fault),
+        Some(pass) => match monitor.step_now(pass, step)? {
+            Now::Done(answer) => Ok(Done::Answered(answer)),
+            Now::Busy => Err(Fault::OutOfMemory),
         },
         None => Err(Fault::OutOfPhase),
     }
@@ -47,10 +46,7 @@ fn trim<R: Wait>(rt: &R, monitor: &Inner, passes: &mut Vec<Pass>) -> Outcome
     ensures { All (λ p. p.lock ≡ monitor.now) passes.new.items }
 {
     match passes.get_mut(0) {
-        Some(pass) => match monitor.trim(rt, pass) {
-            Ok(count) => Ok(Done::Trimmed(count)),
-            Err(fault) => Err(fault),
-        },
+        Some(pass) => Ok(Done::Trimmed(monitor.trim(rt, pass)?)),
         None => Err(Fault::OutOfPhase),
     }
 }

@@ -7,7 +7,7 @@ use history::entry::{Mode, Word};
 use history::fault::Fault;
 use history::header::{Header, Object, Policy};
 use history::step::{Answer, Step};
-use std::alloc::AllocError;
+use std::alloc::{AllocError, Global};
 use std::process::Abort;
 use std::test::Fail;
 use test_support::memory::Memory;
@@ -243,29 +243,29 @@ fn first_entries(rt: &(impl Abort + AllocGlobal), header: &Header) -> Result<u64
     Ok(core.entries())
 }
 
-#[test]
-fn each_number_of_seats_and_conditions_is_opened(rt: HostRuntime) -> Result<(), Fail> {
-    for object in [
-        Object::Lock(Policy::Fair),
-        Object::ReadWrite(Policy::NonFair),
-        Object::Semaphore(Policy::Strict, 1),
-        Object::Latch(0),
-    ] {
-        for seats in 1..=256 {
-            for conditions in 0..=most_conditions(object) {
-                let header = Header {
-                    object,
-                    seats,
-                    conditions,
-                    cap: 1_000_000,
-                };
-                let entries = first_entries(&rt, &header)?;
-                let wanted = if conditions == 0 { 1 } else { 2 };
-                assert!(rt; entries == wanted, "{object:?} {seats} {conditions}");
-            }
-        }
+/// An object is opened with each number of conditions.
+fn open_each(rt: &(impl Abort + AllocGlobal), object: Object, seats: u16) {
+    for conditions in 0..=most_conditions(object) {
+        let header = Header {
+            object,
+            seats,
+            conditions,
+            cap: 1_000_000,
+        };
+        let wanted = if conditions == 0 { 1 } else { 2 };
+        let is_opened = first_entries(rt, &header) == Ok(wanted);
+        assert!(rt; is_opened, "{object:?} {seats} {conditions}");
     }
-    Ok(())
+}
+
+#[test]
+fn each_number_of_seats_and_conditions_is_opened(rt: HostRuntime) {
+    for seats in 1..=256 {
+        open_each(&rt, Object::Lock(Policy::Fair), seats);
+        open_each(&rt, Object::ReadWrite(Policy::NonFair), seats);
+        open_each(&rt, Object::Semaphore(Policy::Strict, 1), seats);
+        open_each(&rt, Object::Latch(0), seats);
+    }
 }
 
 /// How many pairs of an acquire and a release are made, by one seat after another.
@@ -287,19 +287,30 @@ fn put_pairs(acts: &mut Vec<Act>) -> Result<(), AllocError> {
     Ok(())
 }
 
-/// More than a million steps in one run, and then as many one by one.
-#[test]
-fn a_long_run_and_a_long_history_find_memory(rt: HostRuntime) -> Result<(), Fail> {
-    let mut acts = Vec::new(rt.alloc());
-    put_pairs(&mut acts)?;
-    let mut core = AnyCore::open(rt.alloc(), &LONG)?;
-    let answered = core
-        .run_acts(rt.alloc(), &acts)
-        .map(|outcomes| outcomes.len());
-    assert!(rt; answered == Ok(1_200_000) && core.entries() == 1_200_000);
-    for act in &acts {
+/// Returns how many acts one run of a core answered.
+fn answered(alloc: Global, core: &mut AnyCore, acts: &[Act]) -> usize {
+    match core.run_acts(alloc, acts) {
+        Ok(outcomes) => outcomes.len(),
+        Err(_) => 0,
+    }
+}
+
+/// Performs acts in one run, and then one by one.
+fn act_long(rt: &(impl Abort + AllocGlobal), core: &mut AnyCore, acts: &[Act]) {
+    let answered = answered(rt.alloc(), core, acts);
+    assert!(rt; answered == 1_200_000 && core.entries() == 1_200_000);
+    for act in acts {
         let _outcome = core.act(*act);
     }
     assert!(rt; core.entries() == 2_400_000 && core.calls() == 2_400_000);
-    Ok(())
+}
+
+/// More than a million steps in one run, and then as many one by one.
+#[test]
+fn a_long_run_and_a_long_history_find_memory(rt: HostRuntime) {
+    let mut acts = Vec::new(rt.alloc());
+    let is_put = put_pairs(&mut acts).is_ok();
+    assert!(rt; is_put);
+    let mut core = AnyCore::open(rt.alloc(), &LONG).expect(&rt, "memory");
+    act_long(&rt, &mut core, &acts);
 }

@@ -152,14 +152,22 @@ fn texts_keep_none(
     }
 }
 
+fn openings_keep_none(
+    rt: &(impl Abort + AllocGlobal + Clock),
+    memory: &mut Memory,
+    out: &mut Vec<u8>,
+) {
+    for what in &OPENED {
+        keeps_none(rt, memory, *what, true, out, "lists and openings");
+    }
+}
+
 #[test]
 fn trims_and_bases_and_openings_keep_no_memory(rt: HostRuntime) -> Result<(), Fail> {
     let mut out = Vec::with_capacity(rt.alloc(), AMPLE)?;
     deepen(&rt, &mut out);
     let mut memory = Memory::take_all(rt.alloc(), PIECE)?;
     texts_keep_none(&rt, &mut memory, &mut out);
-    for what in OPENED {
-        keeps_none(&rt, &mut memory, what, true, &mut out, "lists and openings");
-    }
+    openings_keep_none(&rt, &mut memory, &mut out);
     Ok(())
 }

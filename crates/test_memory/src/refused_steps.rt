@@ -11,7 +11,6 @@ use history::header::{Header, Object, Policy};
 use history::step::{Answer, Step};
 use std::alloc::AllocError;
 use std::process::Abort;
-use std::test::Fail;
 use steps::read_steps;
 use test_support::examples::situations;
 use test_support::memory::Memory;
@@ -119,49 +118,53 @@ fn follow_all(
     Ok(refused)
 }
 
-/// Performs the acts repeatedly, once with all memory, and once with each growth of the history failing
-/// first. Returns how many failed.
-fn refuse(
+/// Notes what a new core returns that does not lack memory.
+fn note_anew(
     rt: &(impl Abort + AllocGlobal),
     header: &Header,
     acts: &[Act],
     rounds: u32,
-) -> Result<u32, Fault> {
-    let mut played = Vec::new(rt.alloc());
-    let mut core = AnyCore::open(rt.alloc(), header)?;
-    let is_noted = note(&mut core, acts, rounds, &mut played);
+    played: &mut Vec<Played>,
+) {
+    let mut core = AnyCore::open(rt.alloc(), header).expect(rt, "memory");
+    let is_noted = note(&mut core, acts, rounds, played);
     assert!(rt; is_noted);
-    drop(core);
-    let mut core = AnyCore::open(rt.alloc(), header)?;
-    Ok(follow_all(rt, &mut core, &played)?)
+}
+
+/// Returns how many acts of a new core fail.
+fn follow_anew(rt: &(impl Abort + AllocGlobal), header: &Header, played: &[Played]) -> u32 {
+    let mut core = AnyCore::open(rt.alloc(), header).expect(rt, "memory");
+    follow_all(rt, &mut core, played).expect(rt, "memory")
+}
+
+/// Performs the acts repeatedly, once with all memory, and once with each growth of the history failing
+/// first. Returns how many failed.
+fn refuse(rt: &(impl Abort + AllocGlobal), header: &Header, acts: &[Act], rounds: u32) -> u32 {
+    let mut played = Vec::new(rt.alloc());
+    note_anew(rt, header, acts, rounds, &mut played);
+    follow_anew(rt, header, &played)
 }
 
 /// The same for a steps text, with a cap of its own or with one that its history doesn't come near.
-fn refuse_text(
-    rt: &(impl Abort + AllocGlobal),
-    text: &str,
-    cap: Option<u32>,
-    rounds: u32,
-) -> Result<u32, Fail> {
-    let read = read_steps(rt.alloc(), text.as_bytes())?;
+fn refuse_text(rt: &(impl Abort + AllocGlobal), text: &str, cap: Option<u32>, rounds: u32) -> u32 {
+    let read = read_steps(rt.alloc(), text.as_bytes()).expect(rt, text);
     let mut header = read.header.header;
     header.cap = cap.unwrap_or(header.cap);
-    Ok(refuse(rt, &header, &read.acts, rounds)?)
+    refuse(rt, &header, &read.acts, rounds)
 }
 
 /// A history within its cap takes one page, and a long one three. If there are no steps it takes none.
 #[test]
-fn a_refused_step_changes_nothing(rt: HostRuntime) -> Result<(), Fail> {
+fn a_refused_step_changes_nothing(rt: HostRuntime) {
     for text in situations() {
         let some = u32::from(!text.ends_with("\nend 0\n"));
-        let within = refuse_text(&rt, text, None, 24)?;
-        let beyond = refuse_text(&rt, text, Some(1_000_000), 4096)?;
+        let within = refuse_text(&rt, text, None, 24);
+        let beyond = refuse_text(&rt, text, Some(1_000_000), 4096);
         assert!(rt;
             within == some && beyond == 3 * some,
             "{text}: {within} and {beyond}"
         );
     }
-    Ok(())
 }
 
 const TAKE: Step = Step::Acquire(Mode::X, 1);
@@ -175,44 +178,63 @@ const LOCK: Header = Header {
     cap: 64,
 };
 
-/// Performs acts after there is memory for the list of their results. Before that nothing is done.
-fn act_starved(
-    rt: &(impl Abort + AllocGlobal),
-    core: &mut AnyCore,
-    acts: &[Act],
-) -> Result<Vec<Outcome>, Fault> {
+fn has_recorded(outcome: &Outcome) -> bool {
+    matches!(outcome, Ok(Done::Answered(Answer::Recorded(_, _))))
+}
+
+/// Returns whether no step was recorded, and no trim found an entry.
+fn are_starved(outcomes: &[Outcome]) -> bool {
+    let wanted = [Err(Fault::OutOfMemory), Ok(Done::Trimmed(0))];
+    outcomes.len() == ACTS.len() && outcomes.starts_with(&wanted) && outcomes.ends_with(&wanted)
+}
+
+/// Returns whether each step was recorded, and folded by the next trim.
+fn are_recorded(outcomes: &[Outcome]) -> bool {
+    let recorded = outcomes
+        .iter()
+        .filter(|outcome| has_recorded(outcome))
+        .count();
+    let folded = Ok(Done::Trimmed(1));
+    let are_folded = outcomes.get(1) == Some(&folded) && outcomes.get(3) == Some(&folded);
+    outcomes.len() == ACTS.len() && recorded == 2 && are_folded
+}
+
+/// Performs acts as memory is freed for the list of their results. Before that nothing is done. Returns
+/// whether they were starved.
+fn act_starved(rt: &(impl Abort + AllocGlobal), core: &mut AnyCore, memory: &mut Memory) -> bool {
     let before = core.told();
-    let mut memory = Memory::take_all(rt.alloc(), 256)?;
     for refused in 0..9 {
-        match core.run_acts(rt.alloc(), acts) {
-            Ok(outcomes) => {
-                assert!(rt; 1 <= refused);
-                return Ok(outcomes);
-            }
+        match core.run_acts(rt.alloc(), &ACTS) {
+            Ok(outcomes) => return 1 <= refused && are_starved(&outcomes),
             Err(fault) => {
                 let given = memory.give_piece();
                 assert!(rt; given && fault == Fault::OutOfMemory && core.told() == before);
             }
         }
     }
-    Err(Fault::OutOfMemory)
+    false
 }
 
-fn has_recorded(outcome: &Outcome) -> bool {
-    matches!(outcome, Ok(Done::Answered(Answer::Recorded(_, _))))
+/// The same, starting with no memory.
+fn starve(rt: &(impl Abort + AllocGlobal), core: &mut AnyCore) -> bool {
+    let mut memory = Memory::take_all(rt.alloc(), 256).expect(rt, "memory");
+    act_starved(rt, core, &mut memory)
+}
+
+/// Performs acts with all memory, and returns whether they were recorded.
+fn feed_all(rt: &(impl Abort + AllocGlobal), core: &mut AnyCore) -> bool {
+    match core.run_acts(rt.alloc(), &ACTS) {
+        Ok(outcomes) => are_recorded(&outcomes),
+        Err(_) => false,
+    }
 }
 
 /// With memory only for the results, no step has a place for its entry, and a trim finds none to fold. With
 /// more memory each step is recorded, and folded by the next trim.
 #[test]
-fn acts_go_on_if_memory_was_refused(rt: HostRuntime) -> Result<(), Fail> {
-    let mut core = AnyCore::open(rt.alloc(), &LOCK)?;
-    let starved = act_starved(&rt, &mut core, &ACTS)?;
-    let wanted = [Err(Fault::OutOfMemory), Ok(Done::Trimmed(0))];
-    assert!(rt; starved.starts_with(&wanted) && starved.ends_with(&wanted) && starved.len() == 4);
-    let outcomes = core.run_acts(rt.alloc(), &ACTS)?;
-    assert_eq!(rt; outcomes.len(), 4);
-    assert!(rt; has_recorded(&outcomes[0]) && has_recorded(&outcomes[2]));
-    assert!(rt; outcomes[1] == Ok(Done::Trimmed(1)) && outcomes[3] == Ok(Done::Trimmed(1)));
-    Ok(())
+fn acts_go_on_if_memory_was_refused(rt: HostRuntime) {
+    let mut core = AnyCore::open(rt.alloc(), &LOCK).expect(&rt, "memory");
+    let is_starved = starve(&rt, &mut core);
+    let is_recorded = feed_all(&rt, &mut core);
+    assert!(rt; is_starved && is_recorded);
 }

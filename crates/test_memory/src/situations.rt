@@ -7,7 +7,7 @@ use crate::texts::put_times;
 use frame::acts::{Act, Done};
 use history::fault::Fault;
 use history::header::Header;
-use history::step::Step;
+use history::step::{Answer, Step};
 use std::alloc::Global;
 use std::process::Abort;
 use std::sync::Wait;
@@ -29,17 +29,54 @@ fn steps_of(alloc: Global, acts: &[Act]) -> Result<Vec<(u16, Step)>, Fault> {
     Ok(steps)
 }
 
-/// Returns whether a list without trims has these results in one run.
-fn is_run(alloc: Global, header: &Header, acts: &[Act], wanted: &[Outcome]) -> Result<bool, Fault> {
-    let steps = steps_of(alloc, acts)?;
-    let mut core = AnyCore::open(alloc, header)?;
-    let answers = core.run(alloc, &steps)?;
+/// Returns whether the answers of a run are the results of acts.
+fn are_same(answers: &[Result<Answer, Fault>], wanted: &[Outcome]) -> bool {
     let are_same = answers.iter().zip(wanted).all(|(answer, outcome)| match outcome {
         Ok(Done::Answered(wanted)) => *answer == Ok(*wanted),
         Ok(Done::Trimmed(_)) => false,
         Err(fault) => *answer == Err(*fault),
     });
-    Ok(are_same && answers.len() == wanted.len())
+    are_same && answers.len() == wanted.len()
+}
+
+/// Returns whether steps have these results in one run of a core.
+fn runs(alloc: Global, core: &mut AnyCore, steps: &[(u16, Step)], wanted: &[Outcome]) -> bool {
+    match core.run(alloc, steps) {
+        Ok(answers) => are_same(&answers, wanted),
+        Err(_) => false,
+    }
+}
+
+/// Returns whether acts have these results in one run of a core, and its observers return `told` then.
+fn acts_so(alloc: Global, core: &mut AnyCore, acts: &[Act], wanted: &[Outcome], told: u64) -> bool {
+    match core.run_acts(alloc, acts) {
+        Ok(outcomes) => outcomes.as_slice() == wanted && core.told() == told,
+        Err(_) => false,
+    }
+}
+
+/// Returns whether a list has these results in one run of acts.
+fn is_acted(alloc: Global, header: &Header, acts: &[Act], wanted: &[Outcome], told: u64) -> bool {
+    match AnyCore::open(alloc, header) {
+        Ok(mut core) => acts_so(alloc, &mut core, acts, wanted, told),
+        Err(_) => false,
+    }
+}
+
+/// Returns whether a list without trims has these results in one run of steps.
+fn is_run(alloc: Global, header: &Header, steps: &[(u16, Step)], wanted: &[Outcome]) -> bool {
+    match AnyCore::open(alloc, header) {
+        Ok(mut core) => runs(alloc, &mut core, steps, wanted),
+        Err(_) => false,
+    }
+}
+
+/// Returns whether a list has a trim, or has these results in one run of steps.
+fn is_stepped(alloc: Global, header: &Header, acts: &[Act], wanted: &[Outcome]) -> bool {
+    match steps_of(alloc, acts) {
+        Ok(steps) => is_run(alloc, header, &steps, wanted),
+        Err(fault) => fault == Fault::OutOfPhase,
+    }
 }
 
 /// Returns whether a core and a monitor have told this seat that it could go, and no other.
@@ -75,29 +112,55 @@ fn act_all<R: Abort + Wait>(
     }
 }
 
-/// Takes a list in each way. Returns how many entries and calls there are then.
-fn try_text<R: Abort + AllocGlobal + Wait>(rt: &R, text: &str, told: Option<&[u8]>) -> (u64, u64) {
-    let alloc = rt.alloc();
-    let read = read_steps(alloc, text.as_bytes()).expect(rt, "a text");
-    let header = read.header.header;
-    let mut core = AnyCore::open(alloc, &header).expect(rt, "memory");
-    let mut monitor = AnyMonitor::open(alloc, &header).expect(rt, "memory");
-    let mut outcomes = Vec::new(alloc);
-    act_all(rt, &mut core, &mut monitor, &read.acts, told, &mut outcomes);
-    let mut other = AnyCore::open(alloc, &header).expect(rt, "memory");
-    let acted = other.run_acts(alloc, &read.acts).expect(rt, "memory");
-    assert!(rt; acted == outcomes && other.told() == core.told(), "{text}");
-    let is_run = is_run(alloc, &header, &read.acts, &outcomes);
-    assert!(rt;
-        is_run == Ok(true) || is_run == Err(Fault::OutOfPhase),
-        "{text}"
-    );
-    let counts = (core.entries(), core.calls());
-    assert!(rt;
-        monitor.close(rt) == Some((counts.0, counts.1, counts.1)),
-        "{text}"
-    );
-    counts
+/// What there is after a list.
+#[derive(Clone, Copy, PartialEq, Eq)]
+struct After {
+    entries: u64,
+    calls: u64,
+    /// What a core's observers return.
+    told: u64,
+}
+
+/// Takes a list by a new core and a new monitor, and appends the results.
+fn act_anew<R: Abort + AllocGlobal + Wait>(
+    rt: &R,
+    header: &Header,
+    acts: &[Act],
+    told: Option<&[u8]>,
+    outcomes: &mut Vec<Outcome>,
+) -> After {
+    let mut core = AnyCore::open(rt.alloc(), header).expect(rt, "memory");
+    let mut monitor = AnyMonitor::open(rt.alloc(), header).expect(rt, "memory");
+    act_all(rt, &mut core, &mut monitor, acts, told, outcomes);
+    let (entries, calls) = (core.entries(), core.calls());
+    let is_same = monitor.close(rt) == Some((entries, calls, calls));
+    assert!(rt; is_same);
+    After {
+        entries,
+        calls,
+        told: core.told(),
+    }
+}
+
+/// Takes a list in each way.
+fn try_acts<R: Abort + AllocGlobal + Wait>(
+    rt: &R,
+    header: &Header,
+    acts: &[Act],
+    told: Option<&[u8]>,
+) -> After {
+    let mut outcomes = Vec::new(rt.alloc());
+    let after = act_anew(rt, header, acts, told, &mut outcomes);
+    let is_acted = is_acted(rt.alloc(), header, acts, &outcomes, after.told);
+    let is_stepped = is_stepped(rt.alloc(), header, acts, &outcomes);
+    assert!(rt; is_acted && is_stepped);
+    after
+}
+
+/// Takes the list of a text in each way.
+fn try_text<R: Abort + AllocGlobal + Wait>(rt: &R, text: &str, told: Option<&[u8]>) -> After {
+    let read = read_steps(rt.alloc(), text.as_bytes()).expect(rt, text);
+    try_acts(rt, &read.header.header, &read.acts, told)
 }
 
 /// Trims, after which one seat sleeps, and by which a history of 16 entries has room for more.
@@ -133,8 +196,8 @@ const TOLD: [(usize, &[u8]); 4] = [
 fn who_is_named_or_lapses_is_told_until_it_looks(rt: HostRuntime) {
     for (place, told) in &TOLD {
         let text = situations().get(*place).copied().unwrap_or_default();
-        let counts = try_text(&rt, text, Some(told));
-        assert!(rt; 0 < counts.0);
+        let after = try_text(&rt, text, Some(told));
+        assert!(rt; 0 < after.entries);
     }
 }
 
@@ -175,8 +238,11 @@ fn long_lists_are_answered_in_each_way(rt: HostRuntime) -> Result<(), Fail> {
         write!(text, "aqs-steps 1 {part}\n")?;
         put_times(&mut text, lines, *times)?;
         write!(text, "end {count}\n")?;
-        let counts = try_text(&rt, &text, None);
-        assert!(rt; counts == (count, count), "{part} {times}");
+        let after = try_text(&rt, &text, None);
+        assert!(rt;
+            after.entries == count && after.calls == count,
+            "{part} {times}"
+        );
     }
     Ok(())
 }

@@ -177,15 +177,30 @@ fn refusals_of_acquire<R: Abort + AllocGlobal + Wait + Clock>(
     MOST
 }
 
+/// The first acquire of a pass takes the interrupt that is pending, if it does not lack memory.
+fn acquire_at_last<R: Abort + AllocGlobal + Wait + Clock>(
+    rt: &R,
+    parking: &NotedParking,
+    monitor: &Monitor<LockHooks>,
+    pass: &mut Pass,
+)
+    requires is_of { pass.old.lock ≡ monitor.now }
+    requires places { monitor.now.header.seats ≤ 256 }
+{
+    parking.interrupt(0);
+    let refused = refusals_of_acquire(rt, parking, monitor, pass);
+    let is_taken = pass.share() == 1 && !parking.take_interrupt(0);
+    assert!(rt;
+        is_taken && 1 <= refused && refused < MOST,
+        "refused {refused} times"
+    );
+}
+
 #[test]
 fn a_call_that_is_refused_memory_answers_later_as_if_it_came_first(rt: HostRuntime) {
     let parking = NotedParking::open(rt.alloc(), &[]).expect(&rt, "memory");
     let opened = open_lock(rt.alloc(), Policy::Fair, 1, 0, 16);
     let (monitor, mut passes) = opened.expect(&rt, "memory");
     let mut pass = passes.pop().expect(&rt, "a pass");
-    parking.interrupt(0);
-    let refused = refusals_of_acquire(&rt, &parking, &monitor, &mut pass);
-    assert!(rt; 1 <= refused && refused < MOST, "refused {refused} times");
-    assert_eq!(rt; pass.share(), 1);
-    assert!(rt; !parking.take_interrupt(0));
+    acquire_at_last(&rt, &parking, &monitor, &mut pass);
 }
