@@ -57,9 +57,9 @@
 //!
 //! `CanLock` says what `Mutex::lock` asks of a caller: the pass is one of this lock's, it does not hold the
 //! lock, and the parking has a place for each thread. It is a word of `Rattle.locks.specs.Calling`, with the
-//! others that a caller's contracts mostly need. All other words of the contracts here are passed on too:
-//! what the page of a crate names `Rattle.guarded.specs.Asking` is `Rattle.locks.specs.Asking`. So a program
-//! with contracts lists no other crate either.
+//! others that a caller's contracts mostly need. `specs/Lib.antt` lists the other words that are passed on:
+//! what the page of a crate names `Rattle.guarded.specs.Asking` is `Rattle.locks.specs.Asking`. A program
+//! whose contracts use only these words lists no other crate.
 //!
 //! ## Which type for which need
 //!
@@ -106,10 +106,10 @@
 //!
 //! ## What it costs
 //!
-//! - *Time.* On four busy processors, 6 to 8 million pairs of lock and unlock a second with one thread, and 4
-//!   to 10 million with up to eight. Apart from a fair lock with eight threads, that is 0.14 to 0.23 times
-//!   what Java's classes reach when they keep a history too. `docs/PERFORMANCE.md` says how it was measured:
-//!   without a value under the lock.
+//! - *Time.* On four processors, 8 to 10 million pairs of lock and unlock a second with one thread, and 0.18 to
+//!   9 million with two to eight. That is 0.20 to 0.25 times, and 0.06 to 0.37 times, what Java's
+//!   `ReentrantLock` reaches when it keeps a history too. `docs/PERFORMANCE.md` has the figures, and says how
+//!   they were measured: without a value under the lock.
 //! - *Moving the value.* A `Mutex` moves its value out and in at each pair. Put a large value into a
 //!   `Box`.
 //! - *Memory.* 12 bytes an entry, in pages of 1,024 entries. A pair that waits for nobody takes two entries,
