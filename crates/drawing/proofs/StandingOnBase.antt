@@ -12,6 +12,7 @@ use Rattle.history.proofs.LineLemmas.{line_at_first}
 use Rattle.history.proofs.SmallBases.{few_exclusive}
 use Rattle.deciding.proofs.HeldTables.{shared_few}
 use Rattle.drawing.specs.declared.standings.Standings.{Standings}
+use Rattle.drawing.specs.declared.standings.TheConstants.{CONDITIONS}
 use Rattle.history.specs.Marks.{is_placed}
 use Rattle.drawing.specs.Standings.{AreStanding}
 use Rattle.drawing.specs.inner.Tables.{sleeping_seats}
@@ -31,7 +32,7 @@ sleepers_seated b c (x ∷ xs) all =
 
 pub stands_on : (b : Base) (a : Standings) → IsGood b → length a.exclusive.items ≡ b.header.seats →
     length a.shared.items ≡ b.header.seats → length a.in_line.items ≡ b.header.seats →
-    a.asleep.items ≡ each_below 256 (sleeping_seats b) →
+    a.asleep.items ≡ each_below CONDITIONS (sleeping_seats b) →
     ((i : ℕ) → get_or a.exclusive.items i 0 ≡ (seat_of b i).exclusive) →
     ((i : ℕ) → get_or a.shared.items i 0 ≡ (seat_of b i).shared) →
     ((i : ℕ) → get_or a.in_line.items i false
@@ -42,11 +43,11 @@ stands_on b a good x sh waiting asleep exclusive shared waits =
       exclusive_seats = x;
       shared_seats = sh;
       line_seats = waiting;
-      conditions = ap length asleep ∙ length-each 256 (sleeping_seats b);
+      conditions = ap length asleep ∙ length-each CONDITIONS (sleeping_seats b);
       exclusive = exclusive;
       shared = shared;
       waits = λ i l. waits i ∙ ap (λ q. is_placed (place_of i q)) (sym (line_at_first (based b)));
-      sleeps = λ c l. ap (λ t. get_or t c []) asleep ∙ get_or-each 256 (sleeping_seats b) c [] l;
+      sleeps = λ c l. ap (λ t. get_or t c []) asleep ∙ get_or-each CONDITIONS (sleeping_seats b) c [] l;
       seated = λ c. sleepers_seated b c (sleepers_of b c) (good.sleepers c);
       exclusive_bound = λ i. let few = few_exclusive b b.header.object refl good.held i in omega (arith, few);
       shared_bound = λ i. let few = shared_few b good i in omega (arith, few);

@@ -12,7 +12,7 @@ use Rattle.drawing.specs.Levels.{Track, level_of, tracks}
 use Rattle.drawing.specs.Stretches.{fresh, stretch, stretches}
 use Rattle.drawing.specs.inner.Stretches.{bar_of, ending, going_on}
 
--- how long a level has lasted, behind one more entry
+-- how long a level has lasted, after one more entry
 lasting_more : (s : Start) (from : ℕ) (e : Entry) (h : List Entry) (t : Track) → from ≤ length h →
     lasting s from (e ∷ h) t (level_of s (e ∷ h) t) ≡ lasting s from h t (level_of s (e ∷ h) t) + 1
 lasting_more s from e h t l =
@@ -44,7 +44,7 @@ not_yet s from h t l = rw (le-ltb from (length h) l) refl
 abbrev at : Track → ℕ → ℕ → Stretch
 at t first holds = record { seat = t.seat; kind = t.kind; first = first; holds = holds }
 
--- a stretch behind one more entry
+-- a stretch after one more entry
 pub goes_on : (s : Start) (from : ℕ) (e : Entry) (h : List Entry) (t : Track) → from ≤ length h →
     going_on s (e ∷ h) (length h) (stretch s from h t) ≡ stretch s from (e ∷ h) t
 goes_on s from e h t l =
@@ -136,7 +136,7 @@ pub map_same : {X Y : Type 0} (f g : X → Y) (xs : List X) → ((x : X) → f x
 map_same f g [] same = refl
 map_same f g (x ∷ xs) same = rw (same x, map_same f g xs same) refl
 
--- all stretches and bars behind one more entry that is drawn
+-- all stretches and bars after one more entry that is drawn
 pub all_go_on : (s : Start) (from : ℕ) (e : Entry) (h : List Entry) → from ≤ length h →
     map (going_on s (e ∷ h) (length h)) (stretches s from h) ≡ stretches s from (e ∷ h)
 all_go_on s from e h l =
@@ -150,7 +150,7 @@ all_end s from e h l =
     (flat_map_same (ending s (e ∷ h) (length h)) (stretch s from h) (ended_by s from e h) (tracks s.header)
     (λ t. ends_by s from e h t l))
 
--- and behind one that isn't
+-- and after one that isn't
 pub none_goes_on : (s : Start) (from : ℕ) (e : Entry) (h : List Entry) → length h < from →
     stretches s from h ≡ stretches s from (e ∷ h)
 none_goes_on s from e h l =

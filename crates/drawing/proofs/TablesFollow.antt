@@ -2,7 +2,7 @@
 use Rattle.std.proofs.Common.{◌≡◌, ⊎_elim, ℕ, ◌<◌, Bool, true, false, ◌&&◌, ◌||◌, not, cond, eqb, List, [], ◌∷◌, ◌++◌, length, get_or, set, map, take, Some, None, refl, ap, ◌∙◌, sym}
 use Rattle.std.specs.List.{All, filter, list_any}
 use Rattle.std.proofs.Math.Bool.{and-true, and-false}
-use Rattle.std.proofs.lemmas.Bool.{cases_eq, eq-eqb, ne_eqb, eqb-true}
+use Rattle.std.proofs.lemmas.Bool.{both_ways, cases_eq, eq-eqb, ne_eqb, eqb-true}
 use Rattle.std.proofs.lemmas.List.Elements.{All-push, All-drop, All-nil, All-filter}
 use Rattle.history.specs.declared.arrival.Arrival.{Arrival}
 use Rattle.history.specs.declared.entry.Entry.{Entry}
@@ -17,6 +17,7 @@ use Rattle.history.specs.Start.{Start}
 use Rattle.deciding.proofs.HoldsFollow.{at_set, table_follows}
 use Rattle.history.proofs.LineLemmas.{line_after, stays}
 use Rattle.history.specs.Marks.{is_placed}
+use Rattle.drawing.specs.declared.standings.TheConstants.{CONDITIONS}
 use Rattle.drawing.specs.inner.Tables.{holds_by, line_by, woken}
 
 pub any_has : (i : ℕ) (xs : List ℕ) → list_any (λ y. eqb y i) xs ≡ has i xs
@@ -63,11 +64,8 @@ none_left i j (a ∷ q) same = by (eqb j a.seat) refl (none_left i j q same)
     by true t ih = ih
     by false t ih =
         let other : eqb a.seat i ≡ false =
-        ne_eqb a.seat i (λ x. absurd (both t (eq-eqb j a.seat (same ∙ sym x)))) in
+        ne_eqb a.seat i (λ x. both_ways (eqb j a.seat) t (eq-eqb j a.seat (same ∙ sym x))) in
         rw other ih
-      where
-        both : eqb j a.seat ≡ false → eqb j a.seat ≡ true → ⊥
-        both f t = cc
 
 others_left : (i j : ℕ) (q : List Arrival) → (j ≡ i → ⊥) →
     is_placed (place_of i (filter (λ a. not (eqb j a.seat)) q)) ≡ is_placed (place_of i q)
@@ -194,7 +192,7 @@ seated_follow s e h c seat all = by (eqb e.at c)
 
 -- the table of sleepers, in which the list of the entry's condition was changed
 pub sleepers_follow : (s : Start) (e : Entry) (h : List Entry) (t : List (List ℕ)) (c : ℕ) →
-    e.at < length t → ((c : ℕ) → c < 256 → get_or t c [] ≡ sleepers s h c) → c < 256 → e.at < 256 →
+    e.at < length t → ((c : ℕ) → c < CONDITIONS → get_or t c [] ≡ sleepers s h c) → c < CONDITIONS → e.at < CONDITIONS →
     get_or (set t e.at (sleepers_after e.word e.seat e.n (get_or t e.at []))) c [] ≡ sleepers s (e ∷ h) c
 sleepers_follow s e h t c l is below at =
     at_set t e.at c (sleepers_after e.word e.seat e.n (get_or t e.at [])) [] l

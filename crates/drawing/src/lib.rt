@@ -2,7 +2,7 @@
 //! free permits or of a latch's count.
 //!
 //! [`Drawing`](drawing::Drawing) takes the entries of a history one after another.
-//! [`drawn_of`](whole::drawn_of) takes a list of them.
+//! [`drawn_of`](drawn_entries::drawn_of) takes a list of them.
 //!
 //! A history begins on its base, or as the object is opened. A drawing uses only the definitions of
 //! `history`. It doesn't judge entries: its bars are those of any list of entries of the object's seats.
@@ -11,10 +11,10 @@
 mod amounts;
 pub mod bar;
 pub mod drawing;
+pub mod drawn_entries;
 pub mod kind;
 pub mod laws;
 pub mod mark;
 mod sleepers;
 mod standings;
 mod stretches;
-pub mod whole;

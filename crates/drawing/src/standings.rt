@@ -24,7 +24,7 @@ use history::holds::holds_after;
 use std::alloc::{AllocError, Global};
 
 /// How many conditions an entry can name.
-const CONDITIONS: usize = 256;
+pub(crate) const CONDITIONS: usize = 256;
 
 /// The holds of each seat by mode, who is in the queue, and who waits on which condition.
 #[derive(Drop)]
@@ -101,8 +101,8 @@ impl Standings {
 fn note_holds(exclusive: &mut Vec<u128>, shared: &mut Vec<u128>, object: Object, entry: Entry)
     requires exclusive { entry.seat < length exclusive.old.items }
     requires shared { entry.seat < length shared.old.items }
-    requires few { slice_index exclusive.old.items entry.seat + 4294967295 < 2 ^ 128 }
-    requires few_shared { slice_index shared.old.items entry.seat + 4294967295 < 2 ^ 128 }
+    requires few { slice_index exclusive.old.items entry.seat + u32.MAX < 2 ^ 128 }
+    requires few_shared { slice_index shared.old.items entry.seat + u32.MAX < 2 ^ 128 }
     ensures exclusive { exclusive.new.items ≡ holds_by X object entry exclusive.old.items }
     ensures shared { shared.new.items ≡ holds_by S object entry shared.old.items }
 {
@@ -115,7 +115,7 @@ fn note_holds(exclusive: &mut Vec<u128>, shared: &mut Vec<u128>, object: Object,
 /// Updates a table of holds for an entry.
 fn note_table(table: &mut Vec<u128>, object: Object, entry: Entry)
     requires seat { entry.seat < length table.old.items }
-    requires few { slice_index table.old.items entry.seat + 4294967295 < 2 ^ 128 }
+    requires few { slice_index table.old.items entry.seat + u32.MAX < 2 ^ 128 }
     ensures { table.new.items ≡ table_by object entry table.old.items }
 {
     let seat = entry.seat as usize;
@@ -138,7 +138,7 @@ fn note_line(in_line: &mut Vec<bool>, entry: Entry)
 
 /// Returns an empty list for each condition that an entry can name.
 fn nobody_asleep(alloc: Global) -> Result<Vec<Sleepers>, AllocError>
-    ensures { IfOk result (λ asleep. asleep.items ≡ replicate 256 []) }
+    ensures { IfOk result (λ asleep. asleep.items ≡ replicate CONDITIONS []) }
 {
     let mut asleep = Vec::new(alloc);
     for _ in 0..CONDITIONS {
@@ -149,7 +149,7 @@ fn nobody_asleep(alloc: Global) -> Result<Vec<Sleepers>, AllocError>
 
 /// Returns the list of a base's waiters for each condition that an entry can name.
 fn all_asleep(alloc: Global, base: &Base) -> Result<Vec<Sleepers>, AllocError>
-    ensures { IfOk result (λ asleep. asleep.items ≡ each_below 256 (sleeping_seats base.now)) }
+    ensures { IfOk result (λ asleep. asleep.items ≡ each_below CONDITIONS (sleeping_seats base.now)) }
 {
     let mut asleep = Vec::new(alloc);
     for condition in 0..CONDITIONS {

@@ -1,4 +1,4 @@
--- What is told of a history that was judged.
+-- What is written for a history that was judged.
 use Rattle.std.proofs.Common.{◌≡◌, ℕ, List, Option, None, Some, Result, IfSome, reverse, subst, sym}
 use Rattle.std.specs.Prelude.{IfErr, IsErrOf}
 use Rattle.history.specs.declared.entry.Entry.{Entry}
@@ -13,15 +13,15 @@ use Rattle.driver.specs.TextReader.{IsFaultOf}
 use Rattle.driver.specs.AuditStream.{IsToldOf}
 use Rattle.driver.proofs.Judging.{verdict_is}
 
--- this text tells it
-pub told_so : (Tells : Base → List Entry → Verdict → List ℕ) (left : Option (List ℕ)) (b : Base)
+-- this is the text for its verdict
+pub is_verdict_text : (text_for : Base → List Entry → Verdict → List ℕ) (left : Option (List ℕ)) (b : Base)
     (entries : List Entry) (j : Judgement) (verdict : Verdict) (text : List ℕ) →
     IfSome left (λ t. IsHistoryText t b (reverse entries)) → IsJudgement (based b) entries j →
-    verdict ≡ verdict_of j → text ≡ Tells b entries (verdict_of j) →
-    IfSome left (λ t. IsToldOf Tells t verdict (λ written. text ≡ written))
-told_so Tells None b entries j verdict text is judged same written = tt
-told_so Tells (Some t) b entries j verdict text is judged same written =
-    subst (λ (v : Verdict). IsToldOf Tells t v (λ all. text ≡ all)) (sym same)
+    verdict ≡ verdict_of j → text ≡ text_for b entries (verdict_of j) →
+    IfSome left (λ t. IsToldOf text_for t verdict (λ written. text ≡ written))
+is_verdict_text text_for None b entries j verdict text is judged same written = tt
+is_verdict_text text_for (Some t) b entries j verdict text is judged same written =
+    subst (λ (v : Verdict). IsToldOf text_for t v (λ all. text ≡ all)) (sym same)
     (record {
       base = b;
       entries = entries;
@@ -30,13 +30,13 @@ told_so Tells (Some t) b entries j verdict text is judged same written =
       written = written;
     })
 
--- what is written is told of another way
-pub told_of : (Tells : Base → List Entry → Verdict → List ℕ) (left : Option (List ℕ)) (verdict : Verdict)
+-- what is written, said in another way
+pub rewritten : (text_for : Base → List Entry → Verdict → List ℕ) (left : Option (List ℕ)) (verdict : Verdict)
     (all : List ℕ) (Written : List ℕ → Type 0) →
-    IfSome left (λ text. IsToldOf Tells text verdict (λ written. all ≡ written)) → Written all →
-    IfSome left (λ text. IsToldOf Tells text verdict Written)
-told_of Tells None verdict all Written a w = tt
-told_of Tells (Some text) verdict all Written a w =
+    IfSome left (λ text. IsToldOf text_for text verdict (λ written. all ≡ written)) → Written all →
+    IfSome left (λ text. IsToldOf text_for text verdict Written)
+rewritten text_for None verdict all Written a w = tt
+rewritten text_for (Some text) verdict all Written a w =
     record {
       base = a.base;
       entries = a.entries;
@@ -45,11 +45,12 @@ told_of Tells (Some text) verdict all Written a w =
       written = subst Written a.written w;
     }
 
-pub some_told : (Tells : Base → List Entry → Verdict → List ℕ) (left : Option (List ℕ)) (verdict : Verdict)
-    (Written : List ℕ → Type 0) → IfSome left (λ text. IsToldOf Tells text verdict Written) →
-    IfSome left (λ text. (v : Verdict) × IsToldOf Tells text v Written)
-some_told Tells None verdict Written a = tt
-some_told Tells (Some text) verdict Written a = (verdict, a)
+pub some_verdict : (text_for : Base → List Entry → Verdict → List ℕ) (left : Option (List ℕ))
+    (verdict : Verdict) (Written : List ℕ → Type 0) →
+    IfSome left (λ text. IsToldOf text_for text verdict Written) →
+    IfSome left (λ text. (v : Verdict) × IsToldOf text_for text v Written)
+some_verdict text_for None verdict Written a = tt
+some_verdict text_for (Some text) verdict Written a = (verdict, a)
 
 -- no fault of a text or of its source is one of writing
 pub not_of_writing : {T : Type 0} (text left : Option (List ℕ)) (r : Result T StreamFault) →

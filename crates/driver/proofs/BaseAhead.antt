@@ -35,7 +35,8 @@ use Rattle.streams.specs.declared.stream_fault.StreamFault.{StreamFault}
 use Rattle.streams.specs.declared.stream_fault.StreamFault.TheVariants.{Text, Memory}
 use Rattle.streams.specs.ReadingOn.{IsOfReading, IsTooLong}
 use Rattle.streams.specs.Window.{StaysAhead}
-use Rattle.driver.specs.BaseReader.{EntriesBehind, HeadRead, IsLineTaken, IsPlacedBehind, LinesBehind, lines_known}
+use Rattle.driver.specs.BaseReader.{EntriesBehind, IsPlacedBehind}
+use Rattle.driver.specs.inner.BaseReader.{HeadRead, IsLineTaken, AreLinesRead, lines_known}
 use Rattle.driver.proofs.ReadingAhead.{all_kept, fault_ahead, header_ahead, header_kept, kept, left_of, reading_fault}
 
 -- nothing of a short line was let go of
@@ -49,14 +50,14 @@ module _ (read : LinesRead) (old window : List ℕ) (left after : Option (List �
   -- a line is taken up
   pub line_taken : (new : LinesRead) (n : ℕ) → IsBaseLineTaken read window (Ok (Some n)) new →
       HasShortLine window → (text : Option (List ℕ)) (h : Head) → h.is_based ≡ true → h.header ≡ read.header →
-      LinesBehind text h (map Based read.lines) old left →
-      LinesBehind text h (map Based new.lines) (drop (length window - n) window) after
+      AreLinesRead text h (map Based read.lines) old left →
+      AreLinesRead text h (map Based new.lines) (drop (length window - n) window) after
   line_taken new n taken line text h is_based header were =
       by text after (kept history_form text (lines_known h (map Based read.lines)) (prepend_known old left)
       (prepend_known window after) (map Based read.lines) (short_kept old window left after s line) were)
     where
-      by : (text after : Option (List ℕ)) → LinesBehind text h (map Based read.lines) window after →
-          LinesBehind text h (map Based new.lines) (drop (length window - n) window) after
+      by : (text after : Option (List ℕ)) → AreLinesRead text h (map Based read.lines) window after →
+          AreLinesRead text h (map Based new.lines) (drop (length window - n) window) after
       by None after were = tt
       by (Some t) None were = absurd were
       by (Some t) (Some more) were =
@@ -91,13 +92,13 @@ line_unread read new old grown left after fault of long = λ text h is_based hea
     reading_fault history_form text left after fault of long
     (left_of history_form text (lines_known h (map Based read.lines)) old left (map Based read.lines) were)
 
--- ---- the base was told whole
+-- ---- the whole base was read
 
 module _ (h : Head) (based_so : h.is_based ≡ true) (b : Base) (xs : List BaseLine) (is : IsToldBase
     h.header b)
     (lines : base_lines b ≡ xs) where
   pub base_read : (window : List ℕ) (after : Option (List ℕ)) → LacksBaseLine window → HasShortLine window →
-      (text : Option (List ℕ)) → LinesBehind text h (map Based xs) window after →
+      (text : Option (List ℕ)) → AreLinesRead text h (map Based xs) window after →
       EntriesBehind text h b [] (place_behind b xs) window after
   base_read window after none s None were = tt
   base_read window None none s (Some t) were = absurd were
@@ -115,7 +116,7 @@ module _ (h : Head) (based_so : h.is_based ≡ true) (b : Base) (xs : List BaseL
 
 -- ---- the first line
 
--- it is in the window, and so many bytes behind it
+-- it is in the window, and this many bytes after it
 pub head_ahead : (text left : Option (List ℕ)) (h : Head) (window after : List ℕ) →
     Begins history_form window h [] after → StaysAhead [] text window left →
     HeadRead text h (drop (length window - length after) window) left
@@ -138,10 +139,10 @@ beginning_read (Some t) h k base p bytes (Some more) same were =
     (subst (λ (z : Head). AreEntriesRead t z (or_opening h.header base) [] p (bytes ++ more))
     (sym were.history.head) were)
 
--- what a reader has behind a base is small
-pub few_behind : (k : Header) (b : Base) (p : Place) → IsBaseOf k b → IsPlacedBehind b p →
+-- what a reader has after a base is small
+pub few_after : (k : Header) (b : Base) (p : Place) → IsBaseOf k b → IsPlacedBehind b p →
     (p.calls ≤ MOST_FOLDED) × (p.folded ≤ MOST_FOLDED)
-few_behind k b p of placed = by of.1
+few_after k b p of placed = by of.1
   where
     by : (b ≡ opening_base k) ⊎ ((1 ≤ b.entries) × IsGood b) → (p.calls ≤ MOST_FOLDED) ×
         (p.folded ≤ MOST_FOLDED)

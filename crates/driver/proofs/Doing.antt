@@ -1,10 +1,9 @@
 -- Acts of a core, one after another, and what is kept of them.
-use Rattle.std.proofs.Common.{◌≡◌, inr, ⊎_elim, ℕ, ◌+◌, ◌≤◌, false, ltb, List, [], ◌∷◌, ◌++◌, All}
-use Rattle.std.proofs.Common.{length, reverse, Result, Ok, Err, ap, sym, subst, ◌∙◌, arith, append-nil}
-use Rattle.std.specs.List.{AllByRecursion}
+use Rattle.std.proofs.Common.{◌≡◌, inr, ⊎_elim, ℕ, ◌+◌, ◌≤◌, false, ltb, List, [], ◌++◌, All}
+use Rattle.std.proofs.Common.{length, reverse, Result, Ok, Err, refl, ap, sym, subst, ◌∙◌, arith, append-nil}
 use Rattle.std.proofs.lemmas.Bool.{lt-ltb, le-ltb, cases_lt}
-use Rattle.std.proofs.lemmas.List.{length-append, length-reverse, reverse-append, reverse-reverse}
-use Rattle.std.proofs.lemmas.List.Elements.{All-append, All-from_recursion, recursion_from_All}
+use Rattle.std.proofs.lemmas.List.{drop_at, length-append, length-reverse, reverse-append, reverse-reverse}
+use Rattle.std.proofs.lemmas.List.Elements.{All-append, All-drop, All-from_recursion}
 use Rattle.frame.specs.declared.acts.Act.{Act}
 use Rattle.frame.specs.declared.acts.Act.TheVariants.{Do, Trim}
 use Rattle.frame.specs.Acts.{IsOfSeats}
@@ -27,8 +26,8 @@ use Rattle.history_text.proofs.Spelt.{all_spelt_on}
 use Rattle.steps.specs.declared.header.StepsHeader.{StepsHeader}
 use Rattle.steps.specs.StepLines.{IsAct}
 use Rattle.driver.specs.Answers.{AreFolded}
-use Rattle.driver.specs.Logged.{gone}
-use Rattle.driver.proofs.ReplayUnderWay.{IsTrimOf, base_behind, list_behind}
+use Rattle.driver.specs.inner.Logged.{gone}
+use Rattle.driver.proofs.ReplayUnderWay.{IsTrimOf, base_after, list_after}
 
 -- an act under a header is of one of its seats
 pub of_seats : (h : StepsHeader) (a : Act) → IsAct h a → IsOfSeats h.header.seats a
@@ -39,8 +38,8 @@ of_seats h Trim is = tt
 
 pub record HasTrimmed (old : CoreView) (r : Result ℕ Fault) (new : CoreView) : Type 0 where
   pub is : IsTrimOf r old.base old.entries
-  pub base : new.base ≡ base_behind r old.base old.entries
-  pub entries : new.entries ≡ list_behind r old.entries
+  pub base : new.base ≡ base_after r old.base old.entries
+  pub entries : new.entries ≡ list_after r old.entries
   pub header : new.header ≡ old.header
 
 pub has_trimmed : (old new : CoreView) (r : Result ℕ Fault) → IsTrimmed old r new → HasTrimmed old r new
@@ -75,20 +74,20 @@ all_in_order past h = reverse-append h (reverse past)
 
 -- a trim leaves them
 pub all_stay : (r : Result ℕ Fault) (past h : List Entry) →
-    list_behind r h ++ reverse (past ++ gone r h) ≡ h ++ reverse past
+    list_after r h ++ reverse (past ++ gone r h) ≡ h ++ reverse past
 all_stay (Ok count) past h = reverse-append past (reverse h)
     ∙ ap (λ (es : List Entry). es ++ reverse past) (reverse-reverse h)
 all_stay (Err fault) past h = ap (λ (es : List Entry). h ++ reverse es) (append-nil past)
 
 pub folded_counted : (r : Result ℕ Fault) (b : Base) (past h : List Entry) → b.entries ≡ length past →
-    (base_behind r b h).entries ≡ length (past ++ gone r h)
+    (base_after r b h).entries ≡ length (past ++ gone r h)
 folded_counted (Ok count) b past h same =
     omega (arith, same, length-append past (reverse h), length-reverse h)
 folded_counted (Err fault) b past h same = same ∙ ap length (sym (append-nil past))
 
 pub folded_calls : (r : Result ℕ Fault) (b : Base) (past h : List Entry) → CanFold b h →
     calls (based b) [] ≡ ended_calls past →
-    calls (based (base_behind r b h)) [] ≡ ended_calls (past ++ gone r h)
+    calls (based (base_after r b h)) [] ≡ ended_calls (past ++ gone r h)
 folded_calls (Ok count) b past h can same =
     let alike : calls (based b) h ≡ calls (based (folded b h)) [] =
     (fold_alike b h can.good can.legal can.seated).ended in
@@ -109,10 +108,6 @@ pub spelt_more : (r : Result ℕ Fault) (b : Base) (past h : List Entry) → Can
 spelt_more (Ok count) b past h can is = All-append IsSpelt past (reverse h) is (spelt_on b h can)
 spelt_more (Err fault) b past h can is = subst (All IsSpelt) (sym (append-nil past)) is
 
-behind_each : (P : Entry → Type 0) (xs ys : List Entry) → AllByRecursion P (xs ++ ys) → AllByRecursion P ys
-behind_each P [] ys p = p
-behind_each P (x ∷ xs) ys p = behind_each P xs ys p.1
-
 -- the base that entries were folded into
 pub base_of_all : (k : Header) (past : List Entry) (b : Base) → AreFolded k past b → 1 ≤ length past →
     IsBaseOf k b
@@ -121,5 +116,5 @@ base_of_all k past b are some = (are.header, inr (omega (arith, are.entries, som
 -- those of the list alone
 pub spelt_left : (past h : List Entry) → All IsSpelt (past ++ reverse h) → All IsSpelt (reverse h)
 spelt_left past h is =
-    All-from_recursion IsSpelt (reverse h)
-    (behind_each IsSpelt past (reverse h) (recursion_from_All IsSpelt (past ++ reverse h) is))
+    subst (All IsSpelt) (drop_at past (reverse h) (length past) refl)
+    (All-drop IsSpelt (length past) (past ++ reverse h) is)

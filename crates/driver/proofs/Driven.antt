@@ -31,28 +31,29 @@ use Rattle.driver.specs.declared.form.Form.{Form}
 use Rattle.driver.specs.declared.form.Form.TheVariants.{Replay, History}
 use Rattle.driver.specs.declared.remark.Remark.{Remark}
 use Rattle.driver.specs.Answers.{AllAnswers, answers_text}
-use Rattle.driver.specs.Logged.{IsLogged, Logged, gone}
-use Rattle.driver.specs.Remarks.{IsRemarked, remark_of, told_lines, trim_remark}
-use Rattle.driver.specs.ReplayStream.{AreAnswersBehind, IsAnswerTo, IsLawful, answer_text}
+use Rattle.driver.specs.inner.Logged.{IsLogged, IsRemarked, Logged, gone}
+use Rattle.driver.specs.Remarks.{remark_of, told_lines, trim_remark}
+use Rattle.driver.specs.ReplayStream.{AreAnswersBehind, IsLawful, answer_text}
+use Rattle.driver.specs.inner.ReplayStream.{IsAnswerTo}
 use Rattle.driver.specs.ReplayText.{answer_line, behind_acts, done_lines, entries_of, header_line, trim_line}
 use Rattle.driver.specs.TextReader.{Progress, IsNext}
 use Rattle.driver.proofs.ReadingAhead.{ReadOn}
-use Rattle.driver.proofs.Behind.{replayed}
+use Rattle.driver.proofs.WrittenAnswers.{replayed}
 use Rattle.driver.proofs.Doing.{all_counted, all_in_order, all_stay, folded_calls}
 use Rattle.driver.proofs.Doing.{folded_counted, has_trimmed, spelt_more}
 use Rattle.driver.proofs.Remarking.{Remarked, added_count, added_is, remarked_all}
 use Rattle.driver.proofs.Remarking.{remarked_none, remarked_on, remarked_trim}
-use Rattle.driver.proofs.ReplayUnderWay.{IsTrimOf, PlayedSoFar, answered, base_all, base_behind}
-use Rattle.driver.proofs.ReplayUnderWay.{entries_all, list_behind, told_all, told_more, told_none, told_trim}
+use Rattle.driver.proofs.ReplayUnderWay.{IsTrimOf, PlayedSoFar, answered, base_all, base_after}
+use Rattle.driver.proofs.ReplayUnderWay.{entries_all, list_after, played_all, played_step, played_none, played_trim}
 
--- These acts were read. The entries that were folded, the oldest first, and the list behind them, with these
--- remarks, tell their answers.
+-- These acts were read. The entries that were folded, the oldest first, and the list after them, with these
+-- remarks, have all their answers.
 pub record Answering (first now : Progress StepsHeader Act) (b : Base) (h past : List Entry)
     (remarks : List Remark) : Type 0 where
   pub acts : List Act
   pub lines : List ℕ
   pub read : ReadOn steps_form first acts now
-  pub told : PlayedSoFar now.so_far.header.header acts lines b h
+  pub played : PlayedSoFar now.so_far.header.header acts lines b h
   pub remarked : Remarked (h ++ reverse past) remarks lines
   pub counted : b.entries ≡ length past
   pub ended : calls (based b) [] ≡ ended_calls past
@@ -65,7 +66,7 @@ answering_none p b h base none =
       acts = [];
       lines = [];
       read = λ text were. were;
-      told = told_none p.so_far.header.header;
+      played = played_none p.so_far.header.header;
       remarked = remarked_none;
       counted = refl;
       ended = ap (λ (s : Start). s.calls) (based_opening p.so_far.header.header);
@@ -82,7 +83,7 @@ pub answering_step : (first old new : Progress StepsHeader Act) (i : ℕ) (step 
     → Answering first old b h past remarks →
     Answering first new b h' past remarks'
 answering_step first old new i step r b h h' past remarks remarks' left next same p q more a =
-    let told = subst (λ (k : StepsHeader). PlayedSoFar k.header a.acts a.lines b h) (sym same) a.told in
+    let played = subst (λ (k : StepsHeader). PlayedSoFar k.header a.acts a.lines b h) (sym same) a.played in
     let all = h ++ reverse past in
     let number : b.entries + length h ≡ length all = omega (arith, a.counted, all_counted past h) in
     let line = λ (n : ℕ). a.lines ++ ended (answer_line n i r) in
@@ -92,9 +93,9 @@ answering_step first old new i step r b h h' past remarks remarks' left next sam
       acts = a.acts ++ Do i step ∷ [];
       lines = line (length all);
       read = λ text were. next text a.acts (a.read text were);
-      told = subst
+      played = subst
           (λ (n : ℕ). PlayedSoFar new.so_far.header.header (a.acts ++ Do i step ∷ []) (line n) b h') number
-          (told_more new.so_far.header.header a.acts a.lines b h i step r h' told p q);
+          (played_step new.so_far.header.header a.acts a.lines b h i step r h' played p q);
       remarked =
           remarked_on (based b) h (reverse past) i step r h' remarks remarks' a.lines p q kept a.remarked;
       counted = a.counted;
@@ -107,10 +108,10 @@ pub answering_trim : (first old new : Progress StepsHeader Act) (r : Result ℕ 
     (h past : List Entry) (remarks : List Remark) (left : Option (List ℕ))
     → IsNext steps_form old (Ok (Some Trim)) new left → new.so_far.header ≡ old.so_far.header →
     IsTrimOf r b h → CanFold b h → Answering first old b h past remarks
-    → Answering first new (base_behind r b h) (list_behind r h) (past ++ gone r h)
+    → Answering first new (base_after r b h) (list_after r h) (past ++ gone r h)
     (remarks ++ trim_remark (length past + length h) r ∷ [])
 answering_trim first old new r b h past remarks left next same is can a =
-    let told = subst (λ (k : StepsHeader). PlayedSoFar k.header a.acts a.lines b h) (sym same) a.told in
+    let played = subst (λ (k : StepsHeader). PlayedSoFar k.header a.acts a.lines b h) (sym same) a.played in
     let more = remarks ++ trim_remark (length past + length h) r ∷ [] in
     let remarked : Remarked (h ++ reverse past) more (a.lines ++ ended (trim_line r)) =
     subst (λ (n : ℕ). Remarked (h ++ reverse past) (remarks ++ trim_remark n r ∷ [])
@@ -120,7 +121,7 @@ answering_trim first old new r b h past remarks left next same is can a =
       acts = a.acts ++ Trim ∷ [];
       lines = a.lines ++ ended (trim_line r);
       read = λ text were. next text a.acts (a.read text were);
-      told = told_trim new.so_far.header.header a.acts a.lines b h r told is;
+      played = played_trim new.so_far.header.header a.acts a.lines b h r played is;
       remarked = subst (λ (es : List Entry). Remarked es more (a.lines ++ ended (trim_line r)))
           (sym (all_stay r past h)) remarked;
       counted = folded_counted r b past h a.counted;
@@ -175,7 +176,7 @@ one_entry_more Trim core core' log log' is =
       ap length t.entries,
       ap length is.2,
       ap length (all_stay is.0 log.past core.entries),
-      all_counted (log.past ++ gone is.0 core.entries) (list_behind is.0 core.entries),
+      all_counted (log.past ++ gone is.0 core.entries) (list_after is.0 core.entries),
       all_counted log.past core.entries,
     )
 
@@ -202,33 +203,33 @@ text_is : (form : Form) (header : StepsHeader) (b : Base) (h past : List Entry) 
     → answers_text form
     (record { header = header; past = past; base = b; entries = h; remarks = remarks })
     ≡ answer_text form header acts
-text_is Replay header b h past remarks acts lines told remarked counted ends =
+text_is Replay header b h past remarks acts lines played remarked counted ends =
     let o = behind_acts header acts in
     let all = past ++ reverse h in
     let first = ended (header_line header) in
     let of_all : told_lines all 0 remarks ≡ done_lines 0 acts o.done =
     ap (λ (es : List Entry). told_lines es 0 remarks) (sym (all_in_order past h))
     ∙ remarked_all (h ++ reverse past) remarks lines remarked
-    ∙ told_all header.header acts lines b h told in
+    ∙ played_all header.header acts lines b h played in
     ap (λ (t : List ℕ). first ++ (t ++ ended (counts_line (length all) (ended_calls all)))) of_all
     ∙ ap (λ (t : List ℕ). first ++ (done_lines 0 acts o.done ++ ended t)) (end_is b h past counted ends)
     ∙ ap (λ (x : Base). first ++ (done_lines 0 acts o.done
     ++ ended (counts_line (x.entries + length h) (calls (based x) h))))
-    (base_all header.header acts lines b h told)
+    (base_all header.header acts lines b h played)
     ∙ ap (λ (es : List Entry). first ++ (done_lines 0 acts o.done
     ++ ended (counts_line (o.base.entries + length es) (calls (based o.base) es))))
-    (entries_all header.header acts lines b h told)
-text_is History header b h past remarks acts lines told remarked counted ends =
-    ap (λ (x : Base). history_text x h) (base_all header.header acts lines b h told)
-    ∙ ap (history_text (behind_acts header acts).base) (entries_all header.header acts lines b h told)
+    (entries_all header.header acts lines b h played)
+text_is History header b h past remarks acts lines played remarked counted ends =
+    ap (λ (x : Base). history_text x h) (base_all header.header acts lines b h played)
+    ∙ ap (history_text (behind_acts header acts).base) (entries_all header.header acts lines b h played)
 
 lawful_is : (header : StepsHeader) (b : Base) (h : List Entry) (acts : List Act) (lines : List ℕ) →
     PlayedSoFar header.header acts lines b h → IsLawful b h →
     IsLawful (behind_acts header acts).base (behind_acts header acts).entries
-lawful_is header b h acts lines told lawful =
+lawful_is header b h acts lines played lawful =
     subst (λ (x : Base). IsLawful x (behind_acts header acts).entries)
-    (base_all header.header acts lines b h told)
-    (subst (IsLawful b) (entries_all header.header acts lines b h told) lawful)
+    (base_all header.header acts lines b h played)
+    (subst (IsLawful b) (entries_all header.header acts lines b h played) lawful)
 
 answer_is : (form : Form) (text : Option (List ℕ)) (header : StepsHeader) (acts : List Act)
     (answers : AllAnswers) → answers_text form answers ≡ answer_text form header acts
@@ -251,10 +252,10 @@ pub answering_all : (first now new : Progress StepsHeader Act) (b : Base) (h pas
     })
 answering_all first now new b h past remarks left same all lawful a = λ form text were.
     let header = first.so_far.header in
-    let told : PlayedSoFar header.header a.acts a.lines b h =
-    subst (λ (k : StepsHeader). PlayedSoFar k.header a.acts a.lines b h) same a.told in
+    let played : PlayedSoFar header.header a.acts a.lines b h =
+    subst (λ (k : StepsHeader). PlayedSoFar k.header a.acts a.lines b h) same a.played in
     let is = subst (λ (k : StepsHeader). IfSome text (λ t. IsText steps_form t k a.acts)) same
     (all text a.acts (a.read text were)) in
     answer_is form text header a.acts _
-    (text_is form header b h past remarks a.acts a.lines told a.remarked a.counted a.ended)
-    (lawful_is header b h a.acts a.lines told lawful) is
+    (text_is form header b h past remarks a.acts a.lines played a.remarked a.counted a.ended)
+    (lawful_is header b h a.acts a.lines played lawful) is

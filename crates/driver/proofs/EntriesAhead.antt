@@ -10,6 +10,7 @@ use Rattle.history.specs.Base.{Base}
 use Rattle.history.specs.declared.limits.TheConstants.{MOST_FOLDED}
 use Rattle.history.specs.Header.{IsInRange}
 use Rattle.history.specs.Text.{ended}
+use Rattle.line_text.specs.declared.limits.TheConstants.{LINE_BYTES}
 use Rattle.line_text.specs.declared.fault.TextFault.{TextFault}
 use Rattle.line_text.specs.declared.fault.TextFault.TheVariants.{BadLine, CutShort}
 use Rattle.line_text.specs.Reading.{Begins, IsText}
@@ -37,14 +38,16 @@ use Rattle.streams.specs.declared.stream_fault.StreamFault.TheVariants.{Text, Re
 use Rattle.streams.specs.Streams.{IsReadNoFurther}
 use Rattle.streams.specs.ReadingOn.{IsOfReading, IsTooLong}
 use Rattle.streams.specs.Window.{IsAhead, StaysAhead, room}
-use Rattle.driver.specs.BaseReader.{EntriesBehind, LinesBehind, lines_known}
+use Rattle.driver.specs.BaseReader.{EntriesBehind}
+use Rattle.driver.specs.inner.BaseReader.{AreLinesRead, lines_known}
 use Rattle.driver.specs.HistoryReader.{EntriesHeld, EntriesRead, IsEntryNext, base_held}
-use Rattle.driver.specs.TextReader.{IsBehindEnd, IsFaultOf, reader_at}
+use Rattle.driver.specs.TextReader.{IsFaultOf, reader_at}
+use Rattle.driver.specs.inner.TextReader.{IsAfterEnd}
 use Rattle.driver.proofs.ReadingAhead.{all_kept, ended_here, fault_ahead, left_of, no_further, reading_fault}
 
 -- ---- the lines of a base
 
-pub base_line_short : (x : BaseLine) → IsBaseLine x → length (base_line x) < 256
+pub base_line_short : (x : BaseLine) → IsBaseLine x → length (base_line x) < LINE_BYTES
 base_line_short x is = base_short x is (λ p fits. waiting_short p p.who.back fits.1)
 
 -- where what is ahead begins with no line of a base, no window on it does
@@ -56,8 +59,8 @@ front_lacks window more lacks = λ line after x parts whole is.
 pub window_lacks : (ahead window ys : List ℕ) → IsAhead ahead window ys → LacksBaseLine ahead →
     LacksBaseLine window
 window_lacks ahead window ys s lacks = λ line after x parts whole is same.
-    let few : length line < 256 = omega (arith, ap length same, base_line_short x is) in
-    let all = uncut 256 s.line s.rest line after s.one_line few (sym s.seen ∙ parts) in
+    let few : length line < LINE_BYTES = omega (arith, ap length same, base_line_short x is) in
+    let all = uncut LINE_BYTES s.line s.rest line after s.one_line few (sym s.seen ∙ parts) in
     let there : s.line ++ s.rest ≡ line ++ 10 ∷ after =
     ap (λ (t : List ℕ). t ++ s.rest) (sym all) ∙ sym s.seen ∙ parts in
     lacks line (after ++ ys) x
@@ -84,18 +87,18 @@ module _ (h : Head) (b : Base) (es : List Entry) (p : Place) where
   entries_kept (Some t) old new (Some xs) (Some ys) keeps were = rw keeps were
 
   -- the lines are those of the base and the entries
-  lines_behind : (text : Option (List ℕ)) (window : List ℕ) (left : Option (List ℕ)) →
-      EntriesBehind text h b es p window left → LinesBehind text h (lines_on b es) window left
-  lines_behind None window left were = tt
-  lines_behind (Some t) window None were = absurd were
-  lines_behind (Some t) window (Some xs) were = all_known t h b es p (window ++ xs) were
+  lines_read : (text : Option (List ℕ)) (window : List ℕ) (left : Option (List ℕ)) →
+      EntriesBehind text h b es p window left → AreLinesRead text h (lines_on b es) window left
+  lines_read None window left were = tt
+  lines_read (Some t) window None were = absurd were
+  lines_read (Some t) window (Some xs) were = all_known t h b es p (window ++ xs) were
 
   -- no line was read but these, and what stands in the window
   pub entries_no_further : (text : Option (List ℕ)) (window : List ℕ) (left : Option (List ℕ)) →
       length window ≤ room → EntriesBehind text h b es p window left → IsReadNoFurther history_form text left
   entries_no_further text window left few were =
       no_further history_form text (here h b es) window left (lines_on b es) few
-      (lines_behind text window left were)
+      (lines_read text window left were)
 
   -- the source gave no more
   pub entries_unread : (text : Option (List ℕ)) (old : List ℕ) (left after : Option (List ℕ))
@@ -103,7 +106,7 @@ module _ (h : Head) (b : Base) (es : List Entry) (p : Place) where
       EntriesBehind text h b es p old left → IsFaultOf history_form text after fault
   entries_unread text old left after fault of long were =
       reading_fault history_form text left after fault of long
-      (left_of history_form text (here h b es) old left (lines_on b es) (lines_behind text old left were))
+      (left_of history_form text (here h b es) old left (lines_on b es) (lines_read text old left were))
 
   -- ---- the next entry
 
@@ -134,7 +137,7 @@ module _ (h : Head) (b : Base) (es : List Entry) (p : Place) where
       (read_with t u (old ++ xs) window items (window_lacks (old ++ xs) window ys s) were read)) end
       (all_known t h b es p (old ++ xs) were)
 
-  -- it stands in the window, and so many bytes behind it
+  -- it is in the window, and this many bytes after it
   pub entry_here : (text : Option (List ℕ)) (window : List ℕ) (left : Option (List ℕ)) (e : Entry) (n : ℕ) →
       p.count < h.header.cap → IsEntryBehind h.header p window (Ok (Some (e, n))) →
       EntriesBehind text h b es p window left →
@@ -151,7 +154,7 @@ module _ (h : Head) (b : Base) (es : List Entry) (p : Place) where
       (is.0, (ahead.0 ++ more, parts, length-append ahead.0 more ∙ ap (λ (m : ℕ). m + length more) ahead.2))
       parts)
 
-  -- ---- behind the last
+  -- ---- after the last
 
   last_here : (t u : List ℕ) (ahead window : List ℕ) (items : List Line) →
       (LacksBaseLine ahead → LacksBaseLine window) → IsEntryBehind h.header p window (Ok None) →
@@ -171,15 +174,15 @@ module _ (h : Head) (b : Base) (es : List Entry) (p : Place) where
       read_all t h b es p window
       (subst (AreEntriesRead t h b es p) (ap (λ (m : List ℕ). window ++ m) end ∙ append-nil window) were) is
 
-  pub fault_behind : (text : Option (List ℕ)) (window grown : List ℕ) (left after : Option (List ℕ))
+  pub fault_after : (text : Option (List ℕ)) (window grown : List ℕ) (left after : Option (List ℕ))
       (fault : TextFault) → IsEntryBehind h.header p window (Ok None) →
-      IsBehindEnd {I = Entry} (p.lines + p.count) left (Err (Text fault)) →
+      IsAfterEnd {I = Entry} (p.lines + p.count) left (Err (Text fault)) →
       Keeps (prepend_known window left) (prepend_known grown after) → EntriesBehind text h b es p window
       left →
       IsFaultOf history_form text after (Text fault)
-  fault_behind None window grown left after fault is end keeps were = (tt, tt)
-  fault_behind (Some t) window grown None after fault is end keeps were = absurd were
-  fault_behind (Some t) window grown (Some more) after fault is end keeps were =
+  fault_after None window grown left after fault is end keeps were = (tt, tt)
+  fault_after (Some t) window grown None after fault is end keeps were = absurd were
+  fault_after (Some t) window grown (Some more) after fault is end keeps were =
       let many : p.lines + p.count ≡ length (lines_on b es) =
       omega (arith, length-on b es, were.place.lines, were.place.count) in
       ended_here history_form (here h b es) window grown (Some more) after (Err (Text fault))
@@ -209,12 +212,12 @@ few_calls h p range few calls = omega (arith, range.cap, few, calls)
 
 -- ---- what a call answers
 
--- behind the end line
+-- after the end line
 pub entries_ended : (old new : EntriesHeld) (window grown : List ℕ) (left mid after : Option (List ℕ))
     (r : Result (Option Entry) StreamFault) → (base_held old).header ≡ old.header →
     Keeps (prepend_known old.bytes left) (prepend_known window mid) →
     IsEntryBehind old.header old.place window (Ok None) →
-    IsBehindEnd (old.place.lines + old.place.count) mid r →
+    IsAfterEnd (old.place.lines + old.place.count) mid r →
     Keeps (prepend_known window mid) (prepend_known grown after) → IsEntryNext old left r new after
 entries_ended old new window grown left mid after (Ok (Some e)) same was is end keeps = absurd end
 entries_ended old new window grown left mid after (Ok None) same was is end keeps = λ text es were.
@@ -224,7 +227,7 @@ entries_ended old new window grown left mid after (Ok None) same was is end keep
     (entries_kept (head_of b) b es old.place text old.bytes window left mid was were)
 entries_ended old new window grown left mid after (Err (Text fault)) same was is end keeps = λ text es were.
     let b = base_held old in
-    fault_behind (head_of b) b es old.place text window grown mid after fault
+    fault_after (head_of b) b es old.place text window grown mid after fault
     (subst (λ (k : Header). IsEntryBehind k old.place window (Ok None)) (sym same) is) end keeps
     (entries_kept (head_of b) b es old.place text old.bytes window left mid was were)
 entries_ended old new window grown left mid after (Err ReadFailed) same was is end keeps = λ text es were. tt
@@ -250,12 +253,12 @@ entry_failed old new window left after fault same s is end = λ text es were.
 
 -- ---- from the base on
 
--- behind the base, these entries were read
+-- after the base, these entries were read
 abbrev pub EntriesOn : EntriesHeld → Option (List ℕ) → List Entry → EntriesHeld → Option (List ℕ) → Type 0
 EntriesOn first left es now after =
     (text : Option (List ℕ)) → EntriesRead text first left [] → EntriesRead text now after es
 
--- behind so many entries no further line was read but what stands in the window
+-- after these entries no further line was read, except for what is in the window
 pub entries_memory : (first now : EntriesHeld) (es : List Entry) (left after : Option (List ℕ)) →
     length now.bytes ≤ room → EntriesOn first left es now after → (text : Option (List ℕ)) →
     EntriesRead text first left [] → IsReadNoFurther history_form text after

@@ -34,7 +34,7 @@ gathered_more a b c old mid new x y p q =
           ∙ sym (append_assoc p.written q.written new);
     }
 
--- bytes are added behind those that stayed gathered
+-- bytes are added after those that stayed gathered
 pub gathered_added : (a b : Option (List ℕ)) (old mid new x : List ℕ) → IsGathered a old b mid [] →
     new ≡ mid ++ x → IsGathered a old b new x
 gathered_added a b old mid new x p same =

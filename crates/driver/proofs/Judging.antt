@@ -24,7 +24,7 @@ use Rattle.history_text.specs.HistoryText.{IsHistoryText}
 use Rattle.driver.specs.declared.judged.Judged.{Judged}
 use Rattle.driver.specs.AuditStream.{IsVerdict}
 use Rattle.driver.specs.HistoryReader.{AreCounted, EntriesHeld, IsEntryNext, base_held}
-use Rattle.driver.specs.Judged.{IsJudged, kept_with}
+use Rattle.driver.specs.inner.Judged.{IsJudged, kept_with}
 use Rattle.driver.proofs.EntriesAhead.{EntriesOn}
 
 pub verdict_is : (b : Base) (entries : List Entry) (j : Judgement) → IsJudgement (based b) entries j →

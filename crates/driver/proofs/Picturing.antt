@@ -1,30 +1,25 @@
 -- The picture of the entries that were kept.
-use Rattle.std.proofs.Common.{◌≡◌, ℕ, ◌<◌, ◌^◌, Bool, true, false, List, [], ◌∷◌, length, reverse}
-use Rattle.std.proofs.Common.{get_or, Option, None, Some, IfSome, sym, subst, ap, ◌∙◌, arith}
+use Rattle.std.proofs.Common.{◌≡◌, ℕ, ◌<◌, ◌^◌, Bool, true, false, List, [], ◌∷◌, length}
+use Rattle.std.proofs.Common.{get_or, Option, None, Some, ap, ◌∙◌, arith}
 use Rattle.std.specs.Prelude.{◌↔◌, nat_lt, if◌then◌else◌}
 use Rattle.std.specs.List.{All, Contains}
 use Rattle.std.proofs.lemmas.List.{length-take}
-use Rattle.std.proofs.lemmas.List.Elements.{All-append, All-contains_itself, All-push}
-use Rattle.audit.specs.declared.verdict.Judgement.{Judgement}
+use Rattle.std.proofs.lemmas.List.Elements.{All-append, All-contains_itself, All-nil, All-push}
 use Rattle.audit.specs.declared.verdict.Verdict.{Verdict}
 use Rattle.audit.specs.declared.verdict.Verdict.TheVariants.{Legal, NotLegal}
-use Rattle.audit.specs.Verdict.{IsJudgement, verdict_of}
 use Rattle.drawing.specs.declared.bar.Bar.{Bar}
 use Rattle.drawing.specs.declared.mark.Sign.{Sign}
 use Rattle.drawing.specs.Bars.{bars}
 use Rattle.drawing.specs.IsBar.{IsBar}
 use Rattle.drawing.specs.Marks.{mark_of, marks, sign_of}
 use Rattle.history.specs.declared.entry.Entry.{Entry}
-use Rattle.history.specs.Base.{Base, based}
+use Rattle.history.specs.Base.{Base}
 use Rattle.history.specs.Start.{Start}
-use Rattle.history_text.specs.HistoryText.{IsHistoryText}
 use Rattle.picture.specs.Document.{svg_text}
 use Rattle.picture.specs.Layout.{IsShort}
 use Rattle.picture.specs.Marks.{IsEarly}
 use Rattle.driver.specs.declared.choice.Choice.{Choice}
-use Rattle.driver.specs.AuditStream.{IsToldOf, IsVerdict}
-use Rattle.driver.specs.DrawStream.{drawn_text, legal_front, pictured}
-use Rattle.driver.proofs.Judging.{verdict_is}
+use Rattle.driver.specs.DrawStream.{legal_front, pictured}
 
 short : (s : Start) (from : ℕ) (h : List Entry) (b : Bar) → length h < 2 ^ 32 → IsBar s from h b → IsShort b
 short s from h b few is = record { order = is.order; last = omega (arith, is.ends_within, few) }
@@ -36,21 +31,19 @@ all_short s from h few law i d lt =
     let b = get_or (bars s from h) i d in
     short s from h b few ((law b).0 (All-contains_itself (bars s from h) i d lt))
 
-none_early : All IsEarly []
-none_early i d lt = absurd (omega (arith, lt))
-
 one_early : (n i : ℕ) (sign : Option Sign) → n < 2 ^ 32 → All IsEarly (mark_of n i sign)
-one_early n i None lt = none_early
-one_early n i (Some s) lt = All-push IsEarly [] (record { number = n; seat = i; sign = s }) none_early lt
+one_early n i None lt = All-nil IsEarly
+one_early n i (Some s) lt =
+    All-push IsEarly [] (record { number = n; seat = i; sign = s }) (All-nil IsEarly) lt
 
 early_by : (b : Bool) (n i : ℕ) (sign : Option Sign) → n < 2 ^ 32 →
     All IsEarly (if b then [] else mark_of n i sign)
-early_by true n i sign lt = none_early
+early_by true n i sign lt = All-nil IsEarly
 early_by false n i sign lt = one_early n i sign lt
 
--- nor are its marks behind it
+-- nor are its marks after it
 pub all_early : (from : ℕ) (h : List Entry) → length h < 2 ^ 32 → All IsEarly (marks from h)
-all_early from [] few = none_early
+all_early from [] few = All-nil IsEarly
 all_early from (e ∷ h) few =
     All-append IsEarly (marks from h) _ (all_early from h (omega (arith, few)))
     (early_by (nat_lt (length h) from) (length h) e.seat (sign_of e.word) (omega (arith, few)))
@@ -70,18 +63,3 @@ same_picture choice verdict b b' count count' entries others text base counts it
     is ∙ ap (λ h. svg_text (pictured h choice count verdict (legal_front verdict entries))) base
     ∙ ap (λ n. svg_text (pictured b' choice n verdict (legal_front verdict entries))) counts
     ∙ ap (λ xs. svg_text (pictured b' choice count' verdict (legal_front verdict xs))) items
-
--- it tells the history text
-pub drawn_so : (choice : Choice) (left : Option (List ℕ)) (b : Base) (entries : List Entry) (j : Judgement)
-    (verdict : Verdict) (text : List ℕ) → IfSome left (λ t. IsHistoryText t b (reverse entries)) →
-    IsJudgement (based b) entries j → verdict ≡ verdict_of j → text ≡ drawn_text choice b entries verdict →
-    IfSome left (λ t. IsToldOf (drawn_text choice) t verdict (λ written. text ≡ written))
-drawn_so choice None b entries j verdict text is judged same written = tt
-drawn_so choice (Some t) b entries j verdict text is judged same written =
-    record {
-      base = b;
-      entries = entries;
-      is = is;
-      judged = subst (IsVerdict b entries) (sym same) (verdict_is b entries j judged);
-      written = written;
-    }

@@ -8,6 +8,7 @@ use Rattle.std.proofs.lemmas.List.{length-append}
 use Rattle.std.specs.Result.{IsErr}
 use Rattle.std.specs.Io.KnownBytes.{Keeps, IsAtEnd, prepend_known}
 use Rattle.history.specs.Text.{ended}
+use Rattle.line_text.specs.declared.limits.TheConstants.{LINE_BYTES}
 use Rattle.line_text.specs.declared.fault.TextFault.{TextFault}
 use Rattle.line_text.specs.declared.fault.TextFault.TheVariants.{BadHeader, BadLine, CutShort}
 use Rattle.line_text.specs.Form.{Form, lines_of}
@@ -25,7 +26,8 @@ use Rattle.streams.specs.Streams.{IsReadNoFurther}
 use Rattle.streams.specs.ReadingOn.{IsOfReading, IsTooLong}
 use Rattle.streams.specs.Window.{Grows, StaysAhead, room}
 use Rattle.driver.specs.TextReader.{Progress, reader_at, WereRead, IsFaultOf}
-use Rattle.driver.specs.TextReader.{IsBehindEnd, IsNext, IsPartLeft, KeepsPlace}
+use Rattle.driver.specs.TextReader.{IsNext, IsPartLeft, KeepsPlace}
+use Rattle.driver.specs.inner.TextReader.{IsAfterEnd}
 
 -- ---- the source
 
@@ -71,12 +73,12 @@ keeps_stays old new (Some xs) (Some ys) keeps =
 
 -- what stands in the window begins with a good line: nothing of it was let go of
 pub all_kept : (old window good rest : List ℕ) (left after : Option (List ℕ)) →
-    StaysAhead old left window after → window ≡ good ++ 10 ∷ rest → length good < 256 →
+    StaysAhead old left window after → window ≡ good ++ 10 ∷ rest → length good < LINE_BYTES →
     Keeps (prepend_known old left) (prepend_known window after)
 all_kept old window good rest None after s is lt = tt
 all_kept old window good rest (Some xs) None s is lt = absurd s
 all_kept old window good rest (Some xs) (Some ys) s is lt =
-    let line = uncut 256 s.line s.rest good rest s.one_line lt (sym s.seen ∙ is) in
+    let line = uncut LINE_BYTES s.line s.rest good rest s.one_line lt (sym s.seen ∙ is) in
     ap (λ (t : List ℕ). t ++ ys) (s.seen ∙ ap (λ (t : List ℕ). t ++ s.rest) line)
     ∙ append_assoc s.line s.rest ys ∙ sym s.parts
 
@@ -106,7 +108,7 @@ further form (Some t) so_far known window after (Some more) items x ahead next w
 
 -- the next line was found, which is short
 pub item_kept : {H I : Type 0} (form : Form H I) (so_far : SoFar H I) (old window : List ℕ)
-    (left after : Option (List ℕ)) (x : I) (n : ℕ) → length (form.item_line x) < 256 →
+    (left after : Option (List ℕ)) (x : I) (n : ℕ) → length (form.item_line x) < LINE_BYTES →
     StaysAhead old left window after → IsLineBehind form so_far window (Ok (Some (x, n)))
     → Keeps (prepend_known old left) (prepend_known window after)
 item_kept form so_far old window left after x n few s is =
@@ -116,9 +118,10 @@ item_kept form so_far old window left after x n few s is =
 
 -- the end line was found
 pub end_kept : (old window good : List ℕ) (left after : Option (List ℕ)) → StaysAhead old left window after →
-    window ≡ ended good → length good < 255 → Keeps (prepend_known old left) (prepend_known window after)
+    window ≡ ended good → length good < LINE_BYTES →
+    Keeps (prepend_known old left) (prepend_known window after)
 end_kept old window good left after s is lt =
-    all_kept old window good [] left after s is (omega (arith, lt))
+    all_kept old window good [] left after s is lt
 
 -- ---- what is left of a text
 
@@ -180,7 +183,7 @@ reading_fault form text left after Memory of long part = too_long form text left
 reading_fault form text left after (Text fault) of long part = absurd of
 reading_fault form text left after WriteFailed of long part = absurd of
 
--- the next line is in the window, and so many bytes behind it
+-- the next line is in the window, and this many bytes after it
 pub item_ahead : {H I : Type 0} (form : Form H I) (text : Option (List ℕ)) (so_far : SoFar H I)
     (known : List I → Type 0) (window : List ℕ) (left : Option (List ℕ)) (items : List I) (x : I) (n : ℕ)
     → IsLineBehind form so_far window (Ok (Some (x, n))) → (so_far.known items → known (items ++ x ∷ []))
@@ -219,7 +222,7 @@ front_read form t so_far window more items were =
 -- the fault of the next line, of which bytes may have been let go of
 pub fault_ahead : {H I : Type 0} (form : Form H I) (text : Option (List ℕ)) (so_far : SoFar H I)
     (old window : List ℕ) (left after : Option (List ℕ)) (items : List I) (fault : TextFault)
-    → IsLawful form → HasShortLines form 256 → StaysAhead old left window after →
+    → IsLawful form → HasShortLines form LINE_BYTES → StaysAhead old left window after →
     IsLineBehind form so_far window (Err fault) → (fault ≡ CutShort → IsAtEnd after) →
     WereRead form text (reader_at so_far old left) items → IsFaultOf form text after (Text fault)
 fault_ahead form None so_far old window left after items fault lawful short s is end were = (tt, tt)
@@ -236,7 +239,7 @@ fault_ahead form (Some t) so_far old window (Some xs) (Some ys) items fault lawf
     let there =
     is cut items (record { begins = begun_cut; count = were.count; known = were.known }) in
     let here =
-    line_cut form 256 lawful short all cut h items s.line s.rest fault s.one_line begun_all
+    line_cut form LINE_BYTES lawful short all cut h items s.line s.rest fault s.one_line begun_all
     (subst (Begins form cut h items) s.seen begun_cut) there in (
       subst (λ (b : List ℕ). IsReading form b (Err fault))
           (sym (with_rest form t h items (s.line ++ s.rest) ys begun)) (stays form all ys fault end here),
@@ -297,7 +300,7 @@ header_read form (Some t) so_far window after (Some more) read keeps =
       known = read.known;
     })
 
--- the header's line is in the window, and so many bytes behind it
+-- the header's line is in the window, and this many bytes after it
 pub header_ahead : {H I : Type 0} (form : Form H I) (text : Option (List ℕ))
     (so_far : SoFar H I) (window after : List ℕ) (left : Option (List ℕ)) →
     AreRead form window so_far [] after
@@ -309,14 +312,14 @@ header_ahead form text so_far window after left read keeps =
 
 -- the header's line was found
 pub header_kept : {H I : Type 0} (form : Form H I) (h : H) (window rest : List ℕ)
-    (text after : Option (List ℕ)) → HasShortLines form 256 → Begins form window h [] rest →
+    (text after : Option (List ℕ)) → HasShortLines form LINE_BYTES → Begins form window h [] rest →
     StaysAhead [] text window after → Keeps (prepend_known [] text) (prepend_known window after)
 header_kept form h window rest text after short begun s =
     all_kept [] window (form.header_line h) rest text after s (begun.parts ∙ broken (form.header_line h) rest)
     (short.header h begun.header)
 
 pub header_fault : {H I : Type 0} (form : Form H I) (text : Option (List ℕ)) (window : List ℕ)
-    (after : Option (List ℕ)) (fault : TextFault) → IsLawful form → HasShortLines form 256 →
+    (after : Option (List ℕ)) (fault : TextFault) → IsLawful form → HasShortLines form LINE_BYTES →
     IsReading form window (Err fault) → (fault ≡ CutShort → IsAtEnd after) →
     StaysAhead [] text window after → IsFaultOf form text after (Text fault)
 header_fault form None window after fault lawful short is end s = (tt, tt)
@@ -324,7 +327,7 @@ header_fault form (Some t) window None fault lawful short is end s = absurd s
 header_fault form (Some t) window (Some ys) fault lawful short is end s =
     let whole : t ≡ (s.line ++ s.rest) ++ ys = s.parts ∙ sym (append_assoc s.line s.rest ys) in
     let there = subst (λ (b : List ℕ). IsReading form b (Err fault)) s.seen is in
-    let here = header_cut form 256 lawful short s.line s.rest fault s.one_line there in (
+    let here = header_cut form LINE_BYTES lawful short s.line s.rest fault s.one_line there in (
       subst (λ (b : List ℕ). IsReading form b (Err fault)) (sym whole)
           (stays form (s.line ++ s.rest) ys fault end here),
       omega (arith, ap length whole, length-append (s.line ++ s.rest) ys),
@@ -349,24 +352,24 @@ not_counted form so_far old window left after new few keeps = λ text items were
     no_further form text so_far window after items few
     (kept form text so_far (prepend_known old left) (prepend_known window after) items keeps were)
 
--- behind the end line
+-- after the end line
 pub ended_here : {H I : Type 0} (form : Form H I) (so_far : SoFar H I) (window grown : List ℕ)
     (left after : Option (List ℕ)) (r : Result (Option I) StreamFault) (new : Progress H I)
-    → IsLineBehind form so_far window (Ok None) → IsBehindEnd so_far.count left r →
+    → IsLineBehind form so_far window (Ok None) → IsAfterEnd so_far.count left r →
     Keeps (prepend_known window left) (prepend_known grown after) →
     IsNext form (reader_at so_far window left) r new after
-ended_here form so_far window grown left after (Ok (Some item)) new is behind keeps = absurd behind
-ended_here form so_far window grown left after (Ok None) new is behind keeps =
-    λ text items were. all_ahead form text so_far window left items is behind were
-ended_here form so_far window grown left after (Err (Text fault)) new is behind keeps =
-    λ text items were. subst (λ (f : TextFault). IsFaultOf form text after (Text f)) (sym behind.0) (
-      more_ahead form text so_far window left items is behind.1 were,
+ended_here form so_far window grown left after (Ok (Some item)) new is end keeps = absurd end
+ended_here form so_far window grown left after (Ok None) new is end keeps =
+    λ text items were. all_ahead form text so_far window left items is end were
+ended_here form so_far window grown left after (Err (Text fault)) new is end keeps =
+    λ text items were. subst (λ (f : TextFault). IsFaultOf form text after (Text f)) (sym end.0) (
+      more_ahead form text so_far window left items is end.1 were,
       left_of form text so_far grown after items
           (kept form text so_far (prepend_known window left) (prepend_known grown after) items keeps were),
     )
-ended_here form so_far window grown left after (Err ReadFailed) new is behind keeps = λ text items were. tt
-ended_here form so_far window grown left after (Err Memory) new is behind keeps = absurd behind
-ended_here form so_far window grown left after (Err WriteFailed) new is behind keeps = absurd behind
+ended_here form so_far window grown left after (Err ReadFailed) new is end keeps = λ text items were. tt
+ended_here form so_far window grown left after (Err Memory) new is end keeps = absurd end
+ended_here form so_far window grown left after (Err WriteFailed) new is end keeps = absurd end
 
 -- what the source gave before changes nothing
 pub next_kept : {H I : Type 0} (form : Form H I) (so_far : SoFar H I) (a b : Option (List ℕ))
@@ -395,10 +398,10 @@ stands_still old new left after (Ok (Some item)) keeps = tt
 stands_still old new left after (Ok None) keeps = keeps
 stands_still old new left after (Err fault) keeps = keeps_stays old new left after keeps
 
-pub stands_behind : {I : Type 0} (old window new : List ℕ) (left mid after : Option (List ℕ))
+pub stands_after : {I : Type 0} (old window new : List ℕ) (left mid after : Option (List ℕ))
     (r : Result (Option I) StreamFault) → Keeps (prepend_known old left) (prepend_known window mid) →
     Keeps (prepend_known window mid) (prepend_known new after) → KeepsPlace old left r new after
-stands_behind old window new left mid after r p q =
+stands_after old window new left mid after r p q =
     stands_still old new left after r (Keeps-trans (prepend_known old left) (prepend_known window mid)
     (prepend_known new after) p q)
 
@@ -428,12 +431,12 @@ goes_on x false failing = refl
 
 -- ---- where memory is refused
 
--- behind so many items no further line was read but what stands in the window
-pub memory_behind : {H I : Type 0} (form : Form H I) (first : Progress H I) (items : List I)
+-- after these items no further line was read, except for what is in the window
+pub memory_after : {H I : Type 0} (form : Form H I) (first : Progress H I) (items : List I)
     (so_far : SoFar H I) (window : List ℕ) (left : Option (List ℕ)) → length window ≤ room →
     ReadOn form first items (reader_at so_far window left) → (text : Option (List ℕ)) →
     WereRead form text first [] → IsReadNoFurther form text left
-memory_behind form first items so_far window left few read text were =
+memory_after form first items so_far window left few read text were =
     no_further form text so_far window left items few (read text were)
 
 -- the reader gave no more, and stands where it stood

@@ -1,4 +1,4 @@
--- Answers are told by entries and remarks.
+-- The lines of answers are those of entries and of remarks.
 use Rattle.std.proofs.Common.{◌≡◌, ℕ, ◌+◌, ◌-◌, ◌≤◌, Bool, true, false, cond, List, [], ◌∷◌}
 use Rattle.std.proofs.Common.{◌++◌, length, take, drop, reverse, Option, None, Some, Result, Ok}
 use Rattle.std.proofs.Common.{Err, refl, sym, ap, ◌∙◌, subst, arith, append_assoc, append-nil}
@@ -19,12 +19,13 @@ use Rattle.history.specs.Text.{ended}
 use Rattle.history_text.specs.EntryLines.{entry_line}
 use Rattle.driver.specs.declared.remark.Remark.{Remark}
 use Rattle.driver.specs.declared.remark.Said.TheVariants.{IsNamed}
-use Rattle.driver.specs.Remarks.{IsRemarked, entries_said, remark_of, said_line, told_lines, trim_remark}
+use Rattle.driver.specs.Remarks.{entries_said, remark_of, said_line, told_lines, trim_remark}
+use Rattle.driver.specs.inner.Logged.{IsRemarked}
 use Rattle.history_text.specs.Pieces.{entry_lines}
 use Rattle.driver.specs.ReplayText.{answer_line, entries_of, trim_line}
 use Rattle.history_text.proofs.TextWritten.{entry_lines-push}
 
--- the entries behind an answer
+-- the entries after an answer
 abbrev added : Result Answer Fault → List Entry → List Entry
 added (Ok (Recorded e whom)) h = e ∷ h
 added (Ok Sleep) h = h
@@ -46,7 +47,7 @@ answer_adds : (s : Start) (h : List Entry) (i : ℕ) (step : Step) →
     (answer s h i step).1 ≡ added (answer s h i step).0 h
 answer_adds s h i step = adds_by s h (entry_for s h i step)
 
--- These lines are told by these entries, the newest first, and these remarks, whatever follows.
+-- These are the lines of these entries, the newest first, and of these remarks, whatever follows.
 pub record Remarked (h : List Entry) (remarks : List Remark) (out : List ℕ) : Type 0 where
   pub number : ℕ
   pub front : List ℕ
@@ -90,13 +91,13 @@ remarked_plain h remarks out e was =
           (sym (newest_last e h));
     }
 
--- a remark behind all entries so far
-told_behind : (h : List Entry) (remarks : List Remark) (out : List ℕ) (r : Remark) → r.before ≡ length h →
+-- a remark after all entries so far
+lines_after : (h : List Entry) (remarks : List Remark) (out : List ℕ) (r : Remark) → r.before ≡ length h →
     (was : Remarked h remarks out) (left : List Remark) (more : List Entry)
     → told_lines (reverse h ++ more) 0 ((remarks ++ r ∷ []) ++ left)
     ≡ (out ++ said_line r.said r.before r.seat (slice_get (reverse h ++ more) r.before))
     ++ told_lines (reverse h ++ more) (r.before + entries_said r.said) left
-told_behind h remarks out r here was left more =
+lines_after h remarks out r here was left more =
     let all = reverse h ++ more in
     let n = was.number in
     let old = drop n (reverse h) in
@@ -114,8 +115,8 @@ told_behind h remarks out r here was left more =
     ∙ ap (λ (t : List ℕ). t ++ (line ++ after)) (sym was.rest)
     ∙ sym (append_assoc out line after)
 
-nothing_behind : (xs : List Entry) (n : ℕ) → n ≡ length xs → entry_lines n (drop n xs) ≡ []
-nothing_behind xs n all = ap (entry_lines n) (drop_all n xs (omega (arith, all)))
+nothing_after : (xs : List Entry) (n : ℕ) → n ≡ length xs → entry_lines n (drop n xs) ≡ []
+nothing_after xs n all = ap (entry_lines n) (drop_all n xs (omega (arith, all)))
 
 -- the step was answered by no entry
 pub remarked_aside : (h : List Entry) (remarks : List Remark) (out : List ℕ) (r : Remark) (line : List ℕ) →
@@ -127,14 +128,14 @@ remarked_aside h remarks out r line here none says was =
       number = length h;
       front = out ++ line;
       within = omega arith;
-      lines = λ left more. told_behind h remarks out r here was left more
+      lines = λ left more. lines_after h remarks out r here was left more
           ∙ ap (λ (t : List ℕ). (out ++ t) ++ told_lines (reverse h ++ more)
           (r.before + entries_said r.said) left) (says (slice_get (reverse h ++ more) r.before))
           ∙ ap (λ (n : ℕ). (out ++ line) ++ told_lines (reverse h ++ more) n left)
           (omega (arith, here, none));
       rest = sym (append-nil (out ++ line))
           ∙ ap (λ (t : List ℕ). (out ++ line) ++ t)
-          (sym (nothing_behind (reverse h) (length h) (sym (length-reverse h))));
+          (sym (nothing_after (reverse h) (length h) (sym (length-reverse h))));
     }
 
 -- the newest entry names a seat
@@ -151,21 +152,21 @@ remarked_named h remarks out e r here said was =
       lines = λ left more.
           let all = reverse h ++ e ∷ more in
           let at : slice_get all r.before ≡ Some e = ap (slice_get all) (here ∙ sym (length-reverse h))
-          ∙ get_behind (reverse h) e more in
+          ∙ get_after (reverse h) e more in
           subst (λ (es : List Entry). told_lines es 0 ((remarks ++ r ∷ []) ++ left) ≡ (out ++ line)
           ++ told_lines es (length h + 1) left)
           (sym (ap (λ (es : List Entry). es ++ more) (newest_last e h)
           ∙ append_assoc (reverse h) (e ∷ []) more))
-          (told_behind h remarks out r here was left (e ∷ more) ∙ (rw (at, said, here) refl));
+          (lines_after h remarks out r here was left (e ∷ more) ∙ (rw (at, said, here) refl));
       rest = sym (append-nil (out ++ line))
           ∙ ap (λ (t : List ℕ). (out ++ line) ++ t)
-          (sym (nothing_behind (reverse (e ∷ h)) (length h + 1) (omega (arith, length-reverse (e ∷ h)))));
+          (sym (nothing_after (reverse (e ∷ h)) (length h + 1) (omega (arith, length-reverse (e ∷ h)))));
     }
   where
-    get_behind : (xs : List Entry) (x : Entry) (more : List Entry) →
+    get_after : (xs : List Entry) (x : Entry) (more : List Entry) →
         slice_get (xs ++ x ∷ more) (length xs) ≡ Some x
-    get_behind [] x more = refl
-    get_behind (y ∷ xs) x more = get_behind xs x more
+    get_after [] x more = refl
+    get_after (y ∷ xs) x more = get_after xs x more
 
 pub remarked_all : (h : List Entry) (remarks : List Remark) (out : List ℕ) → Remarked h remarks out →
     told_lines (reverse h) 0 remarks ≡ out
@@ -186,11 +187,11 @@ pub added_is : (s : Start) (h : List Entry) (i : ℕ) (step : Step) (r : Result 
 added_is s h i step r h' p q = q ∙ answer_adds s h i step
     ∙ ap (λ (a : Result Answer Fault). added a h) (sym p)
 
--- behind others
-added_behind : (r : Result Answer Fault) (h past : List Entry) → added r h ++ past ≡ added r (h ++ past)
-added_behind (Ok (Recorded e whom)) h past = refl
-added_behind (Ok Sleep) h past = refl
-added_behind (Err fault) h past = refl
+-- after others
+added-append : (r : Result Answer Fault) (h past : List Entry) → added r h ++ past ≡ added r (h ++ past)
+added-append (Ok (Recorded e whom)) h past = refl
+added-append (Ok Sleep) h past = refl
+added-append (Err fault) h past = refl
 
 step_remarked : (h : List Entry) (seat : ℕ) (r : Result Answer Fault) (remarks remarks' : List Remark)
     (out : List ℕ) → IsRemarked remarks (remark_of (length h) seat r) remarks'
@@ -204,7 +205,7 @@ step_remarked h seat (Ok Sleep) remarks remarks' out is was =
 step_remarked h seat (Err fault) remarks remarks' out is was =
     rw is (remarked_aside h remarks out _ _ refl refl (λ e. refl) was)
 
--- a step was answered, behind entries some of which were folded
+-- a step was answered, after entries some of which were folded
 pub remarked_on : (s : Start) (h past : List Entry) (i : ℕ) (step : Step) (r : Result Answer Fault)
     (h' : List Entry) (remarks remarks' : List Remark) (out : List ℕ) → r ≡ (answer s h i step).0 →
     h' ≡ (answer s h i step).1
@@ -212,7 +213,7 @@ pub remarked_on : (s : Start) (h past : List Entry) (i : ℕ) (step : Step) (r :
     Remarked (h' ++ past) remarks' (out ++ ended (answer_line (length (h ++ past)) i r))
 remarked_on s h past i step r h' remarks remarks' out p q more was =
     let same : h' ++ past ≡ added r (h ++ past) = ap (λ (es : List Entry). es ++ past)
-    (added_is s h i step r h' p q) ∙ added_behind r h past in
+    (added_is s h i step r h' p q) ∙ added-append r h past in
     rw same (step_remarked (h ++ past) i r remarks remarks' out more was)
 
 -- a trim was answered

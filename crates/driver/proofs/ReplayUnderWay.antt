@@ -1,4 +1,4 @@
--- What a replay has told, and what is left to tell.
+-- What a replay has answered, and what is left to answer.
 use Rattle.std.proofs.Common.{◌≡◌, inl, inr, ℕ, ◌+◌, Bool, false, true, cond, ltb, List, [], ◌∷◌, ◌++◌}
 use Rattle.std.proofs.Common.{length, Result, Ok, Err, refl, ap, sym, ◌∙◌, arith, append_assoc, append-nil}
 use Rattle.frame.specs.declared.acts.Act.{Act}
@@ -97,13 +97,13 @@ entries_left-do b h i step acts new q = rw q refl
 -- ---- a trim comes next
 
 -- what a trim leaves of a base and a list
-abbrev pub base_behind : Result ℕ Fault → Base → List Entry → Base
-base_behind (Ok count) b h = folded b h
-base_behind (Err fault) b h = b
+abbrev pub base_after : Result ℕ Fault → Base → List Entry → Base
+base_after (Ok count) b h = folded b h
+base_after (Err fault) b h = b
 
-abbrev pub list_behind : Result ℕ Fault → List Entry → List Entry
-list_behind (Ok count) h = []
-list_behind (Err fault) h = h
+abbrev pub list_after : Result ℕ Fault → List Entry → List Entry
+list_after (Ok count) h = []
+list_after (Err fault) h = h
 
 -- what it is answered
 abbrev pub IsTrimOf : Result ℕ Fault → Base → List Entry → Type 0
@@ -117,7 +117,7 @@ choice full b h acts =
 
 lines_left-trim : (b : Base) (h : List Entry) (number : ℕ) (acts : List Act) (r : Result ℕ Fault) →
     IsTrimOf r b h → lines_left b h number (Trim ∷ acts)
-    ≡ ended (trim_line r) ++ lines_left (base_behind r b h) (list_behind r h) number acts
+    ≡ ended (trim_line r) ++ lines_left (base_after r b h) (list_after r h) number acts
 unfolding lines_left
 lines_left-trim b h number acts (Ok count) is =
     let same : number + 0 ≡ number = omega arith in
@@ -134,26 +134,26 @@ lines_left-trim b h number acts (Err fault) is =
     ∙ ap (λ (n : ℕ). ended (trim_line (Err fault)) ++ done_lines n acts (outcome b h acts).done) same
 
 base_left-trim : (b : Base) (h : List Entry) (acts : List Act) (r : Result ℕ Fault) → IsTrimOf r b h →
-    base_left b h (Trim ∷ acts) ≡ base_left (base_behind r b h) (list_behind r h) acts
+    base_left b h (Trim ∷ acts) ≡ base_left (base_after r b h) (list_after r h) acts
 unfolding base_left
 base_left-trim b h acts (Ok count) is = ap (λ t. (choice t b h acts).base) is.1
 base_left-trim b h acts (Err fault) is = ap (λ t. (choice t b h acts).base) is.1
 
 entries_left-trim : (b : Base) (h : List Entry) (acts : List Act) (r : Result ℕ Fault) → IsTrimOf r b h →
-    entries_left b h (Trim ∷ acts) ≡ entries_left (base_behind r b h) (list_behind r h) acts
+    entries_left b h (Trim ∷ acts) ≡ entries_left (base_after r b h) (list_after r h) acts
 unfolding entries_left
 entries_left-trim b h acts (Ok count) is = ap (λ t. (choice t b h acts).entries) is.1
 entries_left-trim b h acts (Err fault) is = ap (λ t. (choice t b h acts).entries) is.1
 
 pub same_count : (r : Result ℕ Fault) (b : Base) (h : List Entry) →
-    (base_behind r b h).entries + length (list_behind r h) ≡ b.entries + length h
+    (base_after r b h).entries + length (list_after r h) ≡ b.entries + length h
 same_count (Ok count) b h = omega arith
 same_count (Err fault) b h = refl
 
 -- ---- a replay under way
 
--- Behind these acts of a text, whatever follows: the lines that were told, with those that are left, are all;
--- and so are the base and the entries.
+-- After these acts of a text, whatever follows: the lines of their answers, with those that are left, are
+-- all; and so are the base and the entries.
 pub record PlayedSoFar (header : Header) (acts : List Act) (out : List ℕ) (b : Base) (h : List Entry) :
     Type 0 where
   pub lines : (left : List Act) → out ++ lines_left b h (b.entries + length h) left
@@ -162,74 +162,74 @@ pub record PlayedSoFar (header : Header) (acts : List Act) (out : List ℕ) (b :
   pub entries : (left : List Act) →
       entries_left b h left ≡ entries_left (opening_base header) [] (acts ++ left)
 
--- nothing was told yet
-pub told_none : (header : Header) → PlayedSoFar header [] [] (opening_base header) []
-told_none header = record { lines = λ left. refl; base = λ left. refl; entries = λ left. refl }
+-- nothing was answered yet
+pub played_none : (header : Header) → PlayedSoFar header [] [] (opening_base header) []
+played_none header = record { lines = λ left. refl; base = λ left. refl; entries = λ left. refl }
 
--- one act more, behind which this is left
-told_next : (header : Header) (acts : List Act) (out : List ℕ) (b : Base) (h : List Entry) (x : Act)
+-- one act more, after which this is left
+played_next : (header : Header) (acts : List Act) (out : List ℕ) (b : Base) (h : List Entry) (x : Act)
     (line : List ℕ) (b' : Base) (h' : List Entry) → PlayedSoFar header acts out b h
     → ((left : List Act) → lines_left b h (b.entries + length h) (x ∷ left)
     ≡ line ++ lines_left b' h' (b'.entries + length h') left)
     → ((left : List Act) → base_left b h (x ∷ left) ≡ base_left b' h' left)
     → ((left : List Act) → entries_left b h (x ∷ left) ≡ entries_left b' h' left)
     → PlayedSoFar header (acts ++ x ∷ []) (out ++ line) b' h'
-told_next header acts out b h x line b' h' told lines base entries =
+played_next header acts out b h x line b' h' played lines base entries =
     let k = opening_base header in
     let whole : (left : List Act) → acts ++ x ∷ left ≡ (acts ++ x ∷ []) ++ left =
     λ left. sym (append_assoc acts (x ∷ []) left) in
     record {
       lines = λ left. append_assoc out line (lines_left b' h' (b'.entries + length h') left)
-          ∙ ap (λ (t : List ℕ). out ++ t) (sym (lines left)) ∙ told.lines (x ∷ left)
+          ∙ ap (λ (t : List ℕ). out ++ t) (sym (lines left)) ∙ played.lines (x ∷ left)
           ∙ ap (lines_left k [] 0) (whole left);
-      base = λ left. sym (base left) ∙ told.base (x ∷ left) ∙ ap (base_left k []) (whole left);
-      entries = λ left. sym (entries left) ∙ told.entries (x ∷ left) ∙ ap (entries_left k []) (whole left);
+      base = λ left. sym (base left) ∙ played.base (x ∷ left) ∙ ap (base_left k []) (whole left);
+      entries = λ left. sym (entries left) ∙ played.entries (x ∷ left) ∙ ap (entries_left k []) (whole left);
     }
 
-pub told_more : (header : Header) (acts : List Act) (out : List ℕ) (b : Base) (h : List Entry) (i : ℕ)
+pub played_step : (header : Header) (acts : List Act) (out : List ℕ) (b : Base) (h : List Entry) (i : ℕ)
     (step : Step) (r : Result Answer Fault) (h' : List Entry) → PlayedSoFar header acts out b h →
     r ≡ (answer (based b) h i step).0 → h' ≡ (answer (based b) h i step).1
     → PlayedSoFar header (acts ++ Do i step ∷ []) (out ++ ended (answer_line (b.entries + length h) i r)) b h'
-told_more header acts out b h i step r h' told p q =
+played_step header acts out b h i step r h' played p q =
     let count : (b.entries + length h) + entries_of r ≡ b.entries + length h' =
     omega (arith, ap length (added_is (based b) h i step r h' p q), added_count r h) in
-    told_next header acts out b h (Do i step) (ended (answer_line (b.entries + length h) i r)) b h' told
+    played_next header acts out b h (Do i step) (ended (answer_line (b.entries + length h) i r)) b h' played
     (λ left. lines_left-do b h (b.entries + length h) i step left r h' p q
     ∙ ap (λ (n : ℕ). ended (answer_line (b.entries + length h) i r) ++ lines_left b h' n left) count)
     (λ left. base_left-do b h i step left h' q)
     (λ left. entries_left-do b h i step left h' q)
 
-pub told_trim : (header : Header) (acts : List Act) (out : List ℕ) (b : Base) (h : List Entry)
+pub played_trim : (header : Header) (acts : List Act) (out : List ℕ) (b : Base) (h : List Entry)
     (r : Result ℕ Fault) → PlayedSoFar header acts out b h → IsTrimOf r b h
-    → PlayedSoFar header (acts ++ Trim ∷ []) (out ++ ended (trim_line r)) (base_behind r b h)
-    (list_behind r h)
-told_trim header acts out b h r told is =
-    told_next header acts out b h Trim (ended (trim_line r)) (base_behind r b h) (list_behind r h) told
+    → PlayedSoFar header (acts ++ Trim ∷ []) (out ++ ended (trim_line r)) (base_after r b h)
+    (list_after r h)
+played_trim header acts out b h r played is =
+    played_next header acts out b h Trim (ended (trim_line r)) (base_after r b h) (list_after r h) played
     (λ left. lines_left-trim b h (b.entries + length h) left r is
-    ∙ ap (λ (n : ℕ). ended (trim_line r) ++ lines_left (base_behind r b h) (list_behind r h) n left)
+    ∙ ap (λ (n : ℕ). ended (trim_line r) ++ lines_left (base_after r b h) (list_after r h) n left)
     (sym (same_count r b h)))
     (λ left. base_left-trim b h left r is)
     (λ left. entries_left-trim b h left r is)
 
 -- nothing is left
-pub told_all : (header : Header) (acts : List Act) (out : List ℕ) (b : Base) (h : List Entry) →
+pub played_all : (header : Header) (acts : List Act) (out : List ℕ) (b : Base) (h : List Entry) →
     PlayedSoFar header acts out b h → out ≡ done_lines 0 acts (outcome (opening_base header) [] acts).done
-told_all header acts out b h told =
+played_all header acts out b h played =
     let k = opening_base header in
     sym (ap (λ (t : List ℕ). out ++ t) (lines_left-nil b h (b.entries + length h)) ∙ append-nil out)
-    ∙ told.lines [] ∙ ap (lines_left k [] 0) (append-nil acts) ∙ lines_left-is k [] 0 acts
+    ∙ played.lines [] ∙ ap (lines_left k [] 0) (append-nil acts) ∙ lines_left-is k [] 0 acts
 
 pub base_all : (header : Header) (acts : List Act) (out : List ℕ) (b : Base) (h : List Entry) →
     PlayedSoFar header acts out b h → b ≡ (outcome (opening_base header) [] acts).base
-base_all header acts out b h told =
+base_all header acts out b h played =
     let k = opening_base header in
-    sym (base_left-nil b h) ∙ told.base [] ∙ ap (base_left k []) (append-nil acts) ∙ base_left-is k [] acts
+    sym (base_left-nil b h) ∙ played.base [] ∙ ap (base_left k []) (append-nil acts) ∙ base_left-is k [] acts
 
 pub entries_all : (header : Header) (acts : List Act) (out : List ℕ) (b : Base) (h : List Entry) →
     PlayedSoFar header acts out b h → h ≡ (outcome (opening_base header) [] acts).entries
-entries_all header acts out b h told =
+entries_all header acts out b h played =
     let k = opening_base header in
-    sym (entries_left-nil b h) ∙ told.entries [] ∙ ap (entries_left k []) (append-nil acts)
+    sym (entries_left-nil b h) ∙ played.entries [] ∙ ap (entries_left k []) (append-nil acts)
     ∙ entries_left-is k [] acts
 
 -- ---- what a core answers

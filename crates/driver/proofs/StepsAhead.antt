@@ -3,6 +3,7 @@ use Rattle.std.proofs.Common.{◌≡◌, ℕ, zero, suc, ◌<◌, ◌≤◌, ◌
 use Rattle.std.proofs.Common.{◌++◌, length, Option, None, Some, Ok, refl, ap, arith}
 use Rattle.frame.specs.declared.acts.Act.{Act}
 use Rattle.history.specs.Header.{IsInRange}
+use Rattle.line_text.specs.declared.limits.TheConstants.{LINE_BYTES}
 use Rattle.line_text.specs.Form.{Form}
 use Rattle.line_text.specs.UnderWay.{IsLineBehind}
 use Rattle.steps.specs.declared.header.StepsHeader.{StepsHeader}
@@ -30,7 +31,7 @@ next_act h count window act left is = (is []).1.fits (repeated count act) (as_ma
 -- its line is short
 pub next_short : (h : StepsHeader) (count : ℕ) (window : List ℕ) (act : Act) (left : ℕ) → IsInRange h.header →
     IsLineBehind steps_form (steps_so_far h count) window (Ok (Some (act, left)))
-    → length (act_line act) < 256
+    → length (act_line act) < LINE_BYTES
 next_short h count window act left range is =
     short.item h [] act range tt (next_act h count window act left is)
 

@@ -51,43 +51,43 @@ entry_more xs from number e since at =
     ∙ ap (λ (n : ℕ). entry_lines from (take k ys) ++ ended (entry_line n e)) counted
 
 -- one more remark
-pub told_on : (es : List Entry) (remarks : List Remark) (index number : ℕ) (d : Remark)
-    (all told : List ℕ) → index < length remarks → all ≡ told ++ told_lines es number (drop index remarks)
-    → all ≡ (told ++ entry_lines number
+pub remark_next : (es : List Entry) (remarks : List Remark) (index number : ℕ) (d : Remark)
+    (all so_far : List ℕ) → index < length remarks → all ≡ so_far ++ told_lines es number (drop index remarks)
+    → all ≡ (so_far ++ entry_lines number
     (take ((get_or remarks index d).before - number) (drop number es)))
     ++ (said_line (get_or remarks index d).said (get_or remarks index d).before
     (get_or remarks index d).seat (slice_get es (get_or remarks index d).before)
     ++ told_lines es ((get_or remarks index d).before + entries_said (get_or remarks index d).said)
     (drop (index + 1) remarks))
-told_on es remarks index number d all told lt is =
+remark_next es remarks index number d all so_far lt is =
     let r = get_or remarks index d in
-    is ∙ ap (λ (rs : List Remark). told ++ told_lines es number rs) (drop_more remarks index d lt)
-    ∙ sym (append_assoc told (entry_lines number (take (r.before - number) (drop number es)))
+    is ∙ ap (λ (rs : List Remark). so_far ++ told_lines es number rs) (drop_more remarks index d lt)
+    ∙ sym (append_assoc so_far (entry_lines number (take (r.before - number) (drop number es)))
     (said_line r.said r.before r.seat (slice_get es r.before)
     ++ told_lines es (r.before + entries_said r.said) (drop (index + 1) remarks)))
 
-pub told_further : (es : List Entry) (remarks : List Remark) (index number : ℕ) (d : Remark)
-    (all told : List ℕ) → index < length remarks → all ≡ told ++ told_lines es number (drop index remarks)
-    → all ≡ ((told ++ entry_lines number
+pub remark_further : (es : List Entry) (remarks : List Remark) (index number : ℕ) (d : Remark)
+    (all so_far : List ℕ) → index < length remarks → all ≡ so_far ++ told_lines es number (drop index remarks)
+    → all ≡ ((so_far ++ entry_lines number
     (take ((get_or remarks index d).before - number) (drop number es)))
     ++ said_line (get_or remarks index d).said (get_or remarks index d).before (get_or remarks index d).seat
     (slice_get es (get_or remarks index d).before))
     ++ told_lines es ((get_or remarks index d).before + entries_said (get_or remarks index d).said)
     (drop (index + 1) remarks)
-told_further es remarks index number d all told lt is =
+remark_further es remarks index number d all so_far lt is =
     let r = get_or remarks index d in
-    told_on es remarks index number d all told lt is
-    ∙ sym (append_assoc (told ++ entry_lines number (take (r.before - number) (drop number es)))
+    remark_next es remarks index number d all so_far lt is
+    ∙ sym (append_assoc (so_far ++ entry_lines number (take (r.before - number) (drop number es)))
     (said_line r.said r.before r.seat (slice_get es r.before))
     (told_lines es (r.before + entries_said r.said) (drop (index + 1) remarks)))
 
 -- no further remark
-pub told_last : (es : List Entry) (remarks : List Remark) (index number count : ℕ) (all told : List ℕ) →
-    length remarks ≤ index → count ≡ length es → all ≡ told ++ told_lines es number (drop index remarks)
-    → all ≡ told ++ entry_lines number (take (count - number) (drop number es))
-told_last es remarks index number count all told past counted is =
-    is ∙ ap (λ (rs : List Remark). told ++ told_lines es number rs) (drop_all index remarks past)
-    ∙ ap (λ (xs : List Entry). told ++ entry_lines number xs)
+pub remark_last : (es : List Entry) (remarks : List Remark) (index number count : ℕ) (all so_far : List ℕ) →
+    length remarks ≤ index → count ≡ length es → all ≡ so_far ++ told_lines es number (drop index remarks)
+    → all ≡ so_far ++ entry_lines number (take (count - number) (drop number es))
+remark_last es remarks index number count all so_far past counted is =
+    is ∙ ap (λ (rs : List Remark). so_far ++ told_lines es number rs) (drop_all index remarks past)
+    ∙ ap (λ (xs : List Entry). so_far ++ entry_lines number xs)
     (sym (take_all (count - number) (drop number es) (omega (arith, counted, length-drop number es))))
 
 -- adding goes on

@@ -13,7 +13,7 @@ pub five : (o p q r s t a w b x c y d z e v : List ℕ) → p ≡ o ++ a ++ w �
 five o p q r s t a w b x c y d z e v first second third fourth fifth =
     fifth ∙ rw (four o p q r s a w b x c y d z first second third fourth) (simp append_assoc)
 
--- lines, of which the last is ended behind its words
+-- lines, of which the last is ended after its words
 pub lines : (p o q r s t a b c d e : List ℕ) → p ≡ a → o ≡ p ++ b → q ≡ o ++ c → r ≡ q ++ d → s ≡ r ++ e →
     t ≡ s ++ 10 ∷ [] → t ≡ a ++ b ++ c ++ d ++ (e ++ 10 ∷ [])
 lines p o q r s t a b c d e first second third fourth fifth sixth =

@@ -1,5 +1,5 @@
 -- What is written for a history text.
-use Rattle.std.specs.Prelude.{◌≡◌, ℕ, List, Option, Result, IfSome, reverse}
+use Rattle.std.specs.Prelude.{ℕ, List, Option, Result, reverse}
 use Rattle.audit.specs.declared.verdict.Verdict.{Verdict}
 use Rattle.audit.specs.declared.verdict.Verdict.TheVariants.{Legal, NotLegal}
 use Rattle.audit.specs.Verdict.{IsFirstWrong}
@@ -8,7 +8,6 @@ use Rattle.history.specs.Base.{Base, based}
 use Rattle.history.specs.Legal.{IsLegal}
 use Rattle.history_text.specs.HistoryText.{IsHistoryText, history_form}
 use Rattle.streams.specs.declared.stream_fault.StreamFault.{StreamFault}
-use Rattle.driver.specs.declared.verdict_text.VerdictText.{VerdictText}
 use Rattle.driver.specs.AuditText.{audit_text}
 use Rattle.streams.specs.Streams.{IsReadOut, Streams}
 
@@ -19,18 +18,13 @@ IsVerdict b entries (NotLegal number) = IsFirstWrong (based b) entries number
 
 -- The text is the history text of a base and these entries, the newest first. The verdict on them is this
 -- one, and this is written for them.
-pub record IsToldOf (Tells : Base → List Entry → Verdict → List ℕ) (text : List ℕ) (verdict : Verdict)
+pub record IsToldOf (text_for : Base → List Entry → Verdict → List ℕ) (text : List ℕ) (verdict : Verdict)
     (Written : List ℕ → Type 0) : Type 0 where
   pub base : Base
   pub entries : List Entry
   pub is : IsHistoryText text base (reverse entries)
   pub judged : IsVerdict base entries verdict
-  pub written : Written (Tells base entries verdict)
-
--- if what is left of a text is known, this verdict and text are those for it
-abbrev pub IsTold : (Base → List Entry → Verdict → List ℕ) → Option (List ℕ) → VerdictText → Type 0
-IsTold Tells left told =
-    IfSome left (λ text. IsToldOf Tells text told.verdict (λ written. told.text.items ≡ written))
+  pub written : Written (text_for base entries verdict)
 
 -- the audit text is written
 abbrev pub Audited : List ℕ → Verdict → (List ℕ → Type 0) → Type 0

@@ -1,31 +1,12 @@
 -- Reading a base from a source, line by line.
-use Rattle.std.specs.Prelude.{◌≡◌, ℕ, ◌+◌, ◌≤◌, Bool, true, false, List, [], length, map, Option, Result, Ok, Err, IfSome, IsSomeAnd}
-use Rattle.std.specs.Io.KnownBytes.{Keeps, prepend_known}
+use Rattle.std.specs.Prelude.{◌≡◌, ℕ, ◌≤◌, List, Option, IfSome, IsSomeAnd}
+use Rattle.std.specs.Io.KnownBytes.{prepend_known}
 use Rattle.history.specs.declared.entry.Entry.{Entry}
 use Rattle.history.specs.Base.{Base, based}
-use Rattle.history.specs.Entries.{or_opening}
+use Rattle.history_text.specs.declared.base_under_way.TheConstants.{MOST_LINES}
 use Rattle.history_text.specs.declared.place.Head.{Head}
 use Rattle.history_text.specs.declared.place.Place.{Place}
-use Rattle.history_text.specs.HistoryText.{history_form}
-use Rattle.history_text.specs.NextLine.{AreEntriesRead, HasShortLine, LacksBaseLine, LinesRead}
-use Rattle.history_text.specs.TextLines.{Based, Line}
-use Rattle.history_text.specs.ToldBases.{GoodHas}
-use Rattle.line_text.specs.UnderWay.{SoFar}
-use Rattle.streams.specs.declared.stream_fault.StreamFault.{StreamFault}
-use Rattle.driver.specs.TextReader.{IsFaultOf, WereRead, reader_at}
-
--- what is known after these lines were read: exactly these
-abbrev pub lines_known : Head → List Line → SoFar Head Line
-lines_known h lines = record { header = h; count = length lines; known = λ all. all ≡ lines }
-
--- these lines of a text were read; the reader holds these bytes, and this is left in its source
-abbrev pub LinesBehind : Option (List ℕ) → Head → List Line → List ℕ → Option (List ℕ) → Type 0
-LinesBehind text h lines bytes left = WereRead history_form text (reader_at (lines_known h lines) bytes
-    left) lines
-
--- only the first line was read
-abbrev pub HeadRead : Option (List ℕ) → Head → List ℕ → Option (List ℕ) → Type 0
-HeadRead text h bytes left = LinesBehind text h [] bytes left
+use Rattle.history_text.specs.NextLine.{AreEntriesRead}
 
 -- the text's base was read, and these entries after it, the oldest first; the reader's position is after them
 abbrev pub EntriesBehind : Option (List ℕ) → Head → Base → List Entry → Place → List ℕ → Option (List ℕ) →
@@ -33,43 +14,9 @@ abbrev pub EntriesBehind : Option (List ℕ) → Head → Base → List Entry �
 EntriesBehind text h b es place bytes left =
     IfSome text (λ t. IsSomeAnd (prepend_known bytes left) (AreEntriesRead t h b es place))
 
--- A line of a base was read. Or the base is complete, and the next line is whole in the window and isn't one
--- of a base. Or this is the fault, whatever the text.
-abbrev pub IsLineTaken : LinesRead → List ℕ → Option (List ℕ) → Result Bool StreamFault → LinesRead → List ℕ →
-    Option (List ℕ) → Type 0
-IsLineTaken old bytes left (Ok true) new grown after =
-    (length new.lines ≡ length old.lines + 1)
-    × ((text : Option (List ℕ)) (h : Head) → h.is_based ≡ true → h.header ≡ old.header →
-    LinesBehind text h (map Based old.lines) bytes left → LinesBehind text h (map Based new.lines) grown
-    after)
-IsLineTaken old bytes left (Ok false) new grown after =
-    (new ≡ old) × GoodHas old.header old.lines × LacksBaseLine grown × HasShortLine grown
-    × Keeps (prepend_known bytes left) (prepend_known grown after)
-IsLineTaken old bytes left (Err fault) new grown after =
-    (text : Option (List ℕ)) (h : Head) → h.is_based ≡ true → h.header ≡ old.header →
-    LinesBehind text h (map Based old.lines) bytes left → IsFaultOf history_form text after fault
-
 -- a position right after a base
 pub record IsPlacedBehind (b : Base) (place : Place) : Type 0 where
-  pub lines : place.lines ≤ 1024
+  pub lines : place.lines ≤ MOST_LINES
   pub folded : place.folded ≡ b.entries
   pub count : place.count ≡ 0
   pub calls : place.calls ≡ (based b).calls
-
--- what is read after the first line, whatever the text
-abbrev pub IsBaseRead : Head → List ℕ → Option (List ℕ) → Result (Base × Place) StreamFault → List ℕ →
-    Option (List ℕ) → Type 0
-IsBaseRead h old left (Ok read) new after =
-    (text : Option (List ℕ)) → HeadRead text h old left →
-    EntriesBehind text h read.0 [] read.1 new after
-IsBaseRead h old left (Err fault) new after =
-    (text : Option (List ℕ)) → HeadRead text h old left → IsFaultOf history_form text after fault
-
--- the same if base lines may be missing
-abbrev pub IsBeginningRead : Head → List ℕ → Option (List ℕ) → Result (Option Base × Place) StreamFault →
-    List ℕ → Option (List ℕ) → Type 0
-IsBeginningRead h old left (Ok read) new after =
-    (text : Option (List ℕ)) → HeadRead text h old left →
-    EntriesBehind text h (or_opening h.header read.0) [] read.1 new after
-IsBeginningRead h old left (Err fault) new after =
-    (text : Option (List ℕ)) → HeadRead text h old left → IsFaultOf history_form text after fault

@@ -1,6 +1,7 @@
 -- Which entries of a history are drawn.
 use Rattle.std.specs.Prelude.{ℕ, ◌+◌, ◌-◌, ◌^◌, Bool, false, min, nat_lt, Option, Some, None}
 use Rattle.driver.specs.declared.choice.Choice.{Choice}
+use Rattle.driver.specs.declared.limits.TheConstants.{UNCHOSEN}
 
 abbrev pub or_zero : Option ℕ → ℕ
 or_zero None = 0
@@ -10,11 +11,11 @@ or_zero (Some number) = number
 abbrev pub first_of : Choice → ℕ → ℕ
 first_of c folded = or_zero c.from - folded
 
--- how many are before the end of those to draw; if none are chosen, the first 2,000 are drawn
+-- how many are before the end of those to draw; if none are chosen, the first UNCHOSEN are drawn
 abbrev pub end_between : Option ℕ → Option ℕ → ℕ → ℕ
 end_between from (Some number) folded = min (number + 1) (2 ^ 64 - 1) - folded
 end_between (Some number) None folded = 2 ^ 64 - 1
-end_between None None folded = 2000
+end_between None None folded = UNCHOSEN
 
 abbrev pub end_of : Choice → ℕ → ℕ
 end_of c folded = end_between c.from c.to folded
@@ -23,7 +24,7 @@ end_of c folded = end_between c.from c.to folded
 abbrev pub is_cut_between : Option ℕ → Option ℕ → ℕ → Bool
 is_cut_between (Some from) to entries = false
 is_cut_between None (Some to) entries = false
-is_cut_between None None entries = nat_lt 2000 entries
+is_cut_between None None entries = nat_lt UNCHOSEN entries
 
 abbrev pub is_cut : Choice → ℕ → Bool
 is_cut c entries = is_cut_between c.from c.to entries

@@ -1,5 +1,5 @@
 -- Reading a history text from a source, one entry at a time.
-use Rattle.std.specs.Prelude.{◌≡◌, ◌-◌, ◌<◌, ◌≤◌, ℕ, List, [], ◌∷◌, ◌++◌, drop, length, Option, Some, None, Result, Ok, Err, IfSome}
+use Rattle.std.specs.Prelude.{◌≡◌, ◌<◌, ◌≤◌, ℕ, List, [], ◌∷◌, ◌++◌, Option, Some, None, Result, Ok, Err, IfSome}
 use Rattle.history.specs.declared.entry.Entry.{Entry}
 use Rattle.history.specs.declared.header.Header.{Header}
 use Rattle.history.specs.Base.{Base}
@@ -24,17 +24,6 @@ pub record EntriesHeld : Type 0 where
 -- what the history begins from
 abbrev pub base_held : EntriesHeld → Base
 base_held held = or_opening held.header held.base
-
--- the reader after one more entry, with `left` bytes after it
-abbrev pub entry_passed : Entry → ℕ → EntriesHeld → EntriesHeld
-entry_passed e left held =
-    record {
-      header = held.header;
-      base = held.base;
-      place = behind held.place e;
-      bytes = drop (length held.bytes - left) held.bytes;
-      places = held.places;
-    }
 
 -- no entry was read
 abbrev pub IsStart : EntriesHeld → Type 0
@@ -64,12 +53,3 @@ IsEntryNext old left (Ok None) new after =
 IsEntryNext old left (Err fault) new after =
     (text : Option (List ℕ)) (es : List Entry) → EntriesRead text old left es →
     IsFaultOf history_form text after fault
-
--- P holds for each text whose header and base were read, and no entry yet
-abbrev pub OfHistory : EntriesHeld → Option (List ℕ) → (List ℕ → Type 0) → Type 0
-OfHistory held left P = (text : Option (List ℕ)) → EntriesRead text held left [] → IfSome text P
-
--- the faults after that, whatever the text
-abbrev pub IsFaultBehindBase : EntriesHeld → Option (List ℕ) → Option (List ℕ) → StreamFault → Type 0
-IsFaultBehindBase held left after fault =
-    (text : Option (List ℕ)) → EntriesRead text held left [] → IsFaultOf history_form text after fault

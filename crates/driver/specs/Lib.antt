@@ -4,7 +4,6 @@ pub mod AuditText
 pub mod BaseReader
 pub mod Choice
 pub mod DrawStream
-pub mod Judged
 pub mod LineWriter
 pub mod Remarks
 pub mod Replay
@@ -13,4 +12,4 @@ pub mod ReplayText
 pub mod StepReader
 pub mod HistoryReader
 pub mod TextReader
-pub mod Logged
+pub mod inner

@@ -1,5 +1,5 @@
 -- Answers as recorded entries, with remarks for what no entry has.
-use Rattle.std.specs.Prelude.{◌≡◌, ℕ, ◌+◌, ◌-◌, List, [], ◌∷◌, ◌++◌, Option, Some, None, Result, Ok, Err, drop, take, slice_get}
+use Rattle.std.specs.Prelude.{ℕ, ◌+◌, ◌-◌, List, [], ◌∷◌, ◌++◌, Option, Some, None, Result, Ok, Err, drop, take, slice_get}
 use Rattle.history.specs.declared.entry.Entry.{Entry}
 use Rattle.history.specs.declared.fault.Fault.{Fault}
 use Rattle.history.specs.declared.step.Answer.{Answer}
@@ -23,11 +23,6 @@ remark_of before seat (Err fault) = Some (record { before = before; seat = seat;
 abbrev pub trim_remark : ℕ → Result ℕ Fault → Remark
 trim_remark before (Ok count) = record { before = before; seat = 0; said = Folds count }
 trim_remark before (Err fault) = record { before = before; seat = 0; said = FoldsNone fault }
-
--- a remark is added, if there is one
-abbrev pub IsRemarked : List Remark → Option Remark → List Remark → Type 0
-IsRemarked old None new = new ≡ old
-IsRemarked old (Some r) new = new ≡ old ++ r ∷ []
 
 -- the line of an answer with this remark on a seat or a trim; IsNamed needs the entry with this number
 abbrev pub said_line : Said → ℕ → ℕ → Option Entry → List ℕ

@@ -1,5 +1,5 @@
 -- What is written for what is read.
-use Rattle.std.specs.Prelude.{◌≡◌, ℕ, List, Option, Result, IfSome}
+use Rattle.std.specs.Prelude.{◌≡◌, ℕ, List, Option, Result}
 use Rattle.frame.specs.declared.acts.Act.{Act}
 use Rattle.frame.specs.Acts.{Outcome}
 use Rattle.history.specs.declared.entry.Entry.{Entry}
@@ -43,18 +43,11 @@ pub record Replayed (form : Form) (text : List ℕ) (Written : List ℕ → Type
   pub lawful : IsLawful (behind_acts header acts).base (behind_acts header acts).entries
   pub written : Written (answer_text form header acts)
 
--- this is what is written for the text, if the text is known
-abbrev pub IsAnswerTo : Form → Option (List ℕ) → List ℕ → Type 0
-IsAnswerTo form text answer = IfSome text (λ t. Replayed form t (λ written. answer ≡ written))
-
--- the same for each text whose header was read
+-- this is what is written for each text whose header was read
 abbrev pub IsAnswerBehind : Form → Progress StepsHeader Act → List ℕ → Type 0
 IsAnswerBehind form p answer = OfText steps_form p (λ t. Replayed form t (λ written. answer ≡ written))
 
 -- in each form, what is written for these answers is what must be written for the text
-abbrev pub AreAnswersTo : Option (List ℕ) → AllAnswers → Type 0
-AreAnswersTo text answers = (form : Form) → IsAnswerTo form text (answers_text form answers)
-
 abbrev pub AreAnswersBehind : Progress StepsHeader Act → AllAnswers → Type 0
 AreAnswersBehind p answers = (form : Form) → IsAnswerBehind form p (answers_text form answers)
 

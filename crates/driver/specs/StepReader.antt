@@ -1,5 +1,5 @@
 -- Reading a steps text from a source, one act at a time.
-use Rattle.std.specs.Prelude.{◌+◌, ◌-◌, ℕ, drop, length, List, Option}
+use Rattle.std.specs.Prelude.{ℕ, List, Option}
 use Rattle.frame.specs.declared.acts.Act.{Act}
 use Rattle.steps.specs.declared.header.StepsHeader.{StepsHeader}
 use Rattle.steps.specs.StepsText.{steps_so_far}
@@ -12,16 +12,6 @@ pub record Held : Type 0 where
   pub count : ℕ
   pub bytes : List ℕ
   pub places : ℕ
-
--- the reader after one more act, with `left` bytes after it
-abbrev pub passed : ℕ → Held → Held
-passed left held =
-    record {
-      header = held.header;
-      count = held.count + 1;
-      bytes = drop (length held.bytes - left) held.bytes;
-      places = held.places;
-    }
 
 -- the progress of a reader; `left` is what its source still has
 abbrev pub progress : Held → Option (List ℕ) → Progress StepsHeader Act

@@ -1,8 +1,7 @@
 -- Reading a text from a source, one item at a time.
-use Rattle.std.specs.Prelude.{◌≡◌, ◌≢◌, ◌+◌, ◌≤◌, ℕ, List, [], ◌∷◌, ◌++◌, length, Option, Some, None, Result, Ok, Err, IfSome, IsSomeAnd}
-use Rattle.std.specs.Io.KnownBytes.{IsAtEnd, Keeps, prepend_known}
+use Rattle.std.specs.Prelude.{◌+◌, ◌≤◌, ℕ, List, [], ◌∷◌, ◌++◌, length, Option, Some, None, Result, Ok, Err, IfSome, IsSomeAnd}
+use Rattle.std.specs.Io.KnownBytes.{Keeps, prepend_known}
 use Rattle.line_text.specs.Form.{Form}
-use Rattle.line_text.specs.declared.fault.TextFault.TheVariants.{BadLine}
 use Rattle.line_text.specs.Reading.{IsText, IsReading}
 use Rattle.line_text.specs.UnderWay.{SoFar, AreRead}
 use Rattle.streams.specs.declared.stream_fault.StreamFault.{StreamFault}
@@ -54,15 +53,6 @@ IsFaultOn {H} {I} form p left fault =
 -- there is no text of which these items were read
 abbrev pub IsOfNoText : {H I : Type 0} → Form H I → Progress H I → Type 0
 IsOfNoText {H} {I} form p = (text : List ℕ) (items : List I) → WereRead form (Some text) p items → ⊥
-
--- what follows the end line after `count` items: nothing, or what makes the next line a bad one
-abbrev pub IsBehindEnd : {I : Type 0} → ℕ → Option (List ℕ) → Result (Option I) StreamFault → Type 0
-IsBehindEnd count left (Ok (Some item)) = ⊥
-IsBehindEnd count left (Ok None) = IsAtEnd left
-IsBehindEnd count left (Err (Text fault)) = (fault ≡ BadLine (count + 3)) × IfSome left (λ more. more ≢ [])
-IsBehindEnd count left (Err ReadFailed) = Unit {0}
-IsBehindEnd count left (Err Memory) = ⊥
-IsBehindEnd count left (Err WriteFailed) = ⊥
 
 -- After whatever items: one more was read, or they are all, or this is the fault of the text or of its
 -- source, which has this left.

@@ -2,6 +2,7 @@
 
 ghost use Rattle.std.specs.Prelude.{◌≡◌, ◌+◌, ◌++◌, ◌≤◌, IfSome, codes, decimal, length, take};
 ghost use Rattle.history.specs.Text.{ended};
+ghost use Rattle.driver.specs.declared.limits.TheConstants.{LONGEST_LINE};
 ghost use Rattle.driver.specs.Replay.{HasLine};
 ghost use Rattle.driver.specs.ReplayText.{answer_line, trim_line};
 
@@ -23,8 +24,8 @@ pub fn spell_answer(
     answer: &Result<Answer, Fault>,
 ) -> usize
     requires spelt { HasLine answer.now }
-    requires room { at + 136 ≤ length line.old }
-    ensures end { result ≤ at + 136 }
+    requires room { at + LONGEST_LINE ≤ length line.old }
+    ensures end { result ≤ at + LONGEST_LINE }
     ensures line { take result line.new ≡ take at line.old ++ ended (answer_line number seat answer.now) }
 {
     match answer {
@@ -69,8 +70,8 @@ fn put_waking(line: &mut [u8], at: usize, named: Option<u16>) -> usize
 
 /// Writes the line of a trim from position `at` on, over bytes that are there. Returns the position after it.
 pub fn spell_trim(line: &mut [u8], at: usize, answer: &Result<u64, Fault>) -> usize
-    requires { at + 136 ≤ length line.old }
-    ensures end { result ≤ at + 136 }
+    requires { at + LONGEST_LINE ≤ length line.old }
+    ensures end { result ≤ at + LONGEST_LINE }
     ensures line { take result line.new ≡ take at line.old ++ ended (trim_line answer.now) }
 {
     let break_at = match answer {

@@ -2,7 +2,8 @@
 
 ghost use Rattle.std.specs.Prelude.{◌≡◌, ◌↔◌, false, IsTrue, IfErr, IfOk, IsErrOf, OnOk};
 ghost use Rattle.std.specs.Io.KnownBytes.{IsAtEnd};
-ghost use Rattle.driver.specs.AuditStream.{Audits, IsTold};
+ghost use Rattle.driver.specs.AuditStream.{Audits};
+ghost use Rattle.driver.specs.inner.VerdictText.{IsVerdictText};
 ghost use Rattle.driver.specs.AuditText.{audit_text};
 ghost use Rattle.driver.specs.TextReader.{IsFaultOf};
 ghost use Rattle.history_text.specs.HistoryText.{history_form};
@@ -11,7 +12,7 @@ ghost use Rattle.streams.specs.Streams.{IsReadNoFurther, IsReadOut};
 use crate::audit_text::audit_text;
 use crate::history_reader::HistoryReader;
 use crate::judged::judged_of;
-use crate::verdict_text::{VerdictText, tell};
+use crate::verdict_text::{VerdictText, write_verdict};
 use audit::verdict::Verdict;
 use std::alloc::Global;
 use streams::sink::Sink;
@@ -38,14 +39,14 @@ pub fn audit_stream<R: Source, W: Sink>(
     ensures read { IsErrOf result StreamFault.ReadFailed ↔ IsTrue (R.failed reader.new) }
     ensures write { IsErrOf result StreamFault.WriteFailed ↔ IsTrue (W.failed writer.new) }
 {
-    let told = audit_of(alloc, reader);
-    tell(reader, writer, told)
+    let outcome = audit_of(alloc, reader);
+    write_verdict(reader, writer, outcome)
 }
 
 /// Returns the audit text of the history text that a source has.
 fn audit_of<R: Source>(alloc: Global, reader: &mut R) -> Result<VerdictText, StreamFault>
     requires { R.failed reader.old ≡ false }
-    ensures ok { IfOk result (IsTold audit_text (R.left reader.old)) }
+    ensures ok { IfOk result (IsVerdictText audit_text (R.left reader.old)) }
     ensures err { IfErr result (IsFaultOf history_form (R.left reader.old) (R.left reader.new)) }
     ensures memory { OnOk result (IsReadNoFurther history_form (R.left reader.old) (R.left reader.new)) }
     ensures ended { OnOk result (IsAtEnd (R.left reader.new)) }

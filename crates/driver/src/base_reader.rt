@@ -4,7 +4,8 @@ ghost use Rattle.std.specs.Prelude.{◌≡◌, ◌≤◌, ◌↔◌, false, leng
 ghost use Rattle.history.specs.GoodBase.{IsBaseOf};
 ghost use Rattle.history.specs.Header.{IsInRange};
 ghost use Rattle.history_text.specs.declared.base_under_way.TheConstants.{MOST_LINES};
-ghost use Rattle.driver.specs.BaseReader.{IsBaseRead, IsLineTaken, IsPlacedBehind};
+ghost use Rattle.driver.specs.BaseReader.{IsPlacedBehind};
+ghost use Rattle.driver.specs.inner.BaseReader.{IsBaseRead, IsLineTaken};
 ghost use Rattle.streams.specs.Window.{room};
 
 use history::base::Base;

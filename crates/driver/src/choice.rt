@@ -3,8 +3,7 @@
 ghost use Rattle.std.specs.Prelude.{◌≡◌};
 ghost use Rattle.driver.specs.Choice.{end_of, first_of, is_cut};
 
-/// How many entries are drawn if none are chosen.
-const UNCHOSEN: u64 = 2000;
+use crate::limits::UNCHOSEN;
 
 /// The first and the last entry to draw, by their numbers. The numbers count folded entries too.
 #[derive(Clone, Copy, Debug, PartialEq, Eq)]

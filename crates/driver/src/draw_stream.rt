@@ -4,7 +4,7 @@ ghost use Rattle.std.specs.Prelude.{◌≡◌, ◌+◌, ◌<◌, ◌^◌, ◌↔
 ghost use Rattle.std.specs.Prelude.{IsErrOf, OnOk, false, length, reverse, take};
 ghost use Rattle.std.specs.List.{All};
 ghost use Rattle.std.specs.Io.KnownBytes.{IsAtEnd};
-ghost use Rattle.driver.specs.AuditStream.{IsTold};
+ghost use Rattle.driver.specs.inner.VerdictText.{IsVerdictText};
 ghost use Rattle.driver.specs.AuditText.{before_wrong};
 ghost use Rattle.driver.specs.DrawStream.{Draws, drawn_text, legal_front, pictured, wrong_of};
 ghost use Rattle.driver.specs.HistoryReader.{base_held};
@@ -16,10 +16,10 @@ ghost use Rattle.streams.specs.Streams.{IsReadNoFurther, IsReadOut};
 use crate::choice::Choice;
 use crate::history_reader::HistoryReader;
 use crate::judged::judged_of;
-use crate::verdict_text::{VerdictText, tell};
+use crate::verdict_text::{VerdictText, write_verdict};
 use audit::verdict::Verdict;
+use drawing::drawn_entries::drawn_of;
 use drawing::laws::bars_are_the_longest_stretches;
-use drawing::whole::drawn_of;
 use history::entry::Entry;
 use picture::document::svg_text;
 use picture::picture::Picture;
@@ -47,8 +47,8 @@ pub fn draw_stream<R: Source, W: Sink>(
     ensures read { IsErrOf result StreamFault.ReadFailed ↔ IsTrue (R.failed reader.new) }
     ensures write { IsErrOf result StreamFault.WriteFailed ↔ IsTrue (W.failed writer.new) }
 {
-    let told = sketch_of(alloc, reader, choice);
-    tell(reader, writer, told)
+    let outcome = sketch_of(alloc, reader, choice);
+    write_verdict(reader, writer, outcome)
 }
 
 /// Returns the picture of the history text that a source has.
@@ -58,7 +58,7 @@ fn sketch_of<R: Source>(
     choice: Choice,
 ) -> Result<VerdictText, StreamFault>
     requires { R.failed reader.old ≡ false }
-    ensures ok { IfOk result (IsTold (drawn_text choice) (R.left reader.old)) }
+    ensures ok { IfOk result (IsVerdictText (drawn_text choice) (R.left reader.old)) }
     ensures err { IfErr result (IsFaultOf history_form (R.left reader.old) (R.left reader.new)) }
     ensures memory { OnOk result (IsReadNoFurther history_form (R.left reader.old) (R.left reader.new)) }
     ensures ended { OnOk result (IsAtEnd (R.left reader.new)) }

@@ -2,7 +2,8 @@
 
 ghost use Rattle.std.specs.Prelude.{◌≡◌, ◌<◌, ◌≤◌, ◌+◌, ◌^◌, ◌↔◌, false, length, None, Ok, IsTrue, IsErrOf};
 ghost use Rattle.std.specs.Io.KnownBytes.{IsAtEnd, Keeps, prepend_known};
-ghost use Rattle.driver.specs.TextReader.{IsBehindEnd};
+ghost use Rattle.driver.specs.inner.TextReader.{IsAfterEnd};
+ghost use Rattle.line_text.specs.declared.limits.TheConstants.{LINE_BYTES};
 ghost use Rattle.streams.specs.Window.{room};
 
 use line_text::fault::TextFault;
@@ -17,10 +18,10 @@ pub(crate) fn end_of<T, R: Source>(
     count: u64,
 ) -> Result<Option<T>, StreamFault>
     requires reader { R.failed reader.old ≡ false }
-    requires end { length window.old.bytes ≤ 255 }
+    requires end { length window.old.bytes < LINE_BYTES }
     requires room { window.old.places ≡ room }
     requires few { count + 3 < 2 ^ 64 }
-    ensures behind { IsBehindEnd count (R.left reader.old) result }
+    ensures after { IsAfterEnd count (R.left reader.old) result }
     ensures ended { result ≡ Ok None → IsAtEnd (R.left reader.new) }
     ensures memory { IsErrOf result StreamFault.Memory → ⊥ }
     ensures failing { IsErrOf result StreamFault.ReadFailed ↔ IsTrue (R.failed reader.new) }

@@ -9,8 +9,10 @@ ghost use Rattle.history.specs.declared.limits.TheConstants.{MOST_FOLDED};
 ghost use Rattle.history.specs.GoodBase.{IsBaseOf};
 ghost use Rattle.history.specs.Header.{IsInRange};
 ghost use Rattle.history.specs.Text.{HasNoBreak};
-ghost use Rattle.driver.specs.BaseReader.{IsBeginningRead, IsPlacedBehind};
-ghost use Rattle.driver.specs.HistoryReader.{AreCounted, EntriesRead, IsEntryNext, IsStart, entry_passed};
+ghost use Rattle.driver.specs.BaseReader.{IsPlacedBehind};
+ghost use Rattle.driver.specs.inner.BaseReader.{IsBeginningRead};
+ghost use Rattle.driver.specs.HistoryReader.{AreCounted, EntriesRead, IsEntryNext, IsStart};
+ghost use Rattle.driver.specs.inner.HistoryReader.{entry_passed};
 ghost use Rattle.driver.specs.TextReader.{IsFaultOf, KeepsPlace};
 ghost use Rattle.history_text.specs.HistoryText.{history_form};
 ghost use Rattle.streams.specs.ReadingOn.{IsTooLong};
@@ -48,6 +50,7 @@ impl Model for HistoryReader {
     ghost use Rattle.history.specs.declared.limits.TheConstants.{MOST_FOLDED};
     ghost use Rattle.history.specs.GoodBase.{IsBaseOf};
     ghost use Rattle.history.specs.Header.{IsInRange};
+    ghost use Rattle.history_text.specs.declared.base_under_way.TheConstants.{MOST_LINES};
     ghost use Rattle.driver.specs.HistoryReader.{EntriesHeld};
     ghost use Rattle.streams.specs.Window.{room};
 
@@ -62,7 +65,7 @@ impl Model for HistoryReader {
     } };
 
     ghost invariant = { λ r. (r.place.count ≤ r.header.cap) × (r.place.calls ≤ MOST_FOLDED + r.place.count)
-        × (r.place.lines ≤ 1024) × (r.place.folded ≤ MOST_FOLDED) × IsInRange r.header
+        × (r.place.lines ≤ MOST_LINES) × (r.place.folded ≤ MOST_FOLDED) × IsInRange r.header
         × IsBaseOf r.header (or_opening r.header r.base) × (r.window.places ≡ room)
         × (length r.window.bytes ≤ room) };
 }

@@ -7,8 +7,9 @@ ghost use Rattle.audit.specs.Auditor.{HasJudged};
 ghost use Rattle.history.specs.Base.{based};
 ghost use Rattle.history.specs.Entries.{IsBasedWell, or_opening};
 ghost use Rattle.history.specs.Header.{IsInRange};
-ghost use Rattle.driver.specs.HistoryReader.{IsFaultBehindBase, IsStart};
-ghost use Rattle.driver.specs.Judged.{IsJudged, kept_with};
+ghost use Rattle.driver.specs.HistoryReader.{IsStart};
+ghost use Rattle.driver.specs.inner.HistoryReader.{IsFaultAfterBase};
+ghost use Rattle.driver.specs.inner.Judged.{IsJudged, kept_with};
 ghost use Rattle.streams.specs.declared.stream_fault.StreamFault.TheVariants.{Memory};
 
 use crate::history_reader::HistoryReader;
@@ -40,9 +41,9 @@ pub(crate) fn judged_of<R: Source>(
     requires reader { R.failed reader.old ≡ false }
     requires fresh { IsStart entries.old }
     ensures ok { IfOk result (IsJudged entries.old (R.left reader.old) entries.new most) }
-    ensures err { IfErr result (IsFaultBehindBase entries.old (R.left reader.old) (R.left reader.new)) }
+    ensures err { IfErr result (IsFaultAfterBase entries.old (R.left reader.old) (R.left reader.new)) }
     ensures memory { OnOk result
-        (IsFaultBehindBase entries.old (R.left reader.old) (R.left reader.new) Memory) }
+        (IsFaultAfterBase entries.old (R.left reader.old) (R.left reader.new) Memory) }
     ensures ended { OnOk result (IsAtEnd (R.left reader.new)) }
     ensures failing { IsErrOf result StreamFault.ReadFailed ↔ IsTrue (R.failed reader.new) }
 {

@@ -17,6 +17,7 @@ mod end_of;
 pub mod form;
 pub mod history_reader;
 mod judged;
+pub mod limits;
 pub mod line_writer;
 pub mod remark;
 pub mod replay;

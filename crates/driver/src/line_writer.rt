@@ -4,27 +4,25 @@ ghost use Rattle.std.specs.Prelude.{◌≡◌, ◌+◌, ◌++◌, ◌≤◌, ◌
 ghost use Rattle.std.specs.Io.KnownBytes.{Appends};
 ghost use Rattle.history.specs.Text.{ended};
 ghost use Rattle.history_text.specs.EntryLines.{counts_line};
+ghost use Rattle.driver.specs.declared.limits.TheConstants.{LONGEST_LINE};
 ghost use Rattle.driver.specs.LineWriter.{Gathers};
 ghost use Rattle.driver.specs.Replay.{HasLine};
 ghost use Rattle.driver.specs.ReplayText.{answer_line, trim_line};
+ghost use Rattle.streams.specs.declared.limits.TheConstants.{PIECE};
 ghost use Rattle.streams.specs.Writing.{AppendsFront};
 
 use crate::answer_line::{spell_answer, spell_trim};
+use crate::limits::LONGEST_LINE;
 use history::fault::Fault;
 use history::number::{Numbering, spell};
 use history::pieces::{put_byte, put_bytes};
 use history::step::Answer;
 use std::alloc::{AllocError, Global};
 use std::marker::Model;
+use streams::limits::PIECE;
 use streams::sink::Sink;
 use streams::source::DeviceFailed;
 use streams::writing::write_all;
-
-/// The most bytes of a line.
-const MOST_BYTES: usize = 136;
-
-/// How many bytes are gathered before they are written at once.
-const PIECE: usize = 65_536;
 
 /// Lines that are gathered in bytes reserved before, and written piece by piece. No line allocates. Nothing
 /// is written while there is room for another line.
@@ -37,20 +35,21 @@ pub struct LineWriter {
 
 impl Model for LineWriter {
     ghost use Rattle.std.specs.Prelude.{◌≤◌, ◌-◌, length, take};
+    ghost use Rattle.driver.specs.declared.limits.TheConstants.{LONGEST_LINE};
     ghost use Rattle.driver.specs.LineWriter.{Gathered};
 
     ghost Value = { Gathered };
 
     ghost view = { λ w. record { bytes = take w.at w.bytes.items; room = length w.bytes.items - w.at } };
 
-    ghost invariant = { λ w. (w.at ≤ length w.bytes.items) × (136 ≤ length w.bytes.items) };
+    ghost invariant = { λ w. (w.at ≤ length w.bytes.items) × (LONGEST_LINE ≤ length w.bytes.items) };
 }
 
 impl LineWriter {
-    /// Returns a writer that begins with this line, with all the memory that it will need.
+    /// Returns a writer that begins with this line, with room for a piece after it. It needs no more memory.
     pub fn open(alloc: Global, first: &[u8]) -> Result<Self, AllocError>
         ensures first { IfOk result (λ lines. lines.bytes ≡ first.now) }
-        ensures room { IfOk result (λ lines. lines.room ≡ 65536) }
+        ensures room { IfOk result (λ lines. lines.room ≡ PIECE) }
     {
         let mut bytes = Vec::from_slice(alloc, first)?;
         bytes.resize(first.len() + PIECE, 0)?;
@@ -68,7 +67,7 @@ impl LineWriter {
         ensures ok { OnOk result (Appends (W.held writer.old) (W.held writer.new) self.old.bytes) }
         ensures none { OnOk result (self.new.bytes ≡ []) }
         ensures room { OnOk result (self.new.room ≡ length self.old.bytes + self.old.room) }
-        ensures enough { OnOk result (136 ≤ self.new.room) }
+        ensures enough { OnOk result (LONGEST_LINE ≤ self.new.room) }
         ensures err { OnErr result (AppendsFront (W.held writer.old) (W.held writer.new) self.old.bytes) }
         ensures kept { OnErr result (self.new ≡ self.old) }
         ensures failing { IsTrue (W.failed writer.new) ↔ IsErr result }
@@ -82,15 +81,15 @@ impl LineWriter {
     #[inline(always)]
     fn make_room<W: Sink>(&mut self, writer: &mut W) -> Result<(), DeviceFailed>
         requires { W.failed writer.old ≡ false }
-        ensures room { OnOk result (136 ≤ self.new.room) }
-        ensures ready { 136 ≤ self.old.room → (self.new ≡ self.old) × (writer.new ≡ writer.old) }
+        ensures room { OnOk result (LONGEST_LINE ≤ self.new.room) }
+        ensures ready { LONGEST_LINE ≤ self.old.room → (self.new ≡ self.old) × (writer.new ≡ writer.old) }
         ensures adds { Gathers (W.held writer.old) self.old.bytes result
             (W.held writer.new) self.new.bytes [] }
         ensures places { length self.new.bytes + self.new.room ≡ length self.old.bytes + self.old.room }
         ensures kept { OnErr result (self.new ≡ self.old) }
         ensures failing { IsTrue (W.failed writer.new) ↔ IsErr result }
     {
-        if MOST_BYTES <= self.bytes.len() - self.at {
+        if LONGEST_LINE <= self.bytes.len() - self.at {
             return Ok(());
         }
         self.flush(writer)
@@ -110,7 +109,7 @@ impl LineWriter {
         requires spelt { HasLine answer.now }
         ensures adds { Gathers (W.held writer.old) self.old.bytes result (W.held writer.new) self.new.bytes
             (ended (answer_line number seat answer.now)) }
-        ensures gathers { 136 ≤ self.old.room → writer.new ≡ writer.old }
+        ensures gathers { LONGEST_LINE ≤ self.old.room → writer.new ≡ writer.old }
         ensures places { length self.new.bytes + self.new.room ≡ length self.old.bytes + self.old.room }
         ensures kept { OnErr result (self.new ≡ self.old) }
         ensures failing { IsTrue (W.failed writer.new) ↔ IsErr result }
@@ -129,7 +128,7 @@ impl LineWriter {
         requires { W.failed writer.old ≡ false }
         ensures adds { Gathers (W.held writer.old) self.old.bytes result (W.held writer.new) self.new.bytes
             (ended (trim_line answer.now)) }
-        ensures gathers { 136 ≤ self.old.room → writer.new ≡ writer.old }
+        ensures gathers { LONGEST_LINE ≤ self.old.room → writer.new ≡ writer.old }
         ensures places { length self.new.bytes + self.new.room ≡ length self.old.bytes + self.old.room }
         ensures kept { OnErr result (self.new ≡ self.old) }
         ensures failing { IsTrue (W.failed writer.new) ↔ IsErr result }
@@ -149,7 +148,7 @@ impl LineWriter {
         requires { W.failed writer.old ≡ false }
         ensures adds { Gathers (W.held writer.old) self.old.bytes result (W.held writer.new) self.new.bytes
             (ended (counts_line entries calls)) }
-        ensures gathers { 136 ≤ self.old.room → writer.new ≡ writer.old }
+        ensures gathers { LONGEST_LINE ≤ self.old.room → writer.new ≡ writer.old }
         ensures places { length self.new.bytes + self.new.room ≡ length self.old.bytes + self.old.room }
         ensures kept { OnErr result (self.new ≡ self.old) }
         ensures failing { IsTrue (W.failed writer.new) ↔ IsErr result }
@@ -163,7 +162,7 @@ impl LineWriter {
     #[inline(always)]
     fn spell_answer(&mut self, number: u64, seat: u16, answer: &Result<Answer, Fault>)
         requires spelt { HasLine answer.now }
-        requires room { 136 ≤ self.old.room }
+        requires room { LONGEST_LINE ≤ self.old.room }
         ensures bytes { self.new.bytes ≡ self.old.bytes ++ ended (answer_line number seat answer.now) }
         ensures places { length self.new.bytes + self.new.room ≡ length self.old.bytes + self.old.room }
     {
@@ -173,7 +172,7 @@ impl LineWriter {
 
     /// Adds the line of a trim. There is room for it.
     fn spell_trim(&mut self, answer: &Result<u64, Fault>)
-        requires { 136 ≤ self.old.room }
+        requires { LONGEST_LINE ≤ self.old.room }
         ensures bytes { self.new.bytes ≡ self.old.bytes ++ ended (trim_line answer.now) }
         ensures places { length self.new.bytes + self.new.room ≡ length self.old.bytes + self.old.room }
     {
@@ -183,7 +182,7 @@ impl LineWriter {
 
     /// Adds the end line. There is room for it.
     fn spell_counts(&mut self, entries: u64, calls: u64)
-        requires { 136 ≤ self.old.room }
+        requires { LONGEST_LINE ≤ self.old.room }
         ensures bytes { self.new.bytes ≡ self.old.bytes ++ ended (counts_line entries calls) }
         ensures places { length self.new.bytes + self.new.room ≡ length self.old.bytes + self.old.room }
     {

@@ -2,7 +2,8 @@
 
 ghost use Rattle.std.specs.Prelude.{◌≡◌, ◌↔◌, false, IsTrue, IfErr, IfOk, IsErrOf, OnOk};
 ghost use Rattle.std.specs.Io.KnownBytes.{IsAtEnd};
-ghost use Rattle.driver.specs.ReplayStream.{AreAnswersBehind, AreAnswersTo, Replays};
+ghost use Rattle.driver.specs.ReplayStream.{AreAnswersBehind, Replays};
+ghost use Rattle.driver.specs.inner.ReplayStream.{AreAnswersTo};
 ghost use Rattle.streams.specs.Streams.{IsReadNoFurther, IsReadOut};
 ghost use Rattle.streams.specs.declared.stream_fault.StreamFault.TheVariants.{Memory};
 ghost use Rattle.driver.specs.StepReader.{progress};
@@ -61,7 +62,7 @@ fn answers_to<R: Source>(alloc: Global, reader: &mut R) -> Result<Answers, Strea
     ensures failing { IsErrOf result StreamFault.ReadFailed ↔ IsTrue (R.failed reader.new) }
 {
     let mut steps = StepReader::open(alloc, reader)?;
-    answers_behind(alloc, &mut steps, reader)
+    answers_after_header(alloc, &mut steps, reader)
 }
 
 /// Returns the answers of a new core with these hooks.
@@ -92,7 +93,7 @@ fn answered<H: Hooks + Drop, R: Source>(
 }
 
 /// Returns the answers of a new object with the text's header.
-fn answers_behind<R: Source>(
+fn answers_after_header<R: Source>(
     alloc: Global,
     steps: &mut StepReader,
     reader: &mut R,

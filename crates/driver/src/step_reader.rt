@@ -5,7 +5,8 @@ ghost use Rattle.std.specs.Prelude.{None, Ok, IsErr, IsTrue, IsErrOf, IfOk, IfEr
 ghost use Rattle.std.specs.Io.KnownBytes.{IsAtEnd};
 ghost use Rattle.history.specs.Header.{IsInRange};
 ghost use Rattle.history.specs.Text.{HasNoBreak};
-ghost use Rattle.driver.specs.StepReader.{passed, progress};
+ghost use Rattle.driver.specs.StepReader.{progress};
+ghost use Rattle.driver.specs.inner.StepReader.{passed};
 ghost use Rattle.driver.specs.TextReader.{IsFaultOf, IsFaultOn, IsNext, IsOfNoText, KeepsPlace, WereRead};
 ghost use Rattle.steps.specs.StepLines.{IsAct};
 ghost use Rattle.steps.specs.StepsText.{steps_form};

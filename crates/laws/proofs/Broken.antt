@@ -1,10 +1,10 @@
 -- The histories that break a law, computed, and why none of them is legal.
-use Rattle.std.proofs.Common.{◌≡◌, ◌≢◌, ℕ, ◌+◌, ◌*◌, ◌≤◌, true, false, [], ◌∷◌, length, Option, Some, None, ap, arith}
+use Rattle.std.proofs.Common.{◌≡◌, ◌≢◌, ℕ, ◌+◌, ◌*◌, ◌≤◌, [], ◌∷◌, length, ap, arith}
 use Rattle.std.proofs.lemmas.Bool.{false≢true}
 use Rattle.std.specs.Prelude.{pos, ◌≤ℤ◌}
 use Rattle.std.proofs.lemmas.Int.{ints}
+use Rattle.std.proofs.lemmas.Option.{none-some}
 use Rattle.history.specs.declared.limits.TheConstants.{MOST_AMOUNT}
-use Rattle.history.specs.declared.arrival.Arrival.{Arrival}
 use Rattle.history.specs.declared.entry.Entry.{Entry}
 use Rattle.history.specs.declared.entry.Mode.TheVariants.{X, S}
 use Rattle.history.specs.declared.entry.Word.TheVariants as word
@@ -18,10 +18,6 @@ use Rattle.history.specs.Start.{opening}
 use Rattle.history.specs.Steps.{plain}
 use Rattle.history.proofs.Entering.{Known, known}
 use Rattle.laws.specs.Breaks.{drained_too_many, full, leaves_unseen, lock, permit_slept_away, read_write, reader_beside_owner, released_too_many, semaphore, stranger_sleeps, two_owners}
-
--- what two numbers are not
-not_seen : (a : Arrival) → ◌≡◌ {A = Option Arrival} None (Some a) → ⊥
-not_seen a q = cc
 
 not_one : ◌≡◌ {A = ℕ} 0 1 → ⊥
 not_one q = absurd (omega (arith, q))
@@ -37,7 +33,7 @@ pub leaving_unseen_illegal : IsLegal (opening lock) (leaves_unseen ∷ full) →
 leaving_unseen_illegal legal =
     let k : Known (opening lock) full leaves_unseen =
     known (opening lock) full legal.0.0 leaves_unseen legal.0.1 in
-    not_seen k.0 k.1.stands
+    none-some k.0 k.1.stands
 
 pub two_owners_two : IsOwned (opening lock) two_owners → ⊥
 two_owners_two v = not_one (v.one 0 1 (omega arith) (omega arith))
@@ -64,10 +60,7 @@ pub stranger_illegal : IsLegal (opening lock) stranger_sleeps → ⊥
 stranger_illegal legal =
     let k : Known (opening lock) [] (plain 0 word.Await X 0) =
     known (opening lock) [] legal.0.0 (plain 0 word.Await X 0) legal.0.1 in
-    nobody 0 k.0.owner
-  where
-    nobody : (i : ℕ) → ◌≡◌ {A = Option ℕ} None (Some i) → ⊥
-    nobody i q = cc
+    none-some 0 k.0.owner
 
 pub slept_away_lost : IsConserved (opening semaphore) permit_slept_away → ⊥
 slept_away_lost q = absurd (omega (arith, ints, q))

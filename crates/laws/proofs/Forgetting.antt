@@ -19,7 +19,7 @@ not_none q = cc
 another : ◌≡◌ {A = Option ℕ} (Some 2) (Some 1) → ⊥
 another q = cc
 
--- what is known of one legal entry behind a base
+-- what is known of one legal entry after a base
 one_known : (b : Base) (e : Entry) → IsLegal (based b) (e ∷ []) → Known (based b) [] e
 one_known b e l = known (based b) [] l.0.0 e l.0.1
 

@@ -3,6 +3,6 @@ pub mod Forgetting
 pub mod Marking
 pub mod OnBases
 pub mod OutOfOrder
-pub mod Told
+pub mod Replies
 pub mod Woken
 pub mod examples

@@ -1,4 +1,4 @@
--- What is said of marks behind a fold, and with all marks cleared.
+-- What is said of marks after a fold, and with all marks cleared.
 use Rattle.std.proofs.Common.{◌≡◌, ℕ, Bool, List, ◌++◌, refl, ◌∙◌, sym}
 use Rattle.std.proofs.lemmas.Bool.{true≢false}
 use Rattle.history.specs.declared.entry.Entry.{Entry}
@@ -7,13 +7,13 @@ use Rattle.history.specs.Marks.{AreTold, unmarked}
 use Rattle.history.specs.Point.{CanFold}
 use Rattle.history.specs.Start.{opening}
 use Rattle.history.proofs.Alike.{ready_alike}
-use Rattle.laws.proofs.OnBases.{behind}
+use Rattle.laws.proofs.OnBases.{after_fold}
 use Rattle.laws.specs.OutOfTurn.{fair_lock, given_to_a_waiter}
 
-pub told_behind : (b : Base) (g h : List Entry) (m : ℕ → Bool) → CanFold b (h ++ g) →
+pub told_after_fold : (b : Base) (g h : List Entry) (m : ℕ → Bool) → CanFold b (h ++ g) →
     AreTold (based b) (h ++ g) m → AreTold (based (folded b g)) h m
-told_behind b g h m can told i r =
-    told i (ready_alike b.header (based b) (based (folded b g)) (h ++ g) h (behind b g h can) ∙ r)
+told_after_fold b g h m can told i r =
+    told i (ready_alike b.header (based b) (based (folded b g)) (h ++ g) h (after_fold b g h can) ∙ r)
 
 pub waiter_forgotten : AreTold (opening fair_lock) given_to_a_waiter unmarked → ⊥
 waiter_forgotten told = true≢false (sym (told 1 refl))

@@ -10,22 +10,22 @@ use Rattle.history.proofs.Alike.{Alike, entry_alike, named_alike}
 use Rattle.history.proofs.Folding.{folds_on, goes_on}
 use Rattle.history.proofs.Points.{seated_behind}
 
-pub behind : (b : Base) (g h : List Entry) → CanFold b (h ++ g) →
+pub after_fold : (b : Base) (g h : List Entry) → CanFold b (h ++ g) →
     Alike b.header (based b) (based (folded b g)) (h ++ g) h
-behind b g h can = goes_on b g h can.good (seated_behind (based b) h g can.seated) can.legal
+after_fold b g h can = goes_on b g h can.good (seated_behind (based b) h g can.seated) can.legal
 
-pub entry_behind : (b : Base) (g h : List Entry) (i : ℕ) (x : Step) → CanFold b (h ++ g) →
+pub entry_after_fold : (b : Base) (g h : List Entry) (i : ℕ) (x : Step) → CanFold b (h ++ g) →
     entry_for (based (folded b g)) h i x ≡ entry_for (based b) (h ++ g) i x
-entry_behind b g h i x can =
-    sym (entry_alike b.header (based b) (based (folded b g)) (h ++ g) h (behind b g h can) i x)
+entry_after_fold b g h i x can =
+    sym (entry_alike b.header (based b) (based (folded b g)) (h ++ g) h (after_fold b g h can) i x)
 
-pub named_behind : (b : Base) (g h : List Entry) (e : Entry) → CanFold b (e ∷ h ++ g) →
+pub named_after_fold : (b : Base) (g h : List Entry) (e : Entry) → CanFold b (e ∷ h ++ g) →
     named (based (folded b g)) h e ≡ named (based b) (h ++ g) e
-named_behind b g h e can =
+named_after_fold b g h e can =
     sym (named_alike b.header (based b) (based (folded b g)) (h ++ g) h
-    (behind b g h (record { good = can.good; seated = can.seated.1; legal = can.legal.1 })) e
-    (behind b g (e ∷ h) can))
+    (after_fold b g h (record { good = can.good; seated = can.seated.1; legal = can.legal.1 })) e
+    (after_fold b g (e ∷ h) can))
 
-pub folds_behind : (b : Base) (g h : List Entry) → CanFold b (h ++ g) →
+pub folds_after_fold : (b : Base) (g h : List Entry) → CanFold b (h ++ g) →
     folded (folded b g) h ≡ folded b (h ++ g)
-folds_behind b g h can = folds_on b g h can.good (seated_behind (based b) h g can.seated) can.legal
+folds_after_fold b g h can = folds_on b g h can.good (seated_behind (based b) h g can.seated) can.legal

@@ -1,6 +1,7 @@
 -- Why the histories out of turn break their laws, and why none of them is legal.
-use Rattle.std.proofs.Common.{◌≡◌, ℕ, ◌≤◌, true, false, List, [], ◌∷◌, Option, Some, None, refl, arith}
+use Rattle.std.proofs.Common.{◌≡◌, ℕ, ◌≤◌, false, List, [], ◌∷◌, Option, Some, refl, arith}
 use Rattle.std.proofs.lemmas.Bool.{true≢false}
+use Rattle.std.proofs.lemmas.Option.{none-some}
 use Rattle.history.specs.declared.arrival.Arrival.{Arrival}
 use Rattle.history.specs.declared.entry.Entry.{Entry}
 use Rattle.history.specs.declared.entry.Mode.TheVariants.{X}
@@ -8,16 +9,13 @@ use Rattle.history.specs.declared.entry.Word.TheVariants as word
 use Rattle.history.specs.declared.fault.Fault.TheVariants as fault
 use Rattle.history.specs.declared.step.Step.TheVariants as step
 use Rattle.history.specs.Legal.{IsLegal}
-use Rattle.history.specs.Line.{Arrived, Ending}
+use Rattle.history.specs.Line.{Arrived}
 use Rattle.history.specs.Order.{IsFairOrder, IsInOrder}
 use Rattle.history.specs.Phase.{Idle, InLine}
 use Rattle.history.specs.Start.{opening}
 use Rattle.history.specs.Waiting.{IsOneWait}
 use Rattle.history.proofs.Entering.{Known, known}
 use Rattle.laws.specs.OutOfTurn.{fair_lock, gave_first, got_past_the_line, granted_out_of_turn, of, queued_twice, strict_lock, tried_past_the_line}
-
-never_ends : (end : Ending) → None ≡ Some end → ⊥
-never_ends end q = cc
 
 another : ◌≡◌ {A = Option ℕ} (Some 1) (Some 2) → ⊥
 another q = cc
@@ -36,7 +34,7 @@ pub granted_passes : IsInOrder (opening fair_lock) granted_out_of_turn → ⊥
 granted_passes law =
     let ended = law (queued_at 1 1 ∷ []) [] (queued_at 2 2) (record { place = 4; word = word.Granted }) refl
     refl refl in
-    never_ends ended.0.end ended.0.is
+    none-some ended.0.end ended.0.is
 
 pub granted_illegal : IsLegal (opening fair_lock) granted_out_of_turn → ⊥
 granted_illegal l =
@@ -46,7 +44,7 @@ granted_illegal l =
     another k.2
 
 pub got_passes : IsFairOrder (opening fair_lock) got_past_the_line → ⊥
-got_passes law = let ended = law.0 refl refl in never_ends ended.0.end ended.0.is
+got_passes law = let ended = law.0 refl refl in none-some ended.0.end ended.0.is
 
 pub got_illegal : IsLegal (opening fair_lock) got_past_the_line → ⊥
 got_illegal l =
@@ -56,7 +54,7 @@ got_illegal l =
     true≢false k.2
 
 pub tried_passes : IsFairOrder (opening strict_lock) tried_past_the_line → ⊥
-tried_passes law = let ended = law.0 refl refl in never_ends ended.0.end ended.0.is
+tried_passes law = let ended = law.0 refl refl in none-some ended.0.end ended.0.is
 
 pub tried_illegal : IsLegal (opening strict_lock) tried_past_the_line → ⊥
 tried_illegal l =

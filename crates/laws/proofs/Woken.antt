@@ -1,6 +1,6 @@
--- Whoever is first in line and could go was told of it.
-use Rattle.std.proofs.Common.{◌≡◌, ◌⊎◌, inl, inr, ℕ, Bool, true, false, not, ◌&&◌, cond, eqb, List, [], ◌∷◌, Option, Some, None, refl, ap, ◌∙◌, sym}
-use Rattle.std.proofs.lemmas.Bool.{cases_eq, eq-eqb, ne_eqb}
+-- That an entry has named the head of the queue since it could go, or was its own.
+use Rattle.std.proofs.Common.{◌≡◌, ◌⊎◌, inl, inr, ℕ, true, false, List, [], ◌∷◌, Option, Some, refl, ap, ◌∙◌}
+use Rattle.std.proofs.lemmas.Bool.{eq-eqb, eqb-false}
 use Rattle.history.specs.declared.entry.Entry.{Entry}
 use Rattle.history.specs.declared.header.Header.{Header}
 use Rattle.history.specs.Could.{is_seat}
@@ -24,10 +24,7 @@ pub is_named : (k : Header) (h : List Entry) (e : Entry) (i : ℕ) → named (op
     (ready (opening k) (e ∷ h) ≡ Some i) × (ready (opening k) h ≡ Some i → ⊥) × (i ≡ e.seat → ⊥)
 is_named k h e i n =
     let r = named_ready (ready (opening k) h) (ready (opening k) (e ∷ h)) e.seat i n in
-    (r.0, (λ q. was_not (ready (opening k) h) q r.1), (λ q. own_not q r.2))
+    (r.0, (λ q. was_not (ready (opening k) h) q r.1), eqb-false i e.seat r.2)
   where
     was_not : (before : Option ℕ) → before ≡ Some i → is_seat before i ≡ false → ⊥
     was_not before q f = let t : is_seat before i ≡ true = ap (λ o. is_seat o i) q ∙ eq-eqb i i refl in cc
-
-    own_not : i ≡ e.seat → eqb i e.seat ≡ false → ⊥
-    own_not q f = let t : eqb i e.seat ≡ true = eq-eqb i e.seat q in cc

@@ -1,4 +1,4 @@
--- A waiter that could go was told: an entry named it, or was its own.
+-- That a waiter was woken: an entry named it since it could go, or was its own.
 use Rattle.std.specs.Prelude.{◌≡◌, ◌⊎◌, ℕ, List, [], ◌∷◌, Some}
 use Rattle.history.specs.declared.entry.Entry.{Entry}
 use Rattle.history.specs.Naming.{named, ready}

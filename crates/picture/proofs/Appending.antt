@@ -1,6 +1,6 @@
 -- Pieces that are appended one after another.
-use Rattle.std.proofs.Common.{◌≡◌, ℕ, ◌+◌, ◌<◌, List, [], ◌∷◌, ◌++◌, length, get_or, take, refl, ap, ◌∙◌, sym}
-use Rattle.std.specs.List.{flat_map, fold}
+use Rattle.std.proofs.Common.{◌≡◌, ℕ, ◌+◌, ◌<◌, List, ◌++◌, length, get_or, take, ap, ◌∙◌, sym}
+use Rattle.std.specs.List.{flat_map}
 use Rattle.std.proofs.lemmas.List.{append_assoc, flat_map_more, take_more}
 
 regroup3 : (o a b c : List ℕ) → ((o ++ a) ++ b) ++ c ≡ o ++ ((a ++ b) ++ c)
@@ -50,13 +50,3 @@ one_more line xs i d start before after l was new =
     new ∙ ap (λ x. x ++ line (get_or xs i d)) was
     ∙ flat_map_more line start (take i xs) (get_or xs i d)
     ∙ ap (λ ys. start ++ flat_map line ys) (sym (take_more xs i d l))
-
-fold_more : {A B : Type 0} (f : B → A → B) (a : B) (xs : List A) (x : A) →
-    fold f a (xs ++ x ∷ []) ≡ f (fold f a xs) x
-fold_more f a [] x = refl
-fold_more f a (y ∷ ys) x = fold_more f (f a y) ys x
-
--- what is made of a list's items, with one more
-pub folded_on : {A B : Type 0} (f : B → A → B) (a : B) (xs : List A) (i : ℕ) (d : A) → i < length xs →
-    fold f a (take (i + 1) xs) ≡ f (fold f a (take i xs)) (get_or xs i d)
-folded_on f a xs i d l = ap (fold f a) (take_more xs i d l) ∙ fold_more f a (take i xs) (get_or xs i d)

@@ -1,8 +1,7 @@
 -- What a report says of each object.
-use Rattle.std.proofs.Common.{◌≡◌, List, [], ◌∷◌, length, suc, true, refl, ap, sym, subst, ◌∙◌}
+use Rattle.std.proofs.Common.{◌≡◌, List, [], ◌∷◌, length, suc, refl, ap, sym, subst, ◌∙◌}
 use Rattle.std.specs.List.{All}
 use Rattle.std.proofs.lemmas.List.{length-map}
-use Rattle.std.proofs.lemmas.List.Elements.{All-nil, All-cons, All-head, All-tail}
 use Rattle.audit.specs.Totals.{totals_of}
 use Rattle.audit.specs.Verdict.{IsJudgement}
 use Rattle.audit.specs.declared.verdict.Judgement.TheVariants.{Legal}
@@ -14,7 +13,8 @@ use Rattle.word_lock.specs.Ticket.{LockId}
 use Rattle.workers.specs.declared.report.ObjectReport.{ObjectReport}
 use Rattle.workers.specs.declared.report.Report.{Report}
 use Rattle.workers.specs.Reports.{AreParts, IsPart, IsReport, IsSound, header_of, is_legal}
-use Rattle.run_text.specs.RunText.{IsJudged}
+use Rattle.workers.proofs.Columns.{each_part}
+use Rattle.run_text.specs.inner.{IsJudged, IsLegalPart}
 
 part_judged : (lock : LockId) (passes : List Shown) (part : ObjectReport) → IsPart lock passes part →
     IsSound part → IsJudged part
@@ -22,9 +22,7 @@ part_judged lock passes part is sound =
     let judged = subst
     (λ (k : Header). part.judgement ≡ Legal (totals_of (start_on k part.history) part.history.entries))
     (sym is.header) is.judged in (
-      sound.0,
-      sound.1,
-      sound.2,
+      sound,
       subst (IsJudgement (start_on part.header part.history) part.history.entries) (sym judged)
           (sound.2, refl),
     )
@@ -32,14 +30,9 @@ part_judged lock passes part is sound =
 -- each part's judgement is the audit's
 pub parts_judged : (locks : List LockId) (columns : List (List Shown)) (parts : List ObjectReport) →
     AreParts locks columns parts → All IsSound parts → All IsJudged parts
-parts_judged [] [] [] are sound = All-nil IsJudged
-parts_judged [] [] (part ∷ parts) are sound = absurd are
-parts_judged [] (column ∷ columns) parts are sound = absurd are
-parts_judged (lock ∷ locks) [] parts are sound = absurd are
-parts_judged (lock ∷ locks) (column ∷ columns) [] are sound = absurd are
-parts_judged (lock ∷ locks) (column ∷ columns) (part ∷ parts) are sound =
-    All-cons IsJudged part parts (part_judged lock column part are.0 (All-head IsSound part parts sound))
-    (parts_judged locks columns parts are.1 (All-tail IsSound part parts sound))
+parts_judged locks columns parts are sound = λ i d below.
+    each_part (λ part. IsSound part → IsJudged part) part_judged locks columns parts are i d below
+    (sound i d below)
 
 parts_count : (locks : List LockId) (columns : List (List Shown)) (parts : List ObjectReport) →
     AreParts locks columns parts → length parts ≡ length locks
@@ -57,20 +50,8 @@ parts_named s r is =
     parts_count is.locks _ r.objects.items is.parts ∙ sym (length-map is.locks header_of)
     ∙ ap length is.headers ∙ length-map s.objects (λ o. o.1)
 
-abbrev IsLegalPart : ObjectReport → Type 0
-IsLegalPart part = is_legal part.judgement ≡ true
-
-parts_legal : (locks : List LockId) (columns : List (List Shown)) (parts : List ObjectReport) →
-    AreParts locks columns parts → All IsLegalPart parts
-parts_legal [] [] [] are = All-nil IsLegalPart
-parts_legal [] [] (part ∷ parts) are = absurd are
-parts_legal [] (column ∷ columns) parts are = absurd are
-parts_legal (lock ∷ locks) [] parts are = absurd are
-parts_legal (lock ∷ locks) (column ∷ columns) [] are = absurd are
-parts_legal (lock ∷ locks) (column ∷ columns) (part ∷ parts) are =
-    All-cons IsLegalPart part parts (ap is_legal are.0.judged) (parts_legal locks columns parts are.1)
-
 -- each part is judged legal
-pub histories_legal : (s : ScriptView) (r : Report) → IsReport s r →
-    All (λ part. is_legal part.judgement ≡ true) r.objects.items
-histories_legal s r is = parts_legal is.locks _ r.objects.items is.parts
+pub histories_legal : (s : ScriptView) (r : Report) → IsReport s r → All IsLegalPart r.objects.items
+histories_legal s r is =
+    each_part IsLegalPart (λ lock column part here. ap is_legal here.judged) is.locks _ r.objects.items
+    is.parts

@@ -20,7 +20,8 @@ use Rattle.history_text.proofs.Lists.{each-reverse}
 use Rattle.history_text.proofs.Spelt.{all_spelt_on}
 use Rattle.script.specs.Script.{Named}
 use Rattle.workers.specs.declared.report.ObjectReport.{ObjectReport}
-use Rattle.run_text.specs.RunText.{IsJudged, base_of, foot_text, head_text, name_line, part_text, parts_text, shares_line}
+use Rattle.run_text.specs.RunText.{base_of, name_line, part_text, parts_text, shares_line}
+use Rattle.run_text.specs.inner.{IsJudged, foot_text, head_text}
 use Rattle.run_text.proofs.Written.{concat_last}
 
 regrouped : (name first base entries end audit shares : List ℕ) →
@@ -29,9 +30,9 @@ regrouped : (name first base entries end audit shares : List ℕ) →
 regrouped name first base entries end audit shares = simp append_assoc
 
 abbrev pub good_base : (part : ObjectReport) → IsJudged part → IsGood (base_of part)
-good_base part is = good_from part.header part.history.base is.0 is.1
+good_base part is = good_from part.header part.history.base is.0.0 is.0.1
 
--- a name's line and the first lines of a history text, the lines of its entries, and what stands behind them
+-- a name's line and the first lines of a history text, the lines of its entries, and what stands after them
 pub part_is : (name : List ℕ) (part : ObjectReport) → IsJudged part →
     head_text name (base_of part) ++ entry_lines (base_of part).entries (reverse part.history.entries)
     ++ foot_text part
@@ -49,9 +50,9 @@ lines_spelt part is =
     let h = part.history.entries in
     let s = based (base_of part) in
     All-from_recursion IsSpelt (reverse h)
-    (each-reverse IsSpelt h (all_spelt_on s h (good_waits (base_of part) (good_base part is)) is.2))
+    (each-reverse IsSpelt h (all_spelt_on s h (good_waits (base_of part) (good_base part is)) is.0.2))
 
--- the lines behind the entries, one after another
+-- the lines after the entries, one after another
 pub foot_lines : (part : ObjectReport) (n c : ℕ) (counted broken said new : List ℕ) →
     n ≡ (base_of part).entries + length part.history.entries →
     c ≡ calls (based (base_of part)) part.history.entries →

@@ -1,4 +1,4 @@
--- Texts that are written one behind the other.
+-- Texts that are written one after the other.
 use Rattle.std.proofs.Common.{◌≡◌, ℕ, ◌+◌, ◌<◌, List, [], ◌∷◌, ◌++◌, Option, drop, get_or, length, ap, subst, sym, take, ◌∙◌, append_assoc, append-nil}
 use Rattle.std.specs.Io.KnownBytes.{Appends}
 use Rattle.std.specs.List.{concat}
@@ -9,10 +9,9 @@ use Rattle.driver.specs.LineWriter.{IsGathered}
 use Rattle.driver.proofs.Gathering.{front_longer, front_more}
 
 pub concat_last : (xs : List (List ℕ)) (x : List ℕ) → concat (xs ++ x ∷ []) ≡ concat xs ++ x
-concat_last [] x = append-nil x
-concat_last (y ∷ ys) x = ap (λ (t : List ℕ). y ++ t) (concat_last ys x) ∙ sym (append_assoc y (concat ys) x)
+concat_last xs x = concat-append xs (x ∷ []) ∙ ap (λ (t : List ℕ). concat xs ++ t) (append-nil x)
 
--- a front of some bytes behind others is a front of both
+-- a front of some bytes after others is a front of both
 pub front_behind : (a b c : Option (List ℕ)) (x y : List ℕ) → Appends a b x → AppendsFront b c y →
     AppendsFront a c (x ++ y)
 front_behind a b c x y p q =
@@ -27,7 +26,7 @@ concat_more xs i x within here =
     ap concat (take_more xs i x within ∙ ap (λ (y : List ℕ). take i xs ++ y ∷ []) (sym here))
     ∙ concat_last (take i xs) x
 
--- a front of the first texts is a front of all, and of what stands behind them
+-- a front of the first texts is a front of all, and of what stands after them
 pub front_of_all : (a b : Option (List ℕ)) (xs : List (List ℕ)) (i : ℕ) (more : List ℕ) →
     AppendsFront a b (concat (take i xs)) → AppendsFront a b (concat xs ++ more)
 front_of_all a b xs i more front =

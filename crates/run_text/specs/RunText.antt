@@ -1,25 +1,13 @@
 -- The text of a run.
-use Rattle.std.specs.Prelude.{ℕ, ◌+◌, List, [], ◌∷◌, ◌++◌, codes, length}
-use Rattle.audit.specs.Verdict.{IsJudgement, verdict_of}
+use Rattle.std.specs.Prelude.{ℕ, List, [], ◌∷◌, ◌++◌, codes}
+use Rattle.audit.specs.Verdict.{verdict_of}
 use Rattle.driver.specs.AuditText.{audit_text, number_line}
-use Rattle.history.specs.Base.{Base, based}
-use Rattle.history.specs.Entries.{IsBasedWell, base_on, start_on}
-use Rattle.history.specs.Header.{IsInRange}
-use Rattle.history.specs.Legal.{IsLegal, calls}
+use Rattle.history.specs.Base.{Base}
+use Rattle.history.specs.Entries.{base_on}
 use Rattle.history.specs.Text.{ended}
-use Rattle.history_text.specs.EntryLines.{counts_line}
-use Rattle.history_text.specs.HistoryLines.{head_line, head_of, lines_told}
-use Rattle.history_text.specs.Pieces.{history_text, lines_text}
+use Rattle.history_text.specs.Pieces.{history_text}
 use Rattle.script.specs.Script.{Named}
 use Rattle.workers.specs.declared.report.ObjectReport.{ObjectReport}
-
--- the header is in range, the base is a good one of it, the history is legal from there, and the judgement is
--- that of the history
-abbrev pub IsJudged : ObjectReport → Type 0
-IsJudged part =
-    IsInRange part.header × IsBasedWell part.header part.history.base
-    × IsLegal (start_on part.header part.history) part.history.entries
-    × IsJudgement (start_on part.header part.history) part.history.entries part.judgement
 
 -- the base that the object's folded entries left
 abbrev pub base_of : ObjectReport → Base
@@ -41,17 +29,6 @@ abbrev pub part_text : List ℕ → ObjectReport → List ℕ
 part_text name part =
     ended (name_line name)
     ++ history_text (base_of part) part.history.entries
-    ++ audit_text (base_of part) part.history.entries (verdict_of part.judgement)
-    ++ ended (shares_line part.share)
-
--- what comes before the lines of its entries, and what comes after them
-abbrev pub head_text : List ℕ → Base → List ℕ
-head_text name b = ended (name_line name) ++ ended (head_line (head_of b)) ++ lines_text (lines_told b)
-
-abbrev pub foot_text : ObjectReport → List ℕ
-foot_text part =
-    ended (counts_line ((base_of part).entries + length part.history.entries)
-    (calls (based (base_of part)) part.history.entries))
     ++ audit_text (base_of part) part.history.entries (verdict_of part.judgement)
     ++ ended (shares_line part.share)
 

@@ -4,7 +4,8 @@ ghost use Rattle.std.specs.Prelude.{◌≡◌, ◌↔◌, [], false, IfErr, IfOk
 ghost use Rattle.std.specs.Io.KnownBytes.{Appends};
 ghost use Rattle.history.specs.Entries.{IsBasedWell, base_on};
 ghost use Rattle.history.specs.Header.{IsInRange};
-ghost use Rattle.run_text.specs.RunText.{IsJudged, base_of, foot_text, head_text, part_text};
+ghost use Rattle.run_text.specs.RunText.{base_of, part_text};
+ghost use Rattle.run_text.specs.inner.{IsJudged, foot_text, head_text};
 ghost use Rattle.streams.specs.Writing.{AppendsFront};
 ghost use Rattle.streams.specs.declared.stream_fault.StreamFault.TheVariants.{Memory};
 

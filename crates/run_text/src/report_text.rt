@@ -3,7 +3,8 @@
 ghost use Rattle.std.specs.Prelude.{◌≡◌, ◌≤◌, ◌↔◌, [], false, All, IfErr, IfOk, IsErr, IsTrue, OnErr, OnOk, length};
 ghost use Rattle.std.specs.List.{concat};
 ghost use Rattle.std.specs.Io.KnownBytes.{Appends};
-ghost use Rattle.run_text.specs.RunText.{IsJudged, parts_text, run_text};
+ghost use Rattle.run_text.specs.RunText.{parts_text, run_text};
+ghost use Rattle.run_text.specs.inner.{IsJudged};
 ghost use Rattle.streams.specs.Writing.{AppendsFront};
 ghost use Rattle.streams.specs.declared.stream_fault.StreamFault.TheVariants.{Memory};
 ghost use Rattle.workers.specs.Reports.{IsReport, IsSound};

@@ -9,7 +9,8 @@ use Rattle.steps.proofs.StepLemmas.{asked_again, condition_again}
 use Rattle.monitor.specs.declared.how.How.TheVariants.{Plain, Interruptible, Timed}
 use Rattle.script.specs.declared.action.Action.{Action}
 use Rattle.script.specs.declared.action.Action.TheVariants.{Acquire, TryAcquire, Release, AwaitOn, Signal, SignalAll, Drain, Trim}
-use Rattle.script.specs.CallReading.{timed_at, timed_acquire_at, timed_await_at, waiting_at, action_at}
+use Rattle.script.specs.inner.CallReading.{timed_at, timed_acquire_at, timed_await_at, waiting_at, action_at}
+use Rattle.script.specs.declared.limits.TheConstants.{MOST_MILLISECONDS}
 use Rattle.script.specs.CallText.{action_words, HasAmounts}
 
 action_words_again : (a : Action) → HasAmounts a → action_at (action_words a) ≡ Some (a, [])
@@ -27,13 +28,13 @@ action_words_again Trim lt = refl
 action_words_again (Acquire m n (Timed ms)) lt =
     rw (
       asked_again m n (decimal ms ∷ []) lt.0,
-      number_at_again 0 4294967295 ms [] (omega (arith, lt.1))
+      number_at_again 0 MOST_MILLISECONDS ms [] (omega (arith, lt.1))
           (omega arith) (omega (arith, lt.1)),
     ) refl
 action_words_again (AwaitOn c (Timed ms)) lt =
     rw (
       condition_again c (decimal ms ∷ []) lt.0,
-      number_at_again 0 4294967295 ms [] (omega (arith, lt.1))
+      number_at_again 0 MOST_MILLISECONDS ms [] (omega (arith, lt.1))
           (omega arith) (omega (arith, lt.1)),
     ) refl
 
@@ -78,7 +79,7 @@ action_again a lt =
     let read = action_words_again a lt in
     ap action_at (cut_again (action_words a) (a, []) (action_plain a lt) read) ∙ read
 
--- behind a name and a space
+-- after a name and a space
 pub behind_name : (name : List ℕ) (a : Action) → line_of (name ∷ action_words a) ≡ name ++ 32
     ∷ line_of (action_words a)
 behind_name name (Acquire m n Plain) = refl

@@ -1,7 +1,6 @@
--- A call's text, cut behind its first word.
+-- A call's text, cut after its first word.
 use Rattle.std.proofs.Common.{◌≡◌, ◌≢◌, ℕ, ◌<◌, false, eqb, List, [], ◌∷◌, ◌++◌, Option, Some, None, All, get_or, slice_get, Bor, refl, sym, ap, subst, ◌∙◌, arith, decimal, IsTrue, true≢false}
 use Rattle.std.specs.Prelude.{codes, MatchOption}
-use Rattle.std.proofs.lemmas.Option.{get_or_from_slice_get, slice_get_within}
 use Rattle.std.proofs.lemmas.Str.Pattern.{IsSplitOnceResult, split_after}
 use Rattle.history.specs.Text.{line_of}
 use Rattle.history.proofs.Plain.{lacks_byte}
@@ -12,8 +11,9 @@ use Rattle.script.specs.declared.action.Action.{Action}
 use Rattle.script.specs.declared.call.Call.{Call}
 use Rattle.script.specs.declared.call.Call.TheVariants.{On, Interrupt}
 use Rattle.script.proofs.CallLemmas.{behind_name}
+use Rattle.script.proofs.Firsts.{all_at}
 
--- the first word of a call, and what stands behind it
+-- the first word of a call, and what stands after it
 abbrev pub IsCut : List Named → ℕ → Call → List ℕ → List ℕ → Type 0
 IsCut objects threads (On place action) name rest = HasAmounts action
     × ((o : Named) × (slice_get objects place ≡ Some o) × (name ≡ o.0) × (rest ≡ line_of (action_words
@@ -26,9 +26,6 @@ Halves = Option (Bor (List ℕ) × Bor (List ℕ))
 
 no_space_in_name : (b : ℕ) → IsTrue (is_name_byte b) → b ≢ 32
 no_space_in_name b good is = true≢false (sym (subst (λ (n : ℕ). IsTrue (is_name_byte n)) is good))
-
-pub at : (P : Named → Type 0) (xs : List Named) (i : ℕ) (x : Named) → All P xs → slice_get xs i ≡ Some x → P x
-at P xs i x all is = subst P (get_or_from_slice_get xs i x x is) (all i x (slice_get_within xs i x is))
 
 name_cut : (objects : List Named) (threads place : ℕ) (action : Action) (text : List ℕ) (o : Named) (r :
     Halves) →
@@ -54,7 +51,7 @@ pub cut : (objects : List Named) (threads : ℕ) (c : Call) (text : List ℕ) (r
     MatchOption r ⊥ (λ x. IsCut objects threads c x.0.now x.1.now)
 cut objects threads (On place action) text r names split says =
     let o = says.1.0 in
-    let name : IsName o.0 = at (λ o. IsName o.0) objects place o names says.1.1 in
+    let name : IsName o.0 = all_at (λ o. IsName o.0) objects place o names says.1.1 in
     name_cut objects threads place action text o r says.0 says.1.1
     (split_after 32 text o.0 (line_of (action_words action)) r split (omega arith)
     (says.1.2 ∙ behind_name o.0 action) (λ i lt. no_space_in_name _ (name.bytes i 0 lt)))
@@ -66,14 +63,14 @@ pub no_interrupt : (objects : List Named) (threads : ℕ) (c : Call) (name rest 
     All (λ o. IsName o.0) objects → name ≡ codes "interrupt" → ((t : ℕ) → t < threads → rest ≢ decimal t) →
     IsCut objects threads c name rest → ⊥
 no_interrupt objects threads (On place action) name rest names is none cut =
-    (at (λ o. IsName o.0) objects place cut.1.0 names cut.1.1).other (sym cut.1.2 ∙ is)
+    (all_at (λ o. IsName o.0) objects place cut.1.0 names cut.1.1).other (sym cut.1.2 ∙ is)
 no_interrupt objects threads (Interrupt thread) name rest names is none cut = none thread cut.0 cut.2
 
 pub no_object : (objects : List Named) (threads : ℕ) (c : Call) (name rest : List ℕ) →
     name ≢ codes "interrupt" →
     All (λ o. o.0 ≢ name) objects → IsCut objects threads c name rest → ⊥
 no_object objects threads (On place action) name rest other none cut =
-    at (λ o. o.0 ≢ name) objects place cut.1.0 none cut.1.1 (sym cut.1.2)
+    all_at (λ o. o.0 ≢ name) objects place cut.1.0 none cut.1.1 (sym cut.1.2)
 no_object objects threads (Interrupt thread) name rest other none cut = other cut.1
 
 pub no_action : (objects : List Named) (threads : ℕ) (c : Call) (name rest : List ℕ) →

@@ -1,18 +1,16 @@
 -- The place of a name among the objects.
-use Rattle.std.proofs.Common.{◌≡◌, ◌≢◌, ℕ, ◌<◌, Bool, true, false, List, [], ◌∷◌, Option, Some, None, All, length, get_or, position, slice_get, option_map, bytes_eq, refl, sym, ap, ◌∙◌, String, string_bytes, cond, true≢false, is_some, IfSome, IfNone}
+use Rattle.std.proofs.Common.{◌≡◌, ◌≢◌, ℕ, ◌<◌, Bool, true, false, List, [], ◌∷◌, Option, Some, None, All, length, get_or, position, slice_get, bytes_eq, refl, sym, ap, ◌∙◌, String, string_bytes, cond, true≢false, is_some, IfSome, IfNone}
 use Rattle.std.specs.List.{AllByRecursion}
 use Rattle.std.specs.Map.{keys_of, lookup}
 use Rattle.std.specs.declared.alloc.Global.{Global}
 use Rattle.std.proofs.lemmas.List.{get_or-map, length-map}
 use Rattle.std.proofs.lemmas.List.Elements.{All-from_recursion}
 use Rattle.std.proofs.lemmas.List.Quantifiers.{position-Some}
-use Rattle.std.proofs.lemmas.Option.{slice_get-map, slice_get-get_or}
+use Rattle.std.proofs.lemmas.Option.{slice_get-get_or}
 use Rattle.std.proofs.lemmas.Slice.Eq.{bytes_eq-Decides}
 use Rattle.history.specs.declared.header.Header.{Header}
 use Rattle.script.specs.Script.{named}
-
-abbrev Entry : Type 0
-Entry = String Global × Header
+use Rattle.script.proofs.Firsts.{Entry, object_at}
 
 abbrev is_of : List ℕ → String Global → Bool
 is_of name k = bytes_eq name (string_bytes k)
@@ -28,9 +26,7 @@ at_place name es i d found =
     let is : name ≡ string_bytes e.0 = (bytes_eq-Decides name (string_bytes e.0)).0 (ap (is_of name) (sym
     key) ∙ known.1) in (
       e.1,
-      slice_get-map (λ (e : Entry). (string_bytes e.0, e.1)) es i
-          ∙ ap (option_map (λ (e : Entry). (string_bytes e.0, e.1))) (slice_get-get_or es i d within)
-          ∙ ap (λ (n : List ℕ). Some (n, e.1)) (sym is),
+      object_at es i e (sym (slice_get-get_or es i d within)) ∙ ap (λ (n : List ℕ). Some (n, e.1)) (sym is),
     )
 
 at_position : (name : List ℕ) (es : List Entry) (i : ℕ) → position (is_of name) (keys_of es) ≡ Some i →

@@ -12,6 +12,7 @@ use Rattle.serde_json.specs.View.{view, items_of}
 use Rattle.serde_json.specs.declared.value.Value.{Value}
 use Rattle.script.specs.Saying.{object_value}
 use Rattle.script.specs.Script.{Named, named}
+use Rattle.script.proofs.Firsts.{Entry}
 
 pub two_items : (vs : List Value) (a b : Value) → length vs ≡ 2 → a ≡ get_or vs 0 a → b ≡ get_or vs 1 b →
     vs ≡ a ∷ b ∷ []
@@ -35,9 +36,6 @@ two_texts d vs a b name part o two is spelt first second =
     let both = parts (view a) (view b) (string o.0) (string (part_of o.1))
     (ap (λ (ws : List Value). array (items_of (map view ws))) (sym two) ∙ sym is ∙ spelt) in
     (same_text name o.0 (sym first ∙ both.0), same_text part (part_of o.1) (sym second ∙ both.1))
-
-abbrev Entry : Type 0
-Entry = String Global × Header
 
 appended : (es : List Entry) (k : String Global) (h : Header) (name : List ℕ) → string_bytes k ≡ name →
     AllByRecursion (λ b. b.0 ≢ name) (named es) → named (insert_entry string_eq es k h) ≡ named es ++ (

@@ -6,7 +6,8 @@ use Rattle.std.specs.Result.{IsErr, IsErrAnd, IfErr}
 use Rattle.serde_json.specs.Data.{Data}
 use Rattle.serde_json.specs.View.{view}
 use Rattle.serde_json.specs.declared.value.Value.{Value}
-use Rattle.script.specs.Reading.{Says, HasNoRounds, HasBadCall, IsThreadFault, IsThreadsFault}
+use Rattle.script.specs.inner.ThreadFaults.{IsThreadFault}
+use Rattle.script.specs.Reading.{Says, HasNoRounds, HasBadCall, IsThreadsFault}
 use Rattle.script.specs.Saying.{Say, SaysObject, SaysCall, SaysWorker}
 use Rattle.script.specs.Script.{Named, WorkerView, ScriptView, IsObject, IsCall, IsWorker, IsScript}
 use Rattle.script.specs.declared.call.Call.{Call}
@@ -53,7 +54,7 @@ is_script value s says =
           (is_worker s.objects threads) says.threads s.workers says.each_worker);
     }
 
--- a fault of the thread at a place, behind good ones
+-- a fault of the thread at a place, after good ones
 threads_fault : (objects : List Named) (threads : ℕ) (values : List Value) (i : ℕ) (v : Value)
     (ws : List WorkerView) (f : ScriptFault) → slice_get values i ≡ Some v →
     Say (SaysWorker objects threads) [] (take i (map view values)) ws →

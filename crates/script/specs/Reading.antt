@@ -45,21 +45,6 @@ IsObjectsFault threads values (BadObject place) =
 IsObjectsFault threads values OutOfMemory = Unit {0}
 IsObjectsFault threads values _ = ⊥
 
--- the fault of the calls of one thread
-abbrev pub IsCallsFault : List Named → ℕ → ℕ → List Data → ScriptFault → Type 0
-IsCallsFault objects threads thread values (BadCall t place) =
-    (t ≡ thread) × StopsAt (SaysCall objects threads) values place (SaysNoCall objects threads)
-IsCallsFault objects threads thread values OutOfMemory = Unit {0}
-IsCallsFault objects threads thread values _ = ⊥
-
--- the fault of one thread
-abbrev pub IsThreadFault : List Named → ℕ → ℕ → Data → ScriptFault → Type 0
-IsThreadFault objects threads thread value (BadThread t) = (t ≡ thread) × HasNoRounds value
-IsThreadFault objects threads thread value (BadCall t place) =
-    (t ≡ thread) × HasBadCall objects threads place value
-IsThreadFault objects threads thread value OutOfMemory = Unit {0}
-IsThreadFault objects threads thread value _ = ⊥
-
 -- the fault of a list of threads
 abbrev pub IsThreadsFault : List Named → ℕ → List Data → ScriptFault → Type 0
 IsThreadsFault objects threads values (BadThread thread) =

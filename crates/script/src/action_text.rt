@@ -7,26 +7,27 @@ ghost use Rattle.history.specs.Text.{line_of};
 ghost use Rattle.monitor.specs.declared.how.How.TheVariants.{Timed};
 ghost use Rattle.script.specs.declared.action.Action.{Action};
 ghost use Rattle.script.specs.declared.action.Action.TheVariants.{Acquire, AwaitOn};
-ghost use Rattle.script.specs.CallReading.{timed_at, timed_acquire_at, timed_await_at, waiting_at, action_at};
+ghost use Rattle.script.specs.inner.CallReading.{timed_at, timed_acquire_at, timed_await_at, waiting_at, action_at};
 ghost use Rattle.script.specs.CallText.{action_words, HasAmounts};
 
 use crate::action::Action;
+use crate::limits::MOST_MILLISECONDS;
 use history::words::Words;
 use monitor::How;
 use steps::{asked, condition};
 
 /// Reads milliseconds.
-#[tactic(auto, unfolding(crate::specs::CallReading::timed_at))]
+#[tactic(auto, unfolding(crate::specs::inner::CallReading::timed_at))]
 fn timed(words: &mut Words<'_>) -> Option<How>
     ensures is { with_rest result words.new ≡ timed_at words.old }
     ensures found { IfSome result (λ how. (ms : ℕ) × (how ≡ Timed ms) × (ms < 2 ^ 32)
         × (words.old ≡ decimal ms ∷ words.new)) }
 {
-    Some(How::Timed(words.number(0, 4_294_967_295)? as u32))
+    Some(How::Timed(words.number(0, MOST_MILLISECONDS)? as u32))
 }
 
 /// Reads a mode, an amount and milliseconds.
-#[tactic(auto, unfolding(crate::specs::CallReading::timed_acquire_at))]
+#[tactic(auto, unfolding(crate::specs::inner::CallReading::timed_acquire_at))]
 fn timed_acquire(words: &mut Words<'_>) -> Option<Action>
     ensures is { with_rest result words.new ≡ timed_acquire_at words.old }
     ensures found { IfSome result (λ a. HasAmounts a
@@ -37,7 +38,7 @@ fn timed_acquire(words: &mut Words<'_>) -> Option<Action>
 }
 
 /// Reads a condition and milliseconds.
-#[tactic(auto, unfolding(crate::specs::CallReading::timed_await_at))]
+#[tactic(auto, unfolding(crate::specs::inner::CallReading::timed_await_at))]
 fn timed_await(words: &mut Words<'_>) -> Option<Action>
     ensures is { with_rest result words.new ≡ timed_await_at words.old }
     ensures found { IfSome result (λ a. HasAmounts a
@@ -48,7 +49,7 @@ fn timed_await(words: &mut Words<'_>) -> Option<Action>
 }
 
 /// Reads the rest of a call without an amount, by its name: one of a condition, or of none.
-#[tactic(auto, unfolding(crate::specs::CallReading::waiting_at))]
+#[tactic(auto, unfolding(crate::specs::inner::CallReading::waiting_at))]
 fn waiting(name: &[u8], words: &mut Words<'_>) -> Option<Action>
     ensures is { with_rest result words.new ≡ waiting_at name.now words.old }
     ensures found { IfSome result (λ a. HasAmounts a × (name.now ∷ words.old ≡ action_words a ++ words.new)) }
@@ -73,7 +74,7 @@ fn waiting(name: &[u8], words: &mut Words<'_>) -> Option<Action>
 }
 
 /// Reads a call of an object.
-#[tactic(auto, unfolding(crate::specs::CallReading::action_at))]
+#[tactic(auto, unfolding(crate::specs::inner::CallReading::action_at))]
 pub(crate) fn action(words: &mut Words<'_>) -> Option<Action>
     ensures is { with_rest result words.new ≡ action_at words.old }
     ensures found { IfSome result (λ a. HasAmounts a × (words.old ≡ action_words a ++ words.new)) }

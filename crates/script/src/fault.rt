@@ -9,21 +9,21 @@ use thiserror::Error;
 /// The first fault of a script. Its parts are checked in this order: the text, the top, each object, then
 /// each thread with its calls.
 ///
-/// Objects, threads and calls are counted from 0.
+/// Objects, threads and calls are counted from 0. The numbers with names are [`limits`](crate::limits).
 #[derive(Clone, Copy, Debug, PartialEq, Eq, Error)]
 pub enum ScriptFault {
     /// The bytes aren't the text of a JSON value.
     #[error("not JSON")]
     NotJson,
-    /// The value isn't an object with exactly the keys `objects`, a list of 1 to 64, and `threads`, a list of
-    /// 1 to 256.
+    /// The value isn't an object with exactly the keys `objects`, a list of 1 to `MOST_OBJECTS`, and
+    /// `threads`, a list of 1 to `MOST_THREADS`.
     #[error("bad top")]
     BadTop,
     /// This member of `objects` isn't a new name and a header with as many seats as there are threads.
     #[error("bad object {0}")]
     BadObject(usize),
-    /// This member of `threads` isn't an object with exactly the keys `repeat`, 1 to 1000000, and `calls`, a
-    /// list of at most 10000.
+    /// This member of `threads` isn't an object with exactly the keys `repeat`, 1 to `MOST_ROUNDS`, and
+    /// `calls`, a list of at most `MOST_CALLS`.
     #[error("bad thread {0}")]
     BadThread(usize),
     /// This member of `calls`, the second number, isn't a call. The first number is the thread's.

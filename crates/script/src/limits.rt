@@ -13,3 +13,9 @@ pub const MOST_ROUNDS: u64 = 1_000_000;
 
 /// The greatest number of calls in a round.
 pub const MOST_CALLS: usize = 10_000;
+
+/// The greatest number of bytes of a name.
+pub const MOST_NAME_BYTES: usize = 32;
+
+/// The greatest number of milliseconds of a timed call.
+pub const MOST_MILLISECONDS: u64 = 4_294_967_295;

@@ -5,10 +5,9 @@ ghost use Rattle.history.specs.declared.header.Header.{Header};
 ghost use Rattle.script.specs.Name.{IsName, is_name_byte};
 ghost use Rattle.script.specs.Script.{named};
 
+use crate::limits::MOST_NAME_BYTES;
 use history::header::Header;
 use indexmap::IndexMap;
-
-const LONGEST: usize = 32;
 
 /// The word that begins a call without a name.
 pub(crate) const INTERRUPT: &str = "interrupt";
@@ -24,7 +23,7 @@ pub(crate) fn is_name(name: &str) -> bool
     ensures { IsTrue result ↔ IsName name.now }
 {
     1 <= name.len()
-        && name.len() <= LONGEST
+        && name.len() <= MOST_NAME_BYTES
         && name.as_bytes().iter().all(|byte| is_name_byte(*byte))
         && name != INTERRUPT
 }

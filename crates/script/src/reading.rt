@@ -53,11 +53,14 @@ fn top_of(value: &Value) -> Option<Top<'_>>
 
 /// Returns the script that a text spells, or its first fault.
 ///
-/// The text is a JSON object with two keys. `objects` has a list of 1 to 64 pairs: a name, and the object
-/// part of a header, with as many seats as there are threads. A name has 1 to 32 characters of `a` to `z`,
-/// `0` to `9` and `-`, isn't `interrupt`, and is there once. `threads` has a list of 1 to 256 objects with
-/// two keys each: `repeat`, a whole number from 1 to 1000000 without fraction and exponent, and `calls`, a
-/// list of at most 10000 texts. Each text spells an [`Action`](crate::Action) of an object, or an interrupt.
+/// The text is a JSON object with two keys, and meets the [`limits`](crate::limits):
+///
+/// - `objects` has a list of 1 to `MOST_OBJECTS` pairs: a name, and the object part of a header, with as many
+///   seats as there are threads. A name has 1 to `MOST_NAME_BYTES` characters of `a` to `z`, `0` to `9` and
+///   `-`, isn't `interrupt`, and is there once.
+/// - `threads` has a list of 1 to `MOST_THREADS` objects with two keys each: `repeat`, a whole number from 1
+///   to `MOST_ROUNDS` without fraction and exponent, and `calls`, a list of at most `MOST_CALLS` texts. Each
+///   text spells an [`Action`](crate::Action) of an object, or an interrupt.
 ///
 /// If a key is in an object twice, its last value counts, as in `serde_json`. Time and memory grow linearly
 /// with the text.

@@ -42,11 +42,15 @@ impl Script {
     /// The first of these that applies, in the order in which [`read_script`](crate::read_script) looks for
     /// them:
     ///
-    /// - [`ScriptFault::BadTop`] unless there are 1 to 64 objects and 1 to 256 workers.
+    /// - [`ScriptFault::BadTop`] unless there are 1 to `MOST_OBJECTS` objects and 1 to `MOST_THREADS`
+    ///   workers.
     /// - [`ScriptFault::BadObject`] for the first object with a name that no script has, or a header that
     ///   isn't in range or has another number of seats than there are workers.
-    /// - [`ScriptFault::BadThread`] or [`ScriptFault::BadCall`] for the first worker without 1 to 1000000
-    ///   rounds of at most 10000 calls, or with a call of no object, or an interrupt of no worker.
+    /// - [`ScriptFault::BadThread`] or [`ScriptFault::BadCall`] for the first worker without 1 to
+    ///   `MOST_ROUNDS` rounds of at most `MOST_CALLS` calls, or with a call of no object, or an interrupt of
+    ///   no worker.
+    ///
+    /// These numbers are the [`limits`](crate::limits) of a script.
     pub fn new(
         objects: IndexMap<String, Header>,
         workers: Vec<Worker>,
@@ -71,7 +75,8 @@ impl Script {
         Script { objects, workers }
     }
 
-    /// Returns the headers by the names of their objects, in the order of the script: 1 to 64.
+    /// Returns the headers by the names of their objects, in the order of the script: at least 1, and at most
+    /// [`MOST_OBJECTS`](crate::limits::MOST_OBJECTS).
     pub fn objects(&self) -> &IndexMap<String, Header>
         ensures value { named result.now.entries ≡ self.now.objects }
         ensures limits { IsScript self.now }
@@ -79,7 +84,8 @@ impl Script {
         &self.objects
     }
 
-    /// Returns the workers in their order: 1 to 256.
+    /// Returns the workers in their order: at least 1, and at most
+    /// [`MOST_THREADS`](crate::limits::MOST_THREADS).
     pub fn workers(&self) -> &[Worker]
         ensures value { result.now ≡ self.now.workers }
         ensures limits { IsScript self.now }

@@ -28,14 +28,16 @@ impl Worker {
         Worker { repeat, calls }
     }
 
-    /// Returns how often the thread makes its calls: in a script 1 to 1000000 times.
+    /// Returns how often the thread makes its calls: in a script at least once, and at most
+    /// [`MOST_ROUNDS`](crate::limits::MOST_ROUNDS) times.
     pub fn repeat(&self) -> u32
         ensures { result ≡ self.now.repeat }
     {
         self.repeat
     }
 
-    /// Returns the calls of one round in their order: in a script at most 10000.
+    /// Returns the calls of one round in their order: in a script at most
+    /// [`MOST_CALLS`](crate::limits::MOST_CALLS).
     pub fn calls(&self) -> &[Call]
         ensures { result.now ≡ self.now.calls }
     {

@@ -4,7 +4,8 @@ ghost use Rattle.std.specs.Prelude.{◌≡◌, ◌≤◌, [], List, ℕ, All, le
 ghost use Rattle.serde_json.specs.Data.{Data};
 ghost use Rattle.serde_json.specs.View.{view};
 ghost use Rattle.script.specs.Name.{IsName};
-ghost use Rattle.script.specs.Reading.{IsCallsFault, IsThreadFault, IsThreadsFault, HasNoRounds};
+ghost use Rattle.script.specs.inner.ThreadFaults.{IsCallsFault, IsThreadFault};
+ghost use Rattle.script.specs.Reading.{IsThreadsFault, HasNoRounds};
 ghost use Rattle.script.specs.Saying.{Say, SaysCall, SaysWorker, IsRounds};
 ghost use Rattle.script.specs.Script.{named, WorkerView};
 ghost use Rattle.script.specs.declared.call.Call.{Call};

@@ -2,7 +2,7 @@
 use Rattle.std.proofs.Common.{◌≡◌, ℕ, suc, Bool, true, List, [], ◌∷◌, inl, inr}
 use Rattle.std.proofs.lemmas.Bool.{false≢true}
 use Rattle.script.specs.Script.{WorkerView}
-use Rattle.workers.specs.Works.{StopsFirst}
+use Rattle.workers.specs.Gates.{StopsFirst}
 
 abbrev pub lets : ℕ → ℕ → Bool → Type 0
 lets worker call answer = answer ≡ true

@@ -1,4 +1,4 @@
--- What the run of a script answers.
+-- What the run of a script returns.
 use Rattle.std.proofs.Common.{ℕ, List, Option, Ok, Err}
 use Rattle.std.specs.Prelude.{IfSome}
 use Rattle.std.proofs.lemmas.Option.{IfSome_then}
@@ -10,14 +10,14 @@ use Rattle.workers.specs.declared.fault.RunFault.{RunFault}
 use Rattle.workers.specs.declared.fault.RunFault.TheVariants.{GateShut, NotStarted, Memory as RunMemory}
 use Rattle.workers.specs.declared.report.Report.{Report}
 use Rattle.workers.specs.Reports.{IsReport}
-use Rattle.workers.specs.Works.{IsTold}
+use Rattle.workers.specs.Gates.{IsFaultOfRun}
 use Rattle.tasks.specs.declared.fault.Fault.TheVariants.{Run}
 use Rattle.tasks.specs.RunScript.{IsRun, Runs}
 use Rattle.tasks.proofs.OpenGates.{lets, stops_nobody}
 
 -- so does a script whose threads aren't run
 pub not_run : (left old : Option (List ℕ)) (script : ScriptView) (fault : RunFault) →
-    IfSome left (λ text. Reads text (Ok script)) → IsTold lets script.workers fault →
+    IfSome left (λ text. Reads text (Ok script)) → IsFaultOfRun lets script.workers fault →
     Runs left old old (Err (Run fault))
 not_run left old script RunMemory reads is = Keeps-refl old
 not_run left old script (NotStarted worker) reads is = (

@@ -1,5 +1,5 @@
 -- What the run of a script reads, writes and returns.
-use Rattle.std.specs.Prelude.{◌≡◌, ◌<◌, ℕ, List, Option, Result, Ok, Err, IfSome, length, true}
+use Rattle.std.specs.Prelude.{◌≡◌, ◌<◌, ℕ, List, Option, Result, Ok, Err, IfSome, length}
 use Rattle.std.specs.Io.KnownBytes.{Appends, IsAtEnd, Keeps}
 use Rattle.run_text.specs.RunText.{run_text}
 use Rattle.script.specs.Reading.{IsFault, Reads}
@@ -9,10 +9,9 @@ use Rattle.streams.specs.Writing.{AppendsFront}
 use Rattle.tasks.specs.declared.fault.Fault.{Fault}
 use Rattle.tasks.specs.declared.fault.Fault.TheVariants.{Usage, BadFrom, BadTo, Memory, Stream, Script, Run}
 use Rattle.workers.specs.declared.fault.RunFault.TheVariants.{GateShut, NotStarted, Memory as RunMemory}
-use Rattle.workers.specs.declared.report.ObjectReport.{ObjectReport}
 use Rattle.workers.specs.Refused.{WasRefused}
 use Rattle.workers.specs.declared.report.Report.{Report}
-use Rattle.workers.specs.Reports.{IsReport, is_legal}
+use Rattle.workers.specs.Reports.{IsReport}
 
 -- The text is that of a script, a run of it has this report, and this is written for the report.
 pub record IsRun (text : List ℕ) (Written : List ℕ → Type 0) : Type 0 where

@@ -1,15 +1,9 @@
 -- What only contracts of private functions cite: no promise of the crate rests on it.
-use Rattle.std.specs.Prelude.{◌≡◌, ℕ, List, Option, IfSome, true}
+use Rattle.std.specs.Prelude.{ℕ, List, Option, IfSome}
 use Rattle.script.specs.Reading.{IsFault}
 use Rattle.streams.specs.declared.stream_fault.StreamFault.TheVariants.{Text, ReadFailed, WriteFailed, Memory as StreamMemory}
 use Rattle.tasks.specs.declared.fault.Fault.{Fault}
 use Rattle.tasks.specs.declared.fault.Fault.TheVariants.{Usage, BadFrom, BadTo, Memory, Stream, Script, Run}
-use Rattle.workers.specs.declared.report.ObjectReport.{ObjectReport}
-use Rattle.workers.specs.Reports.{is_legal}
-
--- the audit judges the history of an object legal
-abbrev pub EndsWell : ObjectReport → Type 0
-EndsWell part = is_legal part.judgement ≡ true
 
 -- why a script can't be read
 abbrev pub IsFaultOfScript : Option (List ℕ) → Fault → Type 0

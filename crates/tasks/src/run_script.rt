@@ -2,10 +2,11 @@
 
 ghost use Rattle.std.specs.Prelude.{◌≡◌, ◌≤◌, ◌⊎◌, ◌↔◌, false, true, All, IfErr, IfOk, IfSome, IsErrOf, IsTrue, OnOk};
 ghost use Rattle.std.specs.Io.KnownBytes.{IsAtEnd};
+ghost use Rattle.run_text.specs.inner.{IsLegalPart};
 ghost use Rattle.script.specs.Reading.{Reads};
 ghost use Rattle.streams.specs.declared.stream_fault.StreamFault.TheVariants.{ReadFailed, WriteFailed};
 ghost use Rattle.tasks.specs.RunScript.{IsReadOut, Runs};
-ghost use Rattle.tasks.specs.inner.{EndsWell, IsFaultOfScript};
+ghost use Rattle.tasks.specs.inner.{IsFaultOfScript};
 ghost use Rattle.tasks.specs.declared.fault.Fault.TheVariants.{Stream};
 
 use crate::fault::Fault;
@@ -35,7 +36,7 @@ fn script_of<R: Source>(alloc: Global, reader: &mut R) -> Result<Script, Fault>
 
 /// Returns the exit status: 0, or 1 if some history isn't legal.
 fn status_of(parts: &[ObjectReport]) -> u8
-    ensures legal { (result ≡ 0) ↔ All EndsWell parts.now }
+    ensures legal { (result ≡ 0) ↔ All IsLegalPart parts.now }
     ensures others { result ≤ 1 }
 {
     if parts.iter().all(|part| part.is_legal()) {

@@ -10,7 +10,7 @@ use crate::texts::{HISTORY, SCRIPT, STEPS};
 use acquire_queue::queue::Queue;
 use condition_queue::waiters::Waiters;
 use deciding::entries::plain;
-use drawing::whole::drawn_of;
+use drawing::drawn_entries::drawn_of;
 use frame::acts::Act;
 use history::base::Base;
 use history::entries::History;

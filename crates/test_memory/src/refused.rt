@@ -29,23 +29,7 @@ const COARSE: usize = 256;
 
 /// A call, the size of a piece, and how often the call fails at least and at most.
 #[derive(Clone, Copy)]
-struct Row<'a> {
-    what: Play<'a>,
-    piece: usize,
-    least: u32,
-    most: u32,
-}
-
-impl<'a> Row<'a> {
-    fn of(what: Play<'a>, piece: usize, least: u32, most: u32) -> Row<'a> {
-        Row {
-            what,
-            piece,
-            least,
-            most,
-        }
-    }
-}
+struct Row<'a>(Play<'a>, usize, u32, u32);
 
 /// Returns how often a call fails. Each time nothing is written, and in the end all that is wanted.
 fn fed(
@@ -99,11 +83,11 @@ fn try_row(
     number: usize,
     row: &Row,
 ) {
+    let Row(what, piece, least, most) = *row;
     answers.wanted.clear();
-    let came = perform(rt, row.what, &mut answers.wanted);
+    let came = perform(rt, what, &mut answers.wanted);
     assert!(rt; came == Ok(true), "row {number}: {came:?}");
-    let refused = refusals(rt, row.what, row.piece, &answers.wanted, &mut answers.out);
-    let (least, most) = (row.least, row.most);
+    let refused = refusals(rt, what, piece, &answers.wanted, &mut answers.out);
     match refused {
         Ok(refused) => assert!(rt;
             least <= refused && refused <= most,
@@ -146,17 +130,17 @@ fn cores_and_what_they_stand_on_are_opened_whole_or_not_at_all(
     try_rows(
         &rt,
         &[
-            Row::of(Play::Core(lock), COARSE, 400, 424),
-            Row::of(Play::Core(read_write), COARSE, 416, 441),
-            Row::of(Play::Core(semaphore), COARSE, 280, 300),
-            Row::of(Play::Core(latch), COARSE, 280, 300),
-            Row::of(Play::Base(read_write), COARSE, 175, 192),
-            Row::of(Play::Readers, COARSE, 2, 12),
-            Row::of(Play::Line, COARSE, 145, 158),
-            Row::of(Play::Sleepers, COARSE, 50, 64),
-            Row::of(Play::Nodes, COARSE, 34, 44),
-            Row::of(Play::Run, COARSE, 40, 90),
-            Row::of(Play::RunActs, COARSE, 60, 120),
+            Row(Play::Core(lock), COARSE, 400, 424),
+            Row(Play::Core(read_write), COARSE, 416, 441),
+            Row(Play::Core(semaphore), COARSE, 280, 300),
+            Row(Play::Core(latch), COARSE, 280, 300),
+            Row(Play::Base(read_write), COARSE, 175, 192),
+            Row(Play::Readers, COARSE, 2, 12),
+            Row(Play::Line, COARSE, 145, 158),
+            Row(Play::Sleepers, COARSE, 50, 64),
+            Row(Play::Nodes, COARSE, 34, 44),
+            Row(Play::Run, COARSE, 40, 90),
+            Row(Play::RunActs, COARSE, 60, 120),
         ],
     )?;
     Ok(())
@@ -170,13 +154,13 @@ fn monitors_and_parkings_are_opened_whole_or_not_at_all(rt: HostRuntime) -> Resu
     try_rows(
         &rt,
         &[
-            Row::of(Play::Lock, FINE, 260, 300),
-            Row::of(Play::ReadWriteLock, FINE, 265, 310),
-            Row::of(Play::Semaphore, FINE, 260, 300),
-            Row::of(Play::Latch, FINE, 260, 300),
-            Row::of(Play::Threads, 64, 8, 18),
-            Row::of(Play::Scripted, 32, 30, 64),
-            Row::of(Play::Bars, FINE, 5, 1100),
+            Row(Play::Lock, FINE, 260, 300),
+            Row(Play::ReadWriteLock, FINE, 265, 310),
+            Row(Play::Semaphore, FINE, 260, 300),
+            Row(Play::Latch, FINE, 260, 300),
+            Row(Play::Threads, 64, 8, 18),
+            Row(Play::Scripted, 32, 30, 64),
+            Row(Play::Bars, FINE, 5, 1100),
         ],
     )?;
     Ok(())
@@ -199,10 +183,7 @@ const NARROW: [(Stream, &[u8], u32, u32); 8] = [
 #[test]
 fn a_stream_that_lacks_memory_writes_nothing(rt: HostRuntime) -> Result<(), Fail> {
     for (stream, text, least, most) in NARROW {
-        try_rows(
-            &rt,
-            &[Row::of(Play::Through(stream, text), 64, least, most)],
-        )?;
+        try_rows(&rt, &[Row(Play::Through(stream, text), 64, least, most)])?;
     }
     Ok(())
 }
@@ -214,18 +195,12 @@ fn a_replay_of_many_seats_takes_hardly_more_than_its_tables(rt: HostRuntime) -> 
         let most: u32 = if number < 2 || number == 4 { 760 } else { 640 };
         for stream in [Stream::Replay, Stream::History] {
             let what = Play::Through(stream, text);
-            try_rows(
-                &rt,
-                &[Row::of(what, COARSE, most.saturating_sub(120), most)],
-            )?;
+            try_rows(&rt, &[Row(what, COARSE, most.saturating_sub(120), most)])?;
         }
     }
     for text in &TRIMMED {
         for stream in [Stream::Replay, Stream::History] {
-            try_rows(
-                &rt,
-                &[Row::of(Play::Through(stream, text), COARSE, 280, 400)],
-            )?;
+            try_rows(&rt, &[Row(Play::Through(stream, text), COARSE, 280, 400)])?;
         }
     }
     Ok(())
@@ -237,9 +212,9 @@ fn what_is_read_is_read_whole_or_not_at_all(rt: HostRuntime) -> Result<(), Fail>
     try_rows(
         &rt,
         &[
-            Row::of(Play::Again(HISTORY), 64, 160, 200),
-            Row::of(Play::Again(ON_SLEEPER), 64, 185, 230),
-            Row::of(Play::Script(SCRIPT), FINE, 700, 860),
+            Row(Play::Again(HISTORY), 64, 160, 200),
+            Row(Play::Again(ON_SLEEPER), 64, 185, 230),
+            Row(Play::Script(SCRIPT), FINE, 700, 860),
         ],
     )?;
     Ok(())
@@ -253,15 +228,9 @@ fn a_list_and_a_source_take_hardly_more_than_they_have(rt: HostRuntime) -> Resul
     steps.push_str("aqs-steps 1 latch seats 1 count 1 cap 16\n")?;
     put_times(&mut steps, "0 look\n", 200)?;
     steps.push_str("end 200\n")?;
-    try_rows(
-        &rt,
-        &[Row::of(Play::Steps(steps.as_bytes()), COARSE, 12, 24)],
-    )?;
+    try_rows(&rt, &[Row(Play::Steps(steps.as_bytes()), COARSE, 12, 24)])?;
     put_times(&mut steps, "0 look\n", 14_000)?;
-    try_rows(
-        &rt,
-        &[Row::of(Play::Bytes(steps.as_bytes()), COARSE, 440, 530)],
-    )?;
+    try_rows(&rt, &[Row(Play::Bytes(steps.as_bytes()), COARSE, 440, 530)])?;
     Ok(())
 }
 
@@ -271,10 +240,7 @@ fn a_list_and_a_source_take_hardly_more_than_they_have(rt: HostRuntime) -> Resul
 fn a_script_takes_hardly_more_than_its_text_and_its_calls(rt: HostRuntime) -> Result<(), Fail> {
     let mut script = String::new(rt.alloc());
     put_wide_script(&mut script)?;
-    try_rows(
-        &rt,
-        &[Row::of(Play::Script(script.as_bytes()), 4096, 100, 175)],
-    )?;
+    try_rows(&rt, &[Row(Play::Script(script.as_bytes()), 4096, 100, 175)])?;
     Ok(())
 }
 
@@ -286,7 +252,7 @@ fn a_growth_of_a_history_is_refused(rt: HostRuntime) -> Result<(), Fail> {
     put_pairs(&mut steps, 2_000)?;
     for stream in [Stream::Replay, Stream::History] {
         let what = Play::Through(stream, steps.as_bytes());
-        try_rows(&rt, &[Row::of(what, COARSE, 700, 900)])?;
+        try_rows(&rt, &[Row(what, COARSE, 700, 900)])?;
     }
     let mut history = String::new(rt.alloc());
     put_history_of_pairs(&mut history, 600)?;
@@ -294,8 +260,8 @@ fn a_growth_of_a_history_is_refused(rt: HostRuntime) -> Result<(), Fail> {
     try_rows(
         &rt,
         &[
-            Row::of(Play::Again(history.as_bytes()), COARSE, 220, 280),
-            Row::of(audit, COARSE, 250, 290),
+            Row(Play::Again(history.as_bytes()), COARSE, 220, 280),
+            Row(audit, COARSE, 250, 290),
         ],
     )?;
     Ok(())

@@ -3,7 +3,6 @@
 
 use crate::any_core::{AnyCore, Outcome};
 use crate::any_monitor::AnyMonitor;
-use crate::texts::put_times;
 use frame::acts::{Act, Done};
 use history::fault::Fault;
 use history::header::Header;
@@ -11,7 +10,6 @@ use history::step::{Answer, Step};
 use std::alloc::Global;
 use std::process::Abort;
 use std::sync::Wait;
-use std::test::Fail;
 use steps::read_steps;
 use test_support::examples::situations;
 
@@ -112,12 +110,10 @@ fn act_all<R: Abort + Wait>(
     }
 }
 
-/// What there is after a list.
-#[derive(Clone, Copy, PartialEq, Eq)]
+/// After a list: how many entries there are, and what a core's observers return.
+#[derive(Clone, Copy)]
 struct After {
     entries: u64,
-    calls: u64,
-    /// What a core's observers return.
     told: u64,
 }
 
@@ -135,11 +131,8 @@ fn act_anew<R: Abort + AllocGlobal + Wait>(
     let (entries, calls) = (core.entries(), core.calls());
     let is_same = monitor.close(rt) == Some((entries, calls, calls));
     assert!(rt; is_same);
-    After {
-        entries,
-        calls,
-        told: core.told(),
-    }
+    let told = core.told();
+    After { entries, told }
 }
 
 /// Takes a list in each way.
@@ -199,50 +192,4 @@ fn who_is_named_or_lapses_is_told_until_it_looks(rt: HostRuntime) {
         let after = try_text(&rt, text, Some(told));
         assert!(rt; 0 < after.entries);
     }
-}
-
-/// A header, lines that are repeated, how often, and how many entries and calls there are then: read holds up
-/// to their limit, and the borders of the history's pages.
-const LONG: [(&str, &str, u32, u64); 4] = [
-    (
-        "rw nonfair seats 1 conditions 0 cap 200000",
-        "0 acquire s 1\n",
-        65_536,
-        1,
-    ),
-    (
-        "lock nonfair seats 1 conditions 0 cap 4096",
-        "0 acquire x 1\n0 give x 1\n",
-        511,
-        2,
-    ),
-    (
-        "lock nonfair seats 1 conditions 0 cap 4096",
-        "0 acquire x 1\n0 give x 1\n",
-        512,
-        2,
-    ),
-    (
-        "lock nonfair seats 1 conditions 0 cap 4096",
-        "0 acquire x 1\n0 give x 1\n",
-        513,
-        2,
-    ),
-];
-
-#[test]
-fn long_lists_are_answered_in_each_way(rt: HostRuntime) -> Result<(), Fail> {
-    for (part, lines, times, of_each) in &LONG {
-        let count = u64::from(*times).saturating_mul(*of_each);
-        let mut text = String::new(rt.alloc());
-        write!(text, "aqs-steps 1 {part}\n")?;
-        put_times(&mut text, lines, *times)?;
-        write!(text, "end {count}\n")?;
-        let after = try_text(&rt, &text, None);
-        assert!(rt;
-            after.entries == count && after.calls == count,
-            "{part} {times}"
-        );
-    }
-    Ok(())
 }

@@ -1,19 +1,17 @@
 -- A run as a whole.
-use Rattle.std.proofs.Common.{◌≡◌, ℕ, ◌<◌, ◌≤◌, ◌⊎◌, Bool, List, [], ◌∷◌, length, map, ap, sym, subst, arith, ◌∙◌, get_or, inl, inr}
+use Rattle.std.proofs.Common.{◌≡◌, ℕ, ◌<◌, ◌≤◌, Bool, List, [], ◌∷◌, length, map, ap, sym, subst, arith, ◌∙◌, get_or}
 use Rattle.std.specs.List.{All}
 use Rattle.std.proofs.lemmas.List.Elements.{All-nil, All-cons, All-head, All-tail, All-same, All-weaker}
 use Rattle.history.specs.declared.header.Header.{Header}
 use Rattle.monitor.specs.Shown.{Shown}
 use Rattle.script.specs.Script.{IsObject, IsScript, Named, ScriptView, WorkerView}
 use Rattle.word_lock.specs.Ticket.{LockId}
-use Rattle.workers.specs.declared.fault.RunFault.{RunFault}
-use Rattle.workers.specs.declared.fault.RunFault.TheVariants.{Memory}
 use Rattle.workers.specs.declared.work.Worked.{Worked}
-use Rattle.workers.specs.Calls.{lock_of}
 use Rattle.workers.specs.Reports.{header_of, headers_of, opening_rows}
-use Rattle.workers.specs.Works.{AllWorked, HasStopped, IsTold, WorksAt}
+use Rattle.workers.specs.inner.Homes.{lock_of}
+use Rattle.workers.specs.inner.Results.{WorksAt}
 use Rattle.workers.proofs.Columns.{heads, rows_count, rows_own, tails}
-use Rattle.workers.proofs.Working.{all_worked, stopped_told}
+use Rattle.workers.proofs.Working.{AllWorked, all_worked}
 
 abbrev HasSeats : ℕ → LockId → Type 0
 HasSeats n lock = lock.header.seats ≡ n
@@ -60,11 +58,3 @@ ran answers s ws locks rows dones same opened count each =
     subst (λ (z : List (List Shown)). AllWorked answers 0 s.workers z dones) opened
     (subst (λ (z : List WorkerView). AllWorked answers 0 z rows dones) same
     (all_worked answers 0 ws rows dones as_many count each))
-
--- why a run stopped
-pub told_stop : (answers : ℕ → ℕ → Bool → Type 0) (ws : List WorkerView) (olds : List (List Shown))
-    (dones : List Worked) (fault : RunFault) → AllWorked answers 0 ws olds dones →
-    (fault ≡ Memory) ⊎ HasStopped fault dones → IsTold answers ws fault
-told_stop answers ws olds dones fault worked (inl memory) = subst (IsTold answers ws) (sym memory) tt
-told_stop answers ws olds dones fault worked (inr stopped) =
-    stopped_told answers ws olds dones fault worked stopped

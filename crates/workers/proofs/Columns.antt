@@ -1,7 +1,7 @@
 -- Rows of passes, and the columns of their objects.
-use Rattle.std.proofs.Common.{◌≡◌, ℕ, zero, suc, ◌+◌, ◌<◌, ◌≤◌, List, [], ◌∷◌, ◌++◌, length, map, take, Some, get_or, refl, ap, sym, subst, arith, ◌∙◌, eqb, cond, Bool, true, false}
+use Rattle.std.proofs.Common.{◌≡◌, ℕ, zero, suc, ◌+◌, ◌<◌, ◌≤◌, List, [], ◌∷◌, ◌++◌, length, map, replicate, take, Some, get_or, refl, ap, sym, subst, arith, ◌∙◌, eqb, cond, Bool, true, false}
 use Rattle.std.specs.List.{All, slice_get}
-use Rattle.std.proofs.lemmas.List.{append-nil, append_assoc, take_more}
+use Rattle.std.proofs.lemmas.List.{append-nil, append_assoc, length-map, map-append, take_more}
 use Rattle.std.proofs.lemmas.Option.{slice_get_within, get_or_from_slice_get}
 use Rattle.std.proofs.lemmas.List.Elements.{All-nil, All-cons, All-head, All-tail, All-push, All-same}
 use Rattle.std.proofs.lemmas.Bool.Decides.{nat_tests}
@@ -16,18 +16,18 @@ use Rattle.history.specs.declared.point.Point.{Point}
 use Rattle.word_lock.specs.Ticket.{LockId}
 use Rattle.workers.specs.declared.report.ObjectReport.{ObjectReport}
 use Rattle.workers.specs.declared.work.Worked.{Worked}
-use Rattle.workers.specs.Calls.{homes, homes_at, home_of, lock_of}
-use Rattle.workers.specs.Reports.{AreParts, HaveColumns, IsPart, IsSound, dealt_all, header_of, empties, homes_below, opening_row, opening_rows}
+use Rattle.workers.specs.Reports.{AreParts, IsPart, IsSound, dealt_all, header_of, opening_row, opening_rows}
 use Rattle.workers.specs.Rows.{dealt}
-use Rattle.workers.specs.Works.{AllWorked, passes_left}
+use Rattle.workers.specs.inner.Homes.{HaveColumns, home_of, homes, homes_below, lock_of}
+use Rattle.workers.specs.inner.Results.{passes_left}
+use Rattle.workers.proofs.Working.{AllWorked}
 
 -- one object more in a row
 row_more : (locks : List LockId) (lock : LockId) (seat : ℕ) →
     opening_row locks seat ++ opening_pass lock (blank lock.header) seat ∷ [] ≡
     opening_row (locks ++ lock ∷ []) seat
-row_more [] lock seat = refl
-row_more (l ∷ locks) lock seat =
-    ap (λ z. opening_pass l (blank l.header) seat ∷ z) (row_more locks lock seat)
+row_more locks lock seat =
+    sym (map-append (λ (l : LockId). opening_pass l (blank l.header) seat) locks (lock ∷ []))
 
 -- one object more in all rows
 pub rows_more : (locks : List LockId) (lock : LockId) (seat n : ℕ) →
@@ -41,17 +41,9 @@ rows_more locks lock seat (suc n) =
     ∙ ap (λ z. opening_row (locks ++ lock ∷ []) seat ∷ z) (rows_more locks lock (suc seat) n)
 
 -- no object yet
-pub rows_none : (seat n : ℕ) → empties n ≡ opening_rows [] seat n
+pub rows_none : (seat n : ℕ) → replicate n [] ≡ opening_rows [] seat n
 rows_none seat zero = refl
 rows_none seat (suc n) = ap (λ z. [] ∷ z) (rows_none (suc seat) n)
-
-empties_next : (n : ℕ) → empties n ++ [] ∷ [] ≡ empties (suc n)
-empties_next zero = refl
-empties_next (suc n) = ap (λ z. [] ∷ z) (empties_next n)
-
--- one empty row more
-pub empties_more : (n : ℕ) → empties n ++ [] ∷ [] ≡ empties (n + 1)
-empties_more n = let up : suc n ≡ n + 1 = omega arith in empties_next n ∙ ap empties up
 
 pub rows_count : (locks : List LockId) (seat n : ℕ) → length (opening_rows locks seat n) ≡ n
 rows_count locks seat zero = refl
@@ -69,17 +61,13 @@ rows_own locks seat (suc n) =
     All-cons (λ (row : List Shown). map lock_of row ≡ locks) (opening_row locks seat)
     (opening_rows locks (suc seat) n) (row_locks locks seat) (rows_own locks (suc seat) n)
 
+-- a seat of each monitor
+abbrev homes_at : List LockId → ℕ → List (LockId × ℕ)
+homes_at locks seat = map (λ lock. (lock, seat)) locks
+
 row_homes : (locks : List LockId) (seat : ℕ) → homes (opening_row locks seat) ≡ homes_at locks seat
 row_homes [] seat = refl
 row_homes (l ∷ locks) seat = ap (λ z. (l, seat) ∷ z) (row_homes locks seat)
-
-homes_each : (ps : List Shown) → length (homes ps) ≡ length ps
-homes_each [] = refl
-homes_each (p ∷ ps) = ap suc (homes_each ps)
-
-homes_at_each : (locks : List LockId) (seat : ℕ) → length (homes_at locks seat) ≡ length locks
-homes_at_each [] seat = refl
-homes_at_each (l ∷ locks) seat = ap suc (homes_at_each locks seat)
 
 -- columns with the seats below one
 abbrev pub HaveBelow : ℕ → List LockId → List (List Shown) → Type 0
@@ -90,13 +78,9 @@ HaveBelow n (lock ∷ locks) (column ∷ columns) =
     (homes column ≡ homes_below lock n) × HaveBelow n locks columns
 
 -- columns of nothing
-pub below_none : (locks : List LockId) → HaveBelow 0 locks (empties (length locks))
+pub below_none : (locks : List LockId) → HaveBelow 0 locks (replicate (length locks) [])
 below_none [] = tt
 below_none (lock ∷ locks) = (refl, below_none locks)
-
-homes_more : (ps : List Shown) (p : Shown) → homes (ps ++ p ∷ []) ≡ homes ps ++ home_of p ∷ []
-homes_more [] p = refl
-homes_more (q ∷ ps) p = ap (λ z. home_of q ∷ z) (homes_more ps p)
 
 pub heads : {A : Type 0} (x y : A) (xs ys : List A) → x ∷ xs ≡ y ∷ ys → x ≡ y
 heads x y xs ys same = cc
@@ -107,7 +91,8 @@ tails x y xs ys same = cc
 column_more : (n : ℕ) (lock : LockId) (column : List Shown) (p : Shown) → homes column ≡ homes_below lock n →
     home_of p ≡ (lock, n) → homes (column ++ p ∷ []) ≡ homes_below lock (suc n)
 column_more n lock column p below at =
-    homes_more column p ∙ ap (λ z. z ++ home_of p ∷ []) below ∙ ap (λ h. homes_below lock n ++ h ∷ []) at
+    map-append home_of column (p ∷ []) ∙ ap (λ z. z ++ home_of p ∷ []) below
+    ∙ ap (λ h. homes_below lock n ++ h ∷ []) at
 
 -- a row with one seat more
 below_more : (n : ℕ) (locks : List LockId) (row : List Shown) (columns : List (List Shown)) →
@@ -154,18 +139,19 @@ have_columns n (lock ∷ locks) (column ∷ columns) seats (first, rest) =
 pub all_columns : (answers : ℕ → ℕ → Bool → Type 0) (ws : List WorkerView) (locks : List LockId) (n : ℕ)
     (dones : List Worked) →
     All (λ (l : LockId). l.header.seats ≡ n) locks → AllWorked answers 0 ws (opening_rows locks 0 n) dones →
-    HaveColumns locks (dealt_all (passes_left dones) (empties (length locks)))
+    HaveColumns locks (dealt_all (passes_left dones) (replicate (length locks) []))
 all_columns answers ws locks n dones seats worked =
     let up : 0 + n ≡ n = omega arith in
-    have_columns n locks (dealt_all (passes_left dones) (empties (length locks))) seats
-    (subst (λ (z : ℕ). HaveBelow z locks (dealt_all (passes_left dones) (empties (length locks)))) up
-    (below_all answers ws locks 0 n dones (empties (length locks)) worked (below_none locks)))
+    have_columns n locks (dealt_all (passes_left dones) (replicate (length locks) [])) seats
+    (subst (λ (z : ℕ). HaveBelow z locks (dealt_all (passes_left dones) (replicate (length locks) []))) up
+    (below_all answers ws locks 0 n dones (replicate (length locks) []) worked (below_none locks)))
 
 -- a row has a pass for each object
 row_length : (ps : List Shown) (locks : List LockId) (seat : ℕ) → homes ps ≡ homes (opening_row locks seat) →
     length ps ≡ length locks
 row_length ps locks seat same =
-    sym (homes_each ps) ∙ ap length (same ∙ row_homes locks seat) ∙ homes_at_each locks seat
+    sym (length-map ps home_of) ∙ ap length (same ∙ row_homes locks seat)
+    ∙ length-map locks (λ (lock : LockId). (lock, seat))
 
 pub rows_fit : (answers : ℕ → ℕ → Bool → Type 0) (ws : List WorkerView) (locks : List LockId) (seat n k : ℕ)
     (dones : List Worked) →
@@ -256,18 +242,13 @@ parts_end all locks all_columns columns parts none have so_far =
     (no_parts columns (subst (λ (z : List LockId). HaveColumns z columns) none have))))
 
 -- the headers of the objects so far
-headers_both : (locks : List LockId) (lock : LockId) → map header_of (locks ++ lock ∷ []) ≡
-    map header_of locks ++ lock.header ∷ []
-headers_both [] lock = refl
-headers_both (l ∷ locks) lock = ap (λ z. l.header ∷ z) (headers_both locks lock)
-
 pub headers_more : (locks : List LockId) (lock : LockId) (hs : List Header) (k : ℕ) (h : Header) →
     map header_of locks ≡ take k hs → slice_get hs k ≡ Some h → lock.header ≡ h →
     map header_of (locks ++ lock ∷ []) ≡ take (k + 1) hs
 headers_more locks lock hs k h so_far at same =
     let below = slice_get_within hs k h at in
     let here : get_or hs k h ≡ h = get_or_from_slice_get hs k h h at in
-    headers_both locks lock ∙ ap (λ z. z ++ lock.header ∷ []) so_far
+    map-append header_of locks (lock ∷ []) ∙ ap (λ z. z ++ lock.header ∷ []) so_far
     ∙ ap (λ (z : Header). take k hs ++ z ∷ []) (same ∙ sym here) ∙ sym (take_more hs k h below)
 
 pub passes_count : (lock : LockId) (p : Point) (seat n : ℕ) → length (opening_passes lock p seat n) ≡ n
@@ -293,8 +274,7 @@ pub well_based : (lock : LockId) (v : HistoryView) → IsBased lock v → IsLawf
 well_based lock v is lawful =
     subst (IsBasedWell lock.header) (sym is.0) (is.1, lawful.may_fold.can.good)
 
--- all parts are sound
-part_sound : (lock : LockId) (column : List Shown) (part : ObjectReport) →
+pub part_sound : (lock : LockId) (column : List Shown) (part : ObjectReport) →
     IsPart lock column part → IsSound part
 part_sound lock column part is = (
   is.range,
@@ -304,18 +284,15 @@ part_sound lock column part is = (
       is.lawful.legal,
 )
 
-pub parts_sound : (locks : List LockId) (columns : List (List Shown)) (parts : List ObjectReport) →
-    AreParts locks columns parts → All IsSound parts
-parts_sound [] [] [] are = All-nil IsSound
-parts_sound [] [] (part ∷ parts) are = absurd are
-parts_sound [] (column ∷ columns) [] are = absurd are
-parts_sound [] (column ∷ columns) (part ∷ parts) are = absurd are
-parts_sound (lock ∷ locks) [] [] are = absurd are
-parts_sound (lock ∷ locks) [] (part ∷ parts) are = absurd are
-parts_sound (lock ∷ locks) (column ∷ columns) [] are = absurd are
-parts_sound (lock ∷ locks) (column ∷ columns) (part ∷ parts) (first, rest) =
-    All-cons IsSound part parts (part_sound lock column part first) (parts_sound locks columns parts rest)
-
-pub empties_count : (n : ℕ) → length (empties n) ≡ n
-empties_count zero = refl
-empties_count (suc n) = ap suc (empties_count n)
+-- what is true of each part of an object is true of all parts
+pub each_part : (P : ObjectReport → Type 0) →
+    ((lock : LockId) (column : List Shown) (part : ObjectReport) → IsPart lock column part → P part) →
+    (locks : List LockId) (columns : List (List Shown)) (parts : List ObjectReport) →
+    AreParts locks columns parts → All P parts
+each_part P each [] [] [] are = All-nil P
+each_part P each [] [] (part ∷ parts) are = absurd are
+each_part P each [] (column ∷ columns) parts are = absurd are
+each_part P each (lock ∷ locks) [] parts are = absurd are
+each_part P each (lock ∷ locks) (column ∷ columns) [] are = absurd are
+each_part P each (lock ∷ locks) (column ∷ columns) (part ∷ parts) (first, rest) =
+    All-cons P part parts (each lock column part first) (each_part P each locks columns parts rest)

@@ -1,5 +1,5 @@
 mod Closed
-mod Columns
+pub mod Columns
 mod Dealing
 mod Objects
 mod Passing

@@ -1,6 +1,6 @@
 -- The passes of a worker after its calls.
 use Rattle.std.proofs.Common.{◌≡◌, ℕ, zero, suc, ◌+◌, ◌<◌, List, [], ◌∷◌, ◌++◌, length, map, reverse, take, refl, ap, sym, subst, arith, ◌∙◌, get_or, set}
-use Rattle.std.proofs.lemmas.List.{reverse-append, take_more}
+use Rattle.std.proofs.lemmas.List.{length-map, reverse-append, take_more}
 use Rattle.std.proofs.lemmas.Option.{slice_get_read}
 use Rattle.monitor.specs.Shown.{Shown, IsSound}
 use Rattle.monitor.specs.Stepping.{IsSame}
@@ -9,7 +9,8 @@ use Rattle.script.specs.declared.call.Call.{Call}
 use Rattle.script.specs.declared.call.Call.TheVariants.{On}
 use Rattle.word_lock.specs.Ticket.{LockId}
 use Rattle.workers.specs.declared.reply.Reply.{Reply}
-use Rattle.workers.specs.Calls.{IsActed, IsCalled, Made, homes, home_of, lock_of, rounds, unrecorded_by}
+use Rattle.workers.specs.Calls.{IsActed, IsCalled, Made, rounds, unrecorded_by}
+use Rattle.workers.specs.inner.Homes.{homes, home_of, lock_of}
 
 -- one pass that is of the same monitor and seat
 pub set_homes : (ps : List Shown) (k : ℕ) (was now : Shown) → k < length ps → was ≡ get_or ps k was →
@@ -47,16 +48,12 @@ locks_are : (ps : List Shown) → map lock_of ps ≡ locks_of (homes ps)
 locks_are [] = refl
 locks_are (p ∷ ps) = ap (λ ls. p.lock ∷ ls) (locks_are ps)
 
-lock_each : (ps : List Shown) → length (map lock_of ps) ≡ length ps
-lock_each [] = refl
-lock_each (p ∷ ps) = ap suc (lock_each ps)
-
 -- the place of an object is one of a pass
 pub place_below : (ps : List Shown) (locks : List LockId) (k : ℕ) → map lock_of ps ≡ locks →
     k < length locks →
     k < length ps
 place_below ps locks k own below =
-    let same = sym (lock_each ps) ∙ ap length own in omega (arith, same, below)
+    let same = sym (length-map ps lock_of) ∙ ap length own in omega (arith, same, below)
 
 pub same_locks : (ps qs : List Shown) → homes ps ≡ homes qs → map lock_of ps ≡ map lock_of qs
 same_locks ps qs same = locks_are ps ∙ ap locks_of same ∙ sym (locks_are qs)

@@ -3,14 +3,15 @@ use Rattle.std.proofs.Common.{◌≡◌, ℕ, ◌+◌, ◌*◌, ◌≤◌, List,
 use Rattle.std.specs.List.{All}
 use Rattle.std.proofs.lemmas.List.Elements.{All-head, All-rest, All-same}
 use Rattle.monitor.specs.Shown.{Shown}
+use Rattle.script.specs.declared.limits.TheConstants.{MOST_THREADS}
 use Rattle.workers.specs.declared.fault.RunFault.{RunFault}
 use Rattle.workers.specs.declared.work.Worked.{Worked}
 use Rattle.workers.specs.Reports.{dealt_all}
 use Rattle.workers.specs.Rows.{dealt}
-use Rattle.workers.specs.Works.{AddUp, HasStopped, most_calls, passes_left}
+use Rattle.workers.specs.inner.Results.{AddUp, HasStopped, most_calls, passes_left}
 use Rattle.workers.proofs.Dealing.{dealt_length}
 
--- the passes of a worker fit so many columns
+-- the passes of a worker fit k columns
 abbrev pub Fits : ℕ → Worked → Type 0
 Fits k done = length done.passes ≤ k
 
@@ -24,7 +25,7 @@ Settles all first rest columns u =
     × ((x : ℕ) → AddUp rest x → AddUp all (u + x))
     × (dealt_all (passes_left rest) columns ≡ dealt_all (passes_left all) first)
     × All (Fits (length columns)) rest × All IsFew rest
-    × (u + most_calls * length rest ≤ most_calls * 256)
+    × (u + most_calls * length rest ≤ most_calls * MOST_THREADS)
 
 pub settles_more : (all : List Worked) (first : List (List Shown)) (rest : List Worked)
     (columns : List (List Shown)) (u : ℕ) (done : Worked) (others : List Worked) (v : ℕ)

@@ -1,27 +1,23 @@
 -- Threads that were started one by one.
-use Rattle.std.proofs.Common.{◌≡◌, ℕ, zero, suc, ◌+◌, ◌<◌, List, [], ◌∷◌, ◌++◌, length, drop, Some, sym, subst, arith, get_or}
+use Rattle.std.proofs.Common.{◌≡◌, ℕ, zero, suc, ◌+◌, ◌<◌, ◌≤◌, List, [], ◌∷◌, ◌++◌, length, drop, Some, ap, sym, subst, arith, ◌∙◌, get_or, ⊎_elim}
 use Rattle.std.specs.List.{slice_get}
-
-each_next : {H : Type 0} (P : ℕ → H → Type 0) (hs : List H) (h : H) (k : ℕ) → length hs ≡ k →
-    ((i : ℕ) (d : H) → i < k → P i (get_or hs i d)) → P k h → (i : ℕ) (d : H) → i < suc k →
-    P i (get_or (hs ++ h ∷ []) i d)
-each_next P [] h zero len old here zero d below = here
-each_next P [] h zero len old here (suc i) d below = absurd (omega (arith, below))
-each_next P [] h (suc k) len old here i d below = absurd (omega (arith, len))
-each_next P (x ∷ hs) h zero len old here i d below = absurd (omega (arith, len))
-each_next P (x ∷ hs) h (suc k) len old here zero d below = old 0 d (omega arith)
-each_next P (x ∷ hs) h (suc k) len old here (suc i) d below =
-    each_next (λ n. P (suc n)) hs h k (omega (arith, len))
-    (λ j e low. old (suc j) e (omega (arith, low))) here i d
-    (omega (arith, below))
+use Rattle.std.proofs.Math.Nat.{eq-or-lt_of_le}
+use Rattle.std.proofs.lemmas.List.{drop-drop, get_or_append_left, get_or_push}
 
 -- what holds of each holds of one more
 pub each_more : {H : Type 0} (P : ℕ → H → Type 0) (hs : List H) (h : H) (k : ℕ) (all : List H) →
     all ≡ hs ++ h ∷ [] → length hs ≡ k → ((i : ℕ) (d : H) → i < k → P i (get_or hs i d)) → P k h →
     (i : ℕ) (d : H) → i < k + 1 → P i (get_or all i d)
 each_more {H} P hs h k all is len old here i d below =
-    subst (λ (z : List H). P i (get_or z i d)) (sym is) (each_next P hs h k len old here i d
-    (omega (arith, below)))
+    let up : i ≤ k = omega (arith, below) in
+    let last = ap (λ (z : List H). get_or z k d) is ∙ get_or_push hs h d k len in
+    ⊎_elim
+    (λ (same : i ≡ k). subst (λ (n : ℕ). P n (get_or all n d)) (sym same) (subst (P k) (sym last) here))
+    (λ (less : i < k). subst (P i)
+    (sym (ap (λ (z : List H). get_or z i d) is
+    ∙ get_or_append_left hs (h ∷ []) d i (omega (arith, len, less))))
+    (old i d less))
+    (eq-or-lt_of_le up)
 
 -- the first of those that are left, and the others
 pub left_at : {A : Type 0} (xs : List A) (k : ℕ) (x : A) (rest : List A) → drop k xs ≡ x ∷ rest →
@@ -31,15 +27,6 @@ left_at [] (suc k) x rest same = cc
 left_at (y ∷ xs) zero x rest same = cc
 left_at (y ∷ xs) (suc k) x rest same = left_at xs k x rest same
 
-left_next : {A : Type 0} (xs : List A) (k : ℕ) (x : A) (rest : List A) → drop k xs ≡ x ∷ rest →
-    drop (suc k) xs ≡ rest
-left_next [] zero x rest same = cc
-left_next [] (suc k) x rest same = cc
-left_next (y ∷ xs) zero x rest same = cc
-left_next (y ∷ xs) (suc k) x rest same = left_next xs k x rest same
-
 pub left_more : {A : Type 0} (xs : List A) (k : ℕ) (x : A) (rest : List A) → drop k xs ≡ x ∷ rest →
     drop (k + 1) xs ≡ rest
-left_more {A} xs k x rest same =
-    let up : suc k ≡ k + 1 = omega arith in
-    subst (λ (z : ℕ). drop z xs ≡ rest) up (left_next xs k x rest same)
+left_more xs k x rest same = sym (drop-drop 1 k xs) ∙ ap (drop 1) same

@@ -1,5 +1,5 @@
 -- What all workers leave.
-use Rattle.std.proofs.Common.{◌≡◌, ℕ, suc, ◌+◌, ◌*◌, ◌<◌, ◌≤◌, Bool, true, List, [], ◌∷◌, length, Ok, Err, Result, ap, sym, subst, arith, ◌∙◌, inl, inr, ⊎_elim, get_or}
+use Rattle.std.proofs.Common.{◌≡◌, ℕ, suc, ◌+◌, ◌*◌, ◌<◌, ◌≤◌, ◌⊎◌, Bool, true, List, [], ◌∷◌, length, Ok, Err, Result, ap, sym, subst, arith, ◌∙◌, inl, inr, ⊎_elim, get_or}
 use Rattle.std.proofs.lemmas.Option.{same_Some}
 use Rattle.std.proofs.Math.Nat.{eq-or-lt_of_le, mul-le-mul_right, suc-mul}
 use Rattle.monitor.specs.Shown.{Shown}
@@ -10,7 +10,16 @@ use Rattle.workers.specs.declared.work.Worked.{Worked}
 use Rattle.workers.specs.Calls.{Made, rounds}
 use Rattle.workers.specs.Reports.{AllMade}
 use Rattle.workers.specs.Refused.{WasRefused}
-use Rattle.workers.specs.Works.{AddUp, AllWorked, Ends, HasStopped, HasWorked, IsTold, LetsAll, LetsBelow, StopsBelow, StopsFirst, WorksAt, calls_of, passes_left}
+use Rattle.workers.specs.Gates.{IsFaultOfRun, LetsAll, LetsBelow, StopsBelow, StopsFirst, calls_of}
+use Rattle.workers.specs.inner.Results.{AddUp, Ends, HasStopped, HasWorked, WorksAt, passes_left}
+
+-- the results of all workers, of which the first has this seat
+abbrev pub AllWorked : (ℕ → ℕ → Bool → Type 0) → ℕ → List WorkerView → List (List Shown) → List Worked →
+    Type 0
+AllWorked answers seat [] [] [] = Unit {0}
+AllWorked answers seat (w ∷ ws) (old ∷ olds) (done ∷ dones) =
+    HasWorked answers seat w old done × AllWorked answers (suc seat) ws olds dones
+AllWorked answers seat _ _ _ = ⊥
 
 at_first : (answers : ℕ → ℕ → Bool → Type 0) (seat : ℕ) (w : WorkerView) (ws : List WorkerView)
     (old : List Shown) (olds : List (List Shown)) (done : Worked) →
@@ -82,7 +91,7 @@ all_made answers seat (w ∷ ws) (old ∷ olds) (done ∷ dones) u (first, rest)
   sum,
 )
 
--- nobody was stopped
+-- the gate stopped no worker
 pub all_let : (answers : ℕ → ℕ → Bool → Type 0) (seat : ℕ) (ws : List WorkerView) (olds : List (List Shown))
     (dones : List Worked) (u : ℕ) → AllWorked answers seat ws olds dones → AddUp dones u →
     LetsAll answers seat ws
@@ -102,20 +111,21 @@ StopsFor answers seat ws (GateShut k) = StopsFirst answers seat ws k
 StopsFor answers seat ws (NotStarted k) = (k < seat + length ws) × WasRefused k
 StopsFor answers seat ws Memory = Unit {0}
 
-told_first : (answers : ℕ → ℕ → Bool → Type 0) (seat : ℕ) (w : WorkerView) (ws : List WorkerView)
+first_stops_for : (answers : ℕ → ℕ → Bool → Type 0) (seat : ℕ) (w : WorkerView) (ws : List WorkerView)
     (old : List Shown) (fault : RunFault) (new : List Shown) → Ends answers seat w old (Err fault) new →
     StopsFor answers seat (w ∷ ws) fault
-told_first answers seat w ws old (GateShut k) new ends = inl ends
-told_first answers seat w ws old (NotStarted k) new ends =
+first_stops_for answers seat w ws old (GateShut k) new ends = inl ends
+first_stops_for answers seat w ws old (NotStarted k) new ends =
     let is = ends.0 in (omega (arith, is), ends.2)
-told_first answers seat w ws old Memory new ends = tt
+first_stops_for answers seat w ws old Memory new ends = tt
 
-told_later : (answers : ℕ → ℕ → Bool → Type 0) (seat : ℕ) (w : WorkerView) (ws : List WorkerView)
+later_stops_for : (answers : ℕ → ℕ → Bool → Type 0) (seat : ℕ) (w : WorkerView) (ws : List WorkerView)
     (fault : RunFault) → LetsBelow answers seat (calls_of w) → StopsFor answers (suc seat) ws fault →
     StopsFor answers seat (w ∷ ws) fault
-told_later answers seat w ws (GateShut k) lets told = inr (lets, told)
-told_later answers seat w ws (NotStarted k) lets told = let below = told.0 in (omega (arith, below), told.1)
-told_later answers seat w ws Memory lets told = tt
+later_stops_for answers seat w ws (GateShut k) lets stops = inr (lets, stops)
+later_stops_for answers seat w ws (NotStarted k) lets stops =
+    let below = stops.0 in (omega (arith, below), stops.1)
+later_stops_for answers seat w ws Memory lets stops = tt
 
 stopped_from : (answers : ℕ → ℕ → Bool → Type 0) (seat : ℕ) (ws : List WorkerView) (olds : List (List Shown))
     (dones : List Worked) (fault : RunFault) → AllWorked answers seat ws olds dones → HasStopped fault dones →
@@ -126,25 +136,27 @@ stopped_from answers seat [] (old ∷ olds) dones fault worked stopped = absurd 
 stopped_from answers seat (w ∷ ws) [] dones fault worked stopped = absurd worked
 stopped_from answers seat (w ∷ ws) (old ∷ olds) [] fault worked stopped = absurd worked
 stopped_from answers seat (w ∷ ws) (old ∷ olds) (done ∷ dones) fault (first, rest) (inl ended) =
-    told_first answers seat w ws old fault done.passes
+    first_stops_for answers seat w ws old fault done.passes
     (subst (λ (z : Result ℕ RunFault). Ends answers seat w old z done.passes) ended first.ended)
 stopped_from answers seat (w ∷ ws) (old ∷ olds) (done ∷ dones) fault (first, rest) (inr (v, ended, others)) =
-    told_later answers seat w ws fault
+    later_stops_for answers seat w ws fault
     (ended_well answers seat w old done.ended done.passes v ended first.ended).1
     (stopped_from answers (suc seat) ws olds dones fault rest others)
 
-told_from : (answers : ℕ → ℕ → Bool → Type 0) (ws : List WorkerView) (fault : RunFault) →
-    StopsFor answers 0 ws fault → IsTold answers ws fault
-told_from answers ws (GateShut k) told = told
-told_from answers ws (NotStarted k) told = let below = told.0 in (omega (arith, below), told.1)
-told_from answers ws Memory told = tt
+-- from the first seat on
+fault_of_all : (answers : ℕ → ℕ → Bool → Type 0) (ws : List WorkerView) (fault : RunFault) →
+    StopsFor answers 0 ws fault → IsFaultOfRun answers ws fault
+fault_of_all answers ws (GateShut k) stops = stops
+fault_of_all answers ws (NotStarted k) stops = let below = stops.0 in (omega (arith, below), stops.1)
+fault_of_all answers ws Memory stops = tt
 
--- why a worker stopped
-pub stopped_told : (answers : ℕ → ℕ → Bool → Type 0) (ws : List WorkerView) (olds : List (List Shown))
-    (dones : List Worked) (fault : RunFault) → AllWorked answers 0 ws olds dones → HasStopped fault dones →
-    IsTold answers ws fault
-stopped_told answers ws olds dones fault worked stopped =
-    told_from answers ws fault (stopped_from answers 0 ws olds dones fault worked stopped)
+-- why a run stopped
+pub fault_of_run : (answers : ℕ → ℕ → Bool → Type 0) (ws : List WorkerView) (olds : List (List Shown))
+    (dones : List Worked) (fault : RunFault) → AllWorked answers 0 ws olds dones →
+    (fault ≡ Memory) ⊎ HasStopped fault dones → IsFaultOfRun answers ws fault
+fault_of_run answers ws olds dones fault worked (inl memory) = subst (IsFaultOfRun answers ws) (sym memory) tt
+fault_of_run answers ws olds dones fault worked (inr stopped) =
+    fault_of_all answers ws fault (stopped_from answers 0 ws olds dones fault worked stopped)
 
 -- one call more
 pub lets_more : (answers : ℕ → ℕ → Bool → Type 0) (seat n : ℕ) (answer : Bool) → answer ≡ true →

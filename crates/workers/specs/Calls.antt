@@ -1,5 +1,5 @@
 -- How the calls of a worker change its passes.
-use Rattle.std.specs.Prelude.{◌≡◌, ℕ, zero, suc, ◌+◌, List, [], ◌∷◌, ◌++◌, Some, Ok, Err, map, reverse, slice_get, slice_set}
+use Rattle.std.specs.Prelude.{◌≡◌, ℕ, zero, suc, ◌+◌, List, [], ◌∷◌, ◌++◌, Some, Ok, Err, reverse, slice_get, slice_set}
 use Rattle.history.specs.declared.step.Step.TheVariants as step
 use Rattle.monitor.specs.Acquire.{IsAcquire}
 use Rattle.monitor.specs.AwaitOn.{IsAwait}
@@ -10,7 +10,6 @@ use Rattle.script.specs.declared.action.Action.{Action}
 use Rattle.script.specs.declared.action.Action.TheVariants.{Acquire, TryAcquire, Release, AwaitOn, Signal, SignalAll, Drain, Trim}
 use Rattle.script.specs.declared.call.Call.{Call}
 use Rattle.script.specs.declared.call.Call.TheVariants.{On, Interrupt}
-use Rattle.word_lock.specs.Ticket.{LockId}
 use Rattle.workers.specs.declared.reply.Reply.{Reply}
 use Rattle.workers.specs.declared.reply.Reply.TheVariants.{Entered, Trimmed}
 
@@ -33,8 +32,9 @@ unrecorded_by (Entered (Err f)) = 1
 unrecorded_by (Trimmed (Ok count)) = 0
 unrecorded_by (Trimmed (Err f)) = 1
 
--- A call of the object at a place: it changed the pass there as the monitor's call does, and no other pass. The pass
--- stays of its monitor and its seat, and what it shows is sound: its share is the number of its calls that ended.
+-- A call of the object at a place: it changed the pass there as the monitor's call does, and no other pass.
+-- The pass stays of its monitor and its seat. What it shows is sound: its share is the number of its calls
+-- that ended.
 pub record ActsOn (place : ℕ) (action : Action) (old : List Shown) (u : ℕ) (new : List Shown) : Type 0 where
   pub before : Shown
   pub there : slice_get old place ≡ Some before
@@ -64,17 +64,3 @@ Made (call ∷ calls) old u new =
 abbrev pub rounds : ℕ → List Call → List Call
 rounds zero calls = []
 rounds (suc n) calls = reverse calls ++ rounds n calls
-
--- the monitor and the seat of a pass
-abbrev pub home_of : Shown → LockId × ℕ
-home_of p = (p.lock, p.seat)
-
-abbrev pub homes : List Shown → List (LockId × ℕ)
-homes = map home_of
-
--- a seat of each monitor
-abbrev pub homes_at : List LockId → ℕ → List (LockId × ℕ)
-homes_at locks seat = map (λ lock. (lock, seat)) locks
-
-abbrev pub lock_of : Shown → LockId
-lock_of p = p.lock

@@ -1,5 +1,6 @@
 pub mod Calls
 pub mod Rows
-pub mod Works
+pub mod Gates
 pub mod Refused
 pub mod Reports
+pub mod inner

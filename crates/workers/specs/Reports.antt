@@ -1,5 +1,5 @@
 -- The report of a run.
-use Rattle.std.specs.Prelude.{◌≡◌, ℕ, ◌+◌, zero, suc, Bool, true, false, List, [], ◌∷◌, ◌++◌, All, map, length}
+use Rattle.std.specs.Prelude.{◌≡◌, ℕ, ◌+◌, zero, suc, Bool, true, false, List, [], ◌∷◌, All, map, length, replicate}
 use Rattle.audit.specs.declared.verdict.Judgement.{Judgement}
 use Rattle.audit.specs.declared.verdict.Judgement.TheVariants.{Legal, NotLegal}
 use Rattle.audit.specs.Totals.{totals_of}
@@ -14,7 +14,7 @@ use Rattle.script.specs.Script.{ScriptView, WorkerView}
 use Rattle.word_lock.specs.Ticket.{LockId}
 use Rattle.workers.specs.declared.report.ObjectReport.{ObjectReport}
 use Rattle.workers.specs.declared.report.Report.{Report}
-use Rattle.workers.specs.Calls.{Made, homes, rounds}
+use Rattle.workers.specs.Calls.{Made, rounds}
 use Rattle.workers.specs.Rows.{dealt}
 
 -- The result of closing an object with these passes: a legal history that has exactly their entries, which
@@ -68,23 +68,6 @@ abbrev pub dealt_all : List (List Shown) → List (List Shown) → List (List Sh
 dealt_all [] columns = columns
 dealt_all (row ∷ rows) columns = dealt_all rows (dealt row columns)
 
--- empty columns
-abbrev pub empties : ℕ → List (List Shown)
-empties zero = []
-empties (suc n) = [] ∷ empties n
-
--- the seats below n of a monitor
-abbrev pub homes_below : LockId → ℕ → List (LockId × ℕ)
-homes_below lock zero = []
-homes_below lock (suc n) = homes_below lock n ++ (lock, n) ∷ []
-
--- a column for each object, with the passes of all its seats
-abbrev pub HaveColumns : List LockId → List (List Shown) → Type 0
-HaveColumns [] [] = Unit {0}
-HaveColumns (lock ∷ locks) (column ∷ columns) =
-    (homes column ≡ homes_below lock lock.header.seats) × HaveColumns locks columns
-HaveColumns _ _ = ⊥
-
 abbrev pub header_of : LockId → Header
 header_of lock = lock.header
 
@@ -98,4 +81,4 @@ pub record IsReport (s : ScriptView) (r : Report) : Type 0 where
   pub headers : map header_of locks ≡ headers_of s
   pub rows : List (List Shown)
   pub made : AllMade s.workers (opening_rows locks 0 (length s.workers)) rows r.unrecorded
-  pub parts : AreParts locks (dealt_all rows (empties (length locks))) r.objects.items
+  pub parts : AreParts locks (dealt_all rows (replicate (length locks) [])) r.objects.items

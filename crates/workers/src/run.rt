@@ -1,9 +1,12 @@
 //! Running a script.
-ghost use Rattle.std.specs.Prelude.{◌≡◌, ◌<◌, ◌≤◌, ◌⊎◌, All, IfErr, IfOk, OnOk, Some, length, map, slice_get};
+ghost use Rattle.std.specs.Prelude.{◌≡◌, ◌<◌, ◌≤◌, ◌⊎◌, [], All, IfErr, IfOk, OnOk, Some, length, map, replicate, slice_get};
 ghost use Rattle.history.specs.Header.{IsInRange};
-ghost use Rattle.workers.specs.Reports.{AreParts, HaveColumns, IsReport, IsSound, dealt_all, empties, header_of, headers_of, opening_rows};
-ghost use Rattle.workers.specs.Works.{AddUp, HasStopped, IsTold, LetsAll, most_calls, passes_left};
+ghost use Rattle.script.specs.declared.limits.TheConstants.{MOST_THREADS};
+ghost use Rattle.workers.specs.Gates.{IsFaultOfRun, LetsAll};
+ghost use Rattle.workers.specs.Reports.{AreParts, IsReport, IsSound, dealt_all, header_of, headers_of, opening_rows};
 ghost use Rattle.workers.specs.declared.fault.RunFault.TheVariants.{Memory};
+ghost use Rattle.workers.specs.inner.Homes.{HaveColumns};
+ghost use Rattle.workers.specs.inner.Results.{AddUp, HasStopped, most_calls, passes_left};
 
 use crate::fault::RunFault;
 use crate::gate::Gate;
@@ -22,9 +25,8 @@ use std::thread::Threads;
 use std::time::Clock;
 
 /// Returns `count` rows without passes.
-#[tactic(auto, using(crate::proofs::Columns::empties_more))]
 fn empty_rows(alloc: Global, count: usize) -> Result<Vec<Passes>, AllocError>
-    ensures { IfOk result (λ rows. rows.items ≡ empties count) }
+    ensures { IfOk result (λ rows. rows.items ≡ replicate count []) }
 {
     let mut rows = Vec::new(alloc);
     for _ in 0..count {
@@ -68,7 +70,7 @@ fn open_all(alloc: Global, script: &Script) -> Result<(Vec<Opened>, Vec<Passes>)
 fn settle(worked: Vec<Worked>, columns: &mut Vec<Passes>) -> Result<u64, RunFault>
     requires rows { All (λ done. length done.passes ≤ length columns.old.items) worked.items }
     requires few { All (λ done. IfOk done.ended (λ u. u ≤ most_calls)) worked.items }
-    requires workers { length worked.items ≤ 256 }
+    requires workers { length worked.items ≤ MOST_THREADS }
     ensures sum { IfOk result (AddUp worked.items) }
     ensures columns { OnOk result (columns.new.items
         ≡ dealt_all (passes_left worked.items) columns.old.items) }
@@ -130,7 +132,7 @@ pub fn run_threads<G: Gate + Sync, R: Threads + Wait + Clock + Sync>(
     ensures report { IfOk result (IsReport script.now) }
     ensures sound { IfOk result (λ report. All IsSound report.objects.items) }
     ensures asked { IfOk result (λ _. LetsAll (G.answers gate.now) 0 script.now.workers) }
-    ensures fault { IfErr result (IsTold (G.answers gate.now) script.now.workers) }
+    ensures fault { IfErr result (IsFaultOfRun (G.answers gate.now) script.now.workers) }
 {
     let workers = script.workers();
     let (objects, rows) = open_all(alloc, script)?;

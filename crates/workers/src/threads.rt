@@ -1,10 +1,11 @@
 //! The threads of a run.
 ghost use Rattle.std.specs.Prelude.{◌≡◌, ◌<◌, ◌≤◌, ℕ, All, IfErr, IfOk, Some, length, map, slice_get, slice_index_or, vec_len};
 ghost use Rattle.script.specs.Script.{IsWorker};
+ghost use Rattle.script.specs.declared.limits.TheConstants.{MOST_THREADS};
 ghost use Rattle.workers.specs.declared.fault.RunFault.TheVariants.{NotStarted};
-ghost use Rattle.workers.specs.Calls.{lock_of};
 ghost use Rattle.workers.specs.Refused.{WasRefused};
-ghost use Rattle.workers.specs.Works.{HasWorked, IsRefused, WorksAt};
+ghost use Rattle.workers.specs.inner.Homes.{lock_of};
+ghost use Rattle.workers.specs.inner.Results.{HasWorked, IsRefused, WorksAt};
 
 use crate::fault::RunFault;
 use crate::gate::Gate;
@@ -28,7 +29,7 @@ struct Works<'s, G> {
 }
 
 impl<'s, G: Gate> Promise<Worked> for Works<'s, G> {
-    ghost use Rattle.workers.specs.Works.{HasWorked};
+    ghost use Rattle.workers.specs.inner.Results.{HasWorked};
 
     ghost kept_by = { λ p done. HasWorked (G.answers p.gate.now) p.seat p.worker.now p.passes.value done };
 }
@@ -56,7 +57,7 @@ fn start_all<'s, E: 's, G: Gate + Sync, R: Threads + Wait + Clock + Sync>(
     requires places { All (λ m. m.header.seats ≤ shared.now.parking) shared.now.objects.items }
     requires workers { All (IsWorker (length shared.now.objects.items) shared.now.parking) workers.now }
     requires all { vec_len rows ≡ length workers.now }
-    requires few { length workers.now ≤ 256 }
+    requires few { length workers.now ≤ MOST_THREADS }
     ensures len { IfOk result (λ handles. vec_len handles ≡ length workers.now) }
     ensures gates { IfOk result (λ handles. (i : ℕ) (d : _) → i < length workers.now →
         (slice_index_or handles.items i d).promise.gate.now ≡ gate.now) }
@@ -111,7 +112,7 @@ pub(crate) fn run_all<G: Gate + Sync, R: Threads + Wait + Clock + Sync>(
     requires places { All (λ m. m.header.seats ≤ shared.now.parking) shared.now.objects.items }
     requires workers { All (IsWorker (length shared.now.objects.items) shared.now.parking) workers.now }
     requires all { vec_len rows ≡ length workers.now }
-    requires few { length workers.now ≤ 256 }
+    requires few { length workers.now ≤ MOST_THREADS }
     ensures worked { IfOk result (λ worked. (vec_len worked ≡ length workers.now)
         × ((i : ℕ) (d : _) → i < length workers.now →
         WorksAt (G.answers gate.now) 0 workers.now rows.items i
@@ -125,7 +126,7 @@ pub(crate) fn run_all<G: Gate + Sync, R: Threads + Wait + Clock + Sync>(
             requires { All (λ row. map lock_of row ≡ shared.now.objects.items) rows.items
                 × All (λ m. m.header.seats ≤ shared.now.parking) shared.now.objects.items
                 × All (IsWorker (length shared.now.objects.items) shared.now.parking) workers.now
-                × (vec_len rows ≡ length workers.now) × (length workers.now ≤ 256) }
+                × (vec_len rows ≡ length workers.now) × (length workers.now ≤ MOST_THREADS) }
             ensures worked { IfOk result (λ worked. (vec_len worked ≡ length workers.entry.now)
                 × ((i : ℕ) (d : _) → i < length workers.entry.now →
                 WorksAt (G.answers gate.entry.now) 0 workers.entry.now rows.items i

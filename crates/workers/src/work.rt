@@ -1,8 +1,10 @@
 //! What a worker does.
 ghost use Rattle.std.specs.Prelude.{◌≡◌, ◌+◌, ◌<◌, ◌≤◌, ◌^◌, All, IfNone, IfOk, IfSome, length, map, reverse};
 ghost use Rattle.script.specs.Script.{IsCall, IsWorker};
-ghost use Rattle.workers.specs.Calls.{IsCalled, Made, homes, lock_of, rounds};
-ghost use Rattle.workers.specs.Works.{HasWorked, LetsBelow, StopsBelow, calls_of};
+ghost use Rattle.workers.specs.Calls.{IsCalled, Made, rounds};
+ghost use Rattle.workers.specs.Gates.{LetsBelow, StopsBelow, calls_of};
+ghost use Rattle.workers.specs.inner.Homes.{homes, lock_of};
+ghost use Rattle.workers.specs.inner.Results.{HasWorked, most_calls};
 
 use crate::act::act;
 use crate::fault::RunFault;
@@ -103,7 +105,7 @@ fn make_rounds<G: Gate, R: Wait + Clock>(
     ensures same { homes passes.new ≡ homes passes.old }
     ensures made { IfSome result (λ u.
         Made (rounds worker.now.repeat worker.now.calls) passes.old u passes.new) }
-    ensures few { IfSome result (λ u. u ≤ 10000000000) }
+    ensures few { IfSome result (λ u. u ≤ most_calls) }
     ensures asked { IfSome result (λ _. LetsBelow (G.answers gate.now) seat (calls_of worker.now)) }
     ensures shut { IfNone result (StopsBelow (G.answers gate.now) seat (calls_of worker.now)) }
 {

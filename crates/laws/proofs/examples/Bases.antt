@@ -1,4 +1,4 @@
--- Worked examples of bases: what entries leave when they are folded, and how steps go on behind.
+-- Worked examples of bases: what entries leave when they are folded, and how steps go on after the fold.
 use Rattle.std.specs.Prelude.{◌≡◌, ℕ, ◌++◌, false, List, [], ◌∷◌, Result, pos, negsuc, refl}
 use Rattle.history.specs.declared.arrival.Arrival.{Arrival}
 use Rattle.history.specs.declared.base.SeatBase.{SeatBase}
@@ -16,10 +16,10 @@ use Rattle.history.specs.Base.{Base, based, folded, opening_base}
 use Rattle.history.specs.Counts.{free}
 use Rattle.history.specs.Legal.{calls}
 use Rattle.history.specs.Line.{coming_back}
-use Rattle.laws.proofs.Told.{acquire, acquire_shared, await, comes_back, fault, gave, give, give_shared, got, interrupt, latch, lock, look, read_write, semaphore, signal, signalled, signals, ◌wakes◌}
+use Rattle.laws.proofs.Replies.{acquire, acquire_shared, await, comes_back, fault, gave, give, give_shared, got, interrupt, latch, lock, look, read_write, semaphore, signal, signalled, signals, ◌wakes◌}
 use Rattle.laws.proofs.examples.Pairs.{pairs}
 
--- a list of steps behind a base: the answers, and the base that is left when its entries are folded
+-- a list of steps after a base: the answers, and the base that is left when its entries are folded
 abbrev answers : Base → List (ℕ × Step) → List (Result Answer Fault)
 answers b steps = (results (based b) [] steps).0
 
@@ -53,13 +53,13 @@ one_sleeps_is :
     }
 one_sleeps_is = refl
 
--- Behind it the sleeper is signalled and comes back with its two holds. All in all there are six calls.
+-- After it the sleeper is signalled and comes back with its two holds. All in all there are six calls.
 abbrev it_comes_back : List (ℕ × Step)
 it_comes_back = (1, signal 0) ∷ (1, give) ∷ (0, look) ∷ []
 
-it_comes_back_told :
+it_comes_back_answers :
     answers one_sleeps it_comes_back ≡ signals 1 0 1 ∷ gave 1 wakes 0 ∷ comes_back 0 0 2 signalled ∷ []
-it_comes_back_told = refl
+it_comes_back_answers = refl
 
 it_comes_back_calls : calls (based (left_by one_sleeps it_comes_back)) [] ≡ 6
 it_comes_back_calls = refl

@@ -1,5 +1,6 @@
 -- A history that is legal, and the same without its release, which isn't.
-use Rattle.std.proofs.Common.{◌≡◌, ℕ, List, [], ◌∷◌, Option, Some, None, refl}
+use Rattle.std.proofs.Common.{◌≡◌, List, [], ◌∷◌, refl}
+use Rattle.std.proofs.lemmas.Option.{none-some}
 use Rattle.history.specs.declared.entry.Entry.{Entry}
 use Rattle.history.specs.declared.entry.Word.TheVariants as word
 use Rattle.history.specs.declared.header.Header.{Header}
@@ -9,7 +10,7 @@ use Rattle.history.specs.Line.{line}
 use Rattle.history.specs.Start.{opening}
 use Rattle.history.proofs.Entering.{Known, known}
 use Rattle.laws.specs.OutOfTurn.{of}
-use Rattle.laws.proofs.Told.{lock, acquire, give, look}
+use Rattle.laws.proofs.Replies.{lock, acquire, give, look}
 
 abbrev two_seats : Header
 two_seats = lock Fair 2 0 64
@@ -32,12 +33,9 @@ handed_over_line = refl
 abbrev without_its_release : List Entry
 without_its_release = of 1 word.Gave ∷ of 1 word.Granted ∷ of 1 word.Queued ∷ of 0 word.Got ∷ []
 
-nobody_ready : ◌≡◌ {A = Option ℕ} None (Some 1) → ⊥
-nobody_ready q = cc
-
 without_its_release_is_not_legal : IsLegal (opening two_seats) without_its_release → ⊥
 without_its_release_is_not_legal l =
     let h : List Entry = of 1 word.Queued ∷ of 0 word.Got ∷ [] in
     let k : Known (opening two_seats) h (of 1 word.Granted) =
     known (opening two_seats) h l.1.0.0 (of 1 word.Granted) l.1.0.1 in
-    nobody_ready k.2
+    none-some 1 k.2

@@ -1,7 +1,7 @@
 -- Worked examples of latches.
 use Rattle.std.specs.Prelude.{◌≡◌, [], ◌∷◌, refl}
 use Rattle.history.specs.declared.fault.Fault.TheVariants.{WrongMode}
-use Rattle.laws.proofs.Told.{replies, latch, acquire_shared, try_shared, try_fair_shared, give_shared, look, got_shared, queued_shared, granted_shared, counted, fault, ◌wakes◌}
+use Rattle.laws.proofs.Replies.{replies, latch, acquire_shared, try_shared, try_fair_shared, give_shared, look, got_shared, queued_shared, granted_shared, counted, fault, ◌wakes◌}
 
 -- A latch of count 0 is open.
 an_open_latch :

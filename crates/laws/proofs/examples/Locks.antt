@@ -2,7 +2,7 @@
 use Rattle.std.specs.Prelude.{◌≡◌, [], ◌∷◌, refl}
 use Rattle.history.specs.declared.fault.Fault.TheVariants.{HistoryFull}
 use Rattle.history.specs.declared.header.Policy.TheVariants.{Fair, NonFair, Strict}
-use Rattle.laws.proofs.Told.{replies, lock, acquire, try, try_fair, give, look, expire, interrupt, timeout, interrupted, got, try_got, queued, granted, missed, gave, left, sleeps, fault, ◌wakes◌}
+use Rattle.laws.proofs.Replies.{replies, lock, acquire, try, try_fair, give, look, expire, interrupt, timeout, interrupted, got, try_got, queued, granted, missed, gave, left, sleeps, fault, ◌wakes◌}
 
 -- A lock is taken and given back.
 taken_and_given_back :

@@ -1,5 +1,5 @@
--- Worked examples of who was told: a mark comes with a name or a lapse, and goes with a sleep or the place in
--- line.
+-- Worked examples of marks: a seat is marked when an entry names it or it lapses, until its step returns Sleep
+-- or it leaves the queue.
 use Rattle.std.specs.Prelude.{◌≡◌, ℕ, zero, suc, ◌++◌, Bool, if◌then◌else◌, List, [], ◌∷◌, pos, refl}
 use Rattle.history.specs.declared.header.Header.{Header}
 use Rattle.history.specs.declared.header.Policy.TheVariants.{Fair, NonFair}
@@ -7,7 +7,7 @@ use Rattle.history.specs.declared.step.Step.{Step}
 use Rattle.history.specs.Answers.{results}
 use Rattle.history.specs.Base.{based, folded, opening_base}
 use Rattle.history.specs.Start.{opening}
-use Rattle.laws.proofs.Told.{lock, read_write, semaphore, acquire, acquire_shared, await, expire, give, interrupt, look, signal}
+use Rattle.laws.proofs.Replies.{lock, read_write, semaphore, acquire, acquire_shared, await, expire, give, interrupt, look, signal}
 use Rattle.history.specs.Marks.{marks, unmarked}
 
 -- the marked seats, of so many
@@ -18,7 +18,7 @@ those_marked (suc n) m = those_marked n m ++ (if m n then n ∷ [] else [])
 abbrev marked : Header → List (ℕ × Step) → List ℕ
 marked k steps = those_marked k.seats (marks (opening k) [] unmarked steps)
 
--- The writer is first and leaves: the reader behind it is told, and by its grant the next reader.
+-- The writer is first and leaves: the reader behind it is marked, and by its grant the next reader.
 abbrev two_readers_behind_a_writer : List (ℕ × Step)
 two_readers_behind_a_writer =
     (0, acquire_shared 1) ∷ (1, acquire) ∷ (2, acquire_shared 1) ∷ (3, acquire_shared 1) ∷ (1, expire) ∷ []
@@ -32,32 +32,33 @@ shared_grants = refl
 all_went : marked (read_write Fair 4 0 64) (two_readers_behind_a_writer ++ (2, look) ∷ (3, look) ∷ []) ≡ []
 all_went = refl
 
--- A seat that was told finds that another barged in: it is no longer told, until the next release.
+-- A marked seat finds that another barged in: it is no longer marked, until the next release.
 abbrev barged_past : List (ℕ × Step)
 barged_past = (0, acquire) ∷ (1, acquire) ∷ (0, give) ∷ (2, acquire) ∷ []
 
-told_while_another_holds : marked (lock NonFair 3 0 64) barged_past ≡ 1 ∷ []
-told_while_another_holds = refl
+marked_while_another_holds : marked (lock NonFair 3 0 64) barged_past ≡ 1 ∷ []
+marked_while_another_holds = refl
 
 a_sleep_clears_the_mark : marked (lock NonFair 3 0 64) (barged_past ++ (1, look) ∷ []) ≡ []
 a_sleep_clears_the_mark = refl
 
-told_again : marked (lock NonFair 3 0 64) (barged_past ++ (1, look) ∷ (2, give) ∷ []) ≡ 1 ∷ []
-told_again = refl
+marked_again : marked (lock NonFair 3 0 64) (barged_past ++ (1, look) ∷ (2, give) ∷ []) ≡ 1 ∷ []
+marked_again = refl
 
--- One that is interrupted while it waits on a condition tells itself.
-a_lapse_tells_itself : marked (lock Fair 2 1 64) ((0, acquire) ∷ (0, await 0) ∷ (0, interrupt) ∷ []) ≡ 0 ∷ []
-a_lapse_tells_itself = refl
+-- One that is interrupted while it waits on a condition is marked by its own entry.
+a_lapse_marks_its_own_seat :
+    marked (lock Fair 2 1 64) ((0, acquire) ∷ (0, await 0) ∷ (0, interrupt) ∷ []) ≡ 0 ∷ []
+a_lapse_marks_its_own_seat = refl
 
--- A signal moves a waiter into the line and tells nobody; the release does.
+-- A signal moves a waiter into the queue and marks nobody; the release marks the waiter.
 abbrev signalled_by_an_owner : List (ℕ × Step)
 signalled_by_an_owner = (0, acquire) ∷ (0, await 0) ∷ (1, acquire) ∷ (1, signal 0) ∷ []
 
-a_transfer_tells_nobody : marked (lock Fair 2 1 64) signalled_by_an_owner ≡ []
-a_transfer_tells_nobody = refl
+a_transfer_marks_nobody : marked (lock Fair 2 1 64) signalled_by_an_owner ≡ []
+a_transfer_marks_nobody = refl
 
-a_release_tells_the_moved : marked (lock Fair 2 1 64) (signalled_by_an_owner ++ (1, give) ∷ []) ≡ 0 ∷ []
-a_release_tells_the_moved = refl
+a_release_marks_the_moved : marked (lock Fair 2 1 64) (signalled_by_an_owner ++ (1, give) ∷ []) ≡ 0 ∷ []
+a_release_marks_the_moved = refl
 
 -- A request of 0 waits behind one of 1, and can go as soon as that leaves.
 a_request_of_nothing :
@@ -75,15 +76,15 @@ folded_marks k steps more =
 a_fold_clears_no_mark : folded_marks (lock NonFair 3 0 64) barged_past [] ≡ 1 ∷ []
 a_fold_clears_no_mark = refl
 
-a_sleep_behind_a_fold : folded_marks (lock NonFair 3 0 64) barged_past ((1, look) ∷ []) ≡ []
-a_sleep_behind_a_fold = refl
+a_sleep_after_a_fold : folded_marks (lock NonFair 3 0 64) barged_past ((1, look) ∷ []) ≡ []
+a_sleep_after_a_fold = refl
 
-a_release_behind_a_fold :
+a_release_after_a_fold :
     folded_marks (lock NonFair 3 0 64) barged_past ((1, look) ∷ (2, give) ∷ []) ≡ 1 ∷ []
-a_release_behind_a_fold = refl
+a_release_after_a_fold = refl
 
-a_transfer_behind_a_fold :
+a_transfer_after_a_fold :
     folded_marks (lock Fair 2 1 64) ((0, acquire) ∷ (0, await 0) ∷ (1, acquire) ∷ [])
     ((1, signal 0) ∷ (1, give) ∷ [])
     ≡ 0 ∷ []
-a_transfer_behind_a_fold = refl
+a_transfer_after_a_fold = refl

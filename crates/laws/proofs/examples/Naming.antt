@@ -1,7 +1,7 @@
 -- Worked examples of who is named: the first in line, where it could go and could not before.
 use Rattle.std.specs.Prelude.{◌≡◌, [], ◌∷◌, pos, refl}
 use Rattle.history.specs.declared.header.Policy.TheVariants.{Fair, NonFair}
-use Rattle.laws.proofs.Told.{replies, read_write, semaphore, acquire, acquire_shared, give_shared, look, expire, timeout, got_shared, queued, queued_shared, granted_shared, gave_shared, left, ◌wakes◌}
+use Rattle.laws.proofs.Replies.{replies, read_write, semaphore, acquire, acquire_shared, give_shared, look, expire, timeout, got_shared, queued, queued_shared, granted_shared, gave_shared, left, ◌wakes◌}
 
 -- The first in line could go since the first release, and is not named again by the second.
 could_go_already_semaphore :

@@ -6,7 +6,7 @@ use Rattle.history.specs.declared.step.Step.{Step}
 use Rattle.history.specs.Answers.{results}
 use Rattle.history.specs.Legal.{calls}
 use Rattle.history.specs.Start.{opening}
-use Rattle.laws.proofs.Told.{acquire, give, lock}
+use Rattle.laws.proofs.Replies.{acquire, give, lock}
 
 abbrev pub pairs : ℕ → List (ℕ × Step)
 pairs zero = []

@@ -1,7 +1,7 @@
 -- Worked examples of read-write locks.
 use Rattle.std.specs.Prelude.{◌≡◌, [], ◌∷◌, refl}
 use Rattle.history.specs.declared.header.Policy.TheVariants.{Fair, NonFair}
-use Rattle.laws.proofs.Told.{replies, read_write, acquire, acquire_shared, give, give_shared, look, expire, timeout, got, got_shared, queued, queued_shared, granted_shared, gave, gave_shared, left, ◌wakes◌}
+use Rattle.laws.proofs.Replies.{replies, read_write, acquire, acquire_shared, give, give_shared, look, expire, timeout, got, got_shared, queued, queued_shared, granted_shared, gave, gave_shared, left, ◌wakes◌}
 
 -- A writer in line holds the readers back; when it leaves, they go one after another, each naming the next.
 readers_behind_a_writer_fair :

@@ -1,7 +1,7 @@
-use Rattle.std.proofs.Common.{◌≡◌, ℕ, zero, suc, ◌<◌, ◌≤◌, true, false, ◌++◌, List, [], ◌∷◌, eqb, length, map, take, drop, refl, ap, ◌∙◌, sym, arith}
+use Rattle.std.proofs.Common.{◌≡◌, ℕ, ◌<◌, ◌≤◌, true, false, ◌++◌, List, [], ◌∷◌, eqb, length, map, take, refl, ap, ◌∙◌, sym, arith}
 use Rattle.std.specs.List.{flat_map}
 use Rattle.std.proofs.lemmas.Bool.{eq-eqb, ne_eqb}
-use Rattle.std.proofs.lemmas.List.{append-nil, take_all}
+use Rattle.std.proofs.lemmas.List.{append-nil, drop_all, take_all}
 use Rattle.history.specs.declared.entry.Entry.{Entry}
 use Rattle.history.specs.Start.{Start}
 use Rattle.drawing.specs.declared.bar.Stretch.{Stretch}
@@ -75,19 +75,13 @@ loop-index-preserved c = λ s h st.
           )
     ]
 
-all_taken : {X : Type 0} (xs : List X) (i : ℕ) → length xs ≤ i → drop i xs ≡ []
-all_taken [] zero l = refl
-all_taken [] (suc i) l = refl
-all_taken (x ∷ xs) zero l = absurd (omega (arith, l))
-all_taken (x ∷ xs) (suc i) l = all_taken xs i (omega (arith, l))
-
 pub returns-clause-stretches : goal.returns-clause-stretches
 returns-clause-stretches c = λ s h st.
     let xs = c.args.stretches.now.items in
     let i = c.loop-index.index in
     let all : length xs ≤ i = omega (arith, c.loop-index-test.false, c.len-index-end.ensures) in
     (c.loop-index.invariant s h st).0
-    ∙ ap (λ ys. map (going_on s h c.args.number) (take i xs) ++ ys) (all_taken xs i all)
+    ∙ ap (λ ys. map (going_on s h c.args.number) (take i xs) ++ ys) (drop_all i xs all)
     ∙ append-nil _ ∙ ap (map (going_on s h c.args.number)) (take_all i xs all)
 
 pub returns-clause-bars : goal.returns-clause-bars

@@ -2,17 +2,17 @@ use Rattle.driver.specs.AuditText.{audit_text}
 use Rattle.driver.proofs.Audits.{not_of_writing}
 use Rattle.driver.proofs.audit_stream.audit_stream.Goals as goal
 
-pub tell-requires-clause-fault : goal.tell-requires-clause-fault
-tell-requires-clause-fault g c =
-    not_of_writing (g.R.Source.left c.args.reader.now) (g.R.Source.left c.audit_of-told.new.reader)
-    c.audit_of-told.result c.audit_of-told.ensures.err
+pub write_verdict-requires-clause-fault : goal.write_verdict-requires-clause-fault
+write_verdict-requires-clause-fault g c =
+    not_of_writing (g.R.Source.left c.args.reader.now) (g.R.Source.left c.audit_of-outcome.new.reader)
+    c.audit_of-outcome.result c.audit_of-outcome.ensures.err
 
 pub returns-clause-audits : goal.returns-clause-audits
 returns-clause-audits g c =
-    c.tell.ensures.streams audit_text (g.R.Source.left c.args.reader.now) c.audit_of-told.ensures.ok
-    c.audit_of-told.ensures.err
+    c.write_verdict.ensures.streams audit_text (g.R.Source.left c.args.reader.now)
+    c.audit_of-outcome.ensures.ok c.audit_of-outcome.ensures.err
 
 pub returns-clause-end : goal.returns-clause-end
 returns-clause-end g c =
-    c.tell.ensures.end (g.R.Source.left c.args.reader.now) c.audit_of-told.ensures.ended
-    c.audit_of-told.ensures.err
+    c.write_verdict.ensures.end (g.R.Source.left c.args.reader.now) c.audit_of-outcome.ensures.ended
+    c.audit_of-outcome.ensures.err

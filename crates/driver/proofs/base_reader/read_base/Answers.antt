@@ -4,7 +4,8 @@ use Rattle.history_text.specs.NextLine.{LinesRead}
 use Rattle.history_text.specs.TextLines.{Based}
 use Rattle.history_text.specs.ToldBases.{IsToldBase}
 use Rattle.history_text.proofs.BaseTextRead.{place_behind}
-use Rattle.driver.specs.BaseReader.{EntriesBehind, IsPlacedBehind, lines_known}
+use Rattle.driver.specs.BaseReader.{EntriesBehind, IsPlacedBehind}
+use Rattle.driver.specs.inner.BaseReader.{lines_known}
 use Rattle.history_text.specs.HistoryText.{history_form}
 use Rattle.driver.proofs.BaseAhead.{base_placed, base_read}
 use Rattle.driver.proofs.ReadingAhead.{goes_on, kept}
@@ -35,12 +36,12 @@ returns-clause-read g c = λ text begun.
     let found = rw c.if-branch.false at c.in_ok-take_line.ensures.taken in
     let xs = c.loop-base.base.lines in
     let header = c.in_ok-take_line.ensures.header ∙ was.header in
-    let told = subst (λ k. IsToldBase k c.finish.result.0) header c.finish.ensures.base.0 in
+    let whole = subst (λ k. IsToldBase k c.finish.result.0) header c.finish.ensures.base.0 in
     let lines = c.finish.ensures.base.1 ∙ ap (λ (r : LinesRead). r.lines) found.0 in
     subst (λ (p : Place). EntriesBehind text h c.finish.result.0 [] p window after)
     (sym (c.finish.ensures.place
     ∙ ap (λ (r : LinesRead). place_behind c.finish.result.0 r.lines) found.0))
-    (base_read h c.requires.based c.finish.result.0 xs told lines window after found.2 found.3 text
+    (base_read h c.requires.based c.finish.result.0 xs whole lines window after found.2 found.3 text
     (kept history_form text (lines_known h (map Based xs)) _ _ (map Based xs) found.4 (was.under text begun)))
 
 pub returns-clause-place : goal.returns-clause-place
@@ -49,9 +50,9 @@ returns-clause-place g c =
     let was = c.loop-base.invariant in
     let found = rw c.if-branch.false at c.in_ok-take_line.ensures.taken in
     let header = c.in_ok-take_line.ensures.header ∙ was.header in
-    let told = subst (λ k. IsToldBase k c.finish.result.0) header c.finish.ensures.base.0 in
+    let whole = subst (λ k. IsToldBase k c.finish.result.0) header c.finish.ensures.base.0 in
     let lines = c.finish.ensures.base.1 ∙ ap (λ (r : LinesRead). r.lines) found.0 in
     subst (IsPlacedBehind c.finish.result.0)
     (sym (c.finish.ensures.place
     ∙ ap (λ (r : LinesRead). place_behind c.finish.result.0 r.lines) found.0))
-    (base_placed h c.requires.based c.finish.result.0 c.loop-base.base.lines told lines was.few)
+    (base_placed h c.requires.based c.finish.result.0 c.loop-base.base.lines whole lines was.few)

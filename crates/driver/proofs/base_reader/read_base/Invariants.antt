@@ -2,7 +2,7 @@ use Rattle.std.proofs.Common.{◌≡◌, ◌≤◌, ◌-◌, ℕ, List, Option, 
 use Rattle.history_text.specs.declared.base_under_way.TheConstants.{MOST_LINES}
 use Rattle.history_text.specs.TextLines.{Based}
 use Rattle.streams.specs.Window.{room}
-use Rattle.driver.specs.BaseReader.{HeadRead, LinesBehind}
+use Rattle.driver.specs.inner.BaseReader.{HeadRead, AreLinesRead}
 use Rattle.driver.proofs.base_reader.read_base.Given as goal
 
 abbrev pub invariant-loop-base : goal.invariant-loop-base
@@ -13,7 +13,7 @@ invariant-loop-base g l = record {
   header : l.base.header ≡ l.head.header;
   few : length l.base.lines ≤ MOST_LINES;
   under : (text : Option (List ℕ)) → HeadRead text l.head l.fn.window.bytes (g.R.Source.left l.fn.reader) →
-      LinesBehind text l.head (map Based l.base.lines) l.window.bytes (g.R.Source.left l.reader);
+      AreLinesRead text l.head (map Based l.base.lines) l.window.bytes (g.R.Source.left l.reader);
 }
 
 abbrev pub decreases-loop-base : goal.decreases-loop-base

@@ -2,8 +2,8 @@ use Rattle.std.proofs.Common.{arith, refl, rules}
 use Rattle.driver.proofs.ReadingAhead.{grown_keeps, more_left, same_keeps}
 use Rattle.driver.proofs.end_of.end_of.Goals as goal
 
-pub returns-then-branch-gt0-clause-behind : goal.returns-then-branch-gt0-clause-behind
-returns-then-branch-gt0-clause-behind g c = (
+pub returns-then-branch-gt0-clause-after : goal.returns-then-branch-gt0-clause-after
+returns-then-branch-gt0-clause-after g c = (
   refl,
   more_left c.args.window.now.bytes c.read_more.new.self.bytes (g.R.Source.left c.args.reader.now)
       (g.R.Source.left c.read_more.new.reader) c.in_ok-read_more.field-0 c.in_ok-read_more.ensures.grows

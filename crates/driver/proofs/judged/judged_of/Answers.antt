@@ -8,7 +8,7 @@ use Rattle.history.specs.declared.header.Header.{Header}
 use Rattle.history.specs.Base.{Base, based}
 use Rattle.history.specs.Entries.{or_opening}
 use Rattle.driver.specs.HistoryReader.{base_held}
-use Rattle.driver.specs.Judged.{kept_with}
+use Rattle.driver.specs.inner.Judged.{kept_with}
 use Rattle.line_text.proofs.Faults.{err_is}
 use Rattle.driver.proofs.EntriesAhead.{entries_memory, entries_memory_at_end, entries_no_further}
 use Rattle.driver.proofs.Judging.{all_judged, judging_on}

@@ -6,12 +6,12 @@ use Rattle.history.specs.EntryWords.{IsSpelt}
 use Rattle.line_text.proofs.Faults.{err_is}
 use Rattle.steps.specs.declared.header.StepsHeader.{StepsHeader}
 use Rattle.steps.specs.StepsText.{steps_form, steps_so_far}
-use Rattle.driver.specs.Logged.{logged}
+use Rattle.driver.specs.inner.Logged.{logged}
 use Rattle.driver.specs.StepReader.{progress}
 use Rattle.driver.proofs.Doing.{of_seats, spelt_on}
 use Rattle.driver.proofs.Driven.{answering_none, answering_act, answering_all, one_entry_more}
 use Rattle.driver.proofs.StepsAhead.{no_text}
-use Rattle.driver.proofs.ReadingAhead.{goes_on, memory_at_end, memory_behind}
+use Rattle.driver.proofs.ReadingAhead.{goes_on, memory_at_end, memory_after}
 use Rattle.driver.proofs.replay.replay.Goals as goal
 
 pub answer_act-requires-clause-seat : goal.answer_act-requires-clause-seat
@@ -112,7 +112,7 @@ returns-in_err-answer_act-clause-err g c =
     let passed = c.from_residual-in_err-answer_act in
     let full = err_is passed.result c.in_err-answer_act.field-0.0 passed.ensures in
     rw (full, c.in_err-answer_act.ensures.err)
-    (memory_behind steps_form first
+    (memory_after steps_form first
     (a.acts ++ c.in-Some.act ∷ []) (steps_so_far c.next.new.self.header c.next.new.self.count)
     c.next.new.self.bytes (g.R.Source.left c.next.new.reader) c.in_ok-act.ensures.held
     (λ text were. next text a.acts (a.read text were)))

@@ -14,12 +14,12 @@ pub returns-clause-err : goal.returns-clause-err
 returns-clause-err g c =
     fault_of steps_form (g.R.Source.left c.args.reader.now)
     (progress c.in_ok-steps.steps (g.R.Source.left c.open.new.reader))
-    (g.R.Source.left c.answers_behind.new.reader) c.answers_behind.result c.in_ok-steps.ensures.ok
-    c.answers_behind.ensures.err
+    (g.R.Source.left c.answers_after_header.new.reader) c.answers_after_header.result c.in_ok-steps.ensures.ok
+    c.answers_after_header.ensures.err
 
 pub returns-clause-memory : goal.returns-clause-memory
 returns-clause-memory g c =
     memory_left steps_form (g.R.Source.left c.args.reader.now)
     (progress c.in_ok-steps.steps (g.R.Source.left c.open.new.reader))
-    (g.R.Source.left c.answers_behind.new.reader) c.answers_behind.result c.in_ok-steps.ensures.ok
-    c.answers_behind.ensures.memory
+    (g.R.Source.left c.answers_after_header.new.reader) c.answers_after_header.result c.in_ok-steps.ensures.ok
+    c.answers_after_header.ensures.memory

@@ -16,13 +16,14 @@ returns-clause-ok c =
     let h = part.history.entries in
     let folded = c.requires.folded in
     let object =
-    ap (λ (k : Header). k.object) (header_from part.header part.history.base c.requires.judged.1) in
+    ap (λ (k : Header). k.object) (header_from part.header part.history.base c.requires.judged.0.1) in
     let entries : c.args.head.now.entries + c.len.result ≡ b.entries + length h =
     omega (arith, folded, c.len.ensures.value) in
     let few : length h < 2 ^ 32 = omega (arith, c.len.ensures.value, c.len.ensures.few) in
     let calls : c.calls-calls.result ≡ calls (based b) h =
-    calls_told part.header part.history c.calls-calls.result c.requires.judged.1 few c.calls-calls.ensures in
-    let said = c.in_ok-audit.ensures b h object folded entries calls c.requires.judged.3 in
+    calls_told part.header part.history c.calls-calls.result c.requires.judged.0.1 few
+    c.calls-calls.ensures in
+    let said = c.in_ok-audit.ensures b h object folded entries calls c.requires.judged.1 in
     let end = counts_line (c.args.head.now.entries + c.len.result) c.calls-calls.result in
     foot_lines part _ _ _ _ _ _ entries calls
     (c.in_ok-put_counts.ensures.ok ∙ ap (λ (t : List ℕ). t ++ end) c.new-foot.ensures.items)

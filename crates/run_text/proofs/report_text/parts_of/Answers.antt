@@ -3,7 +3,7 @@ use Rattle.std.specs.List.{All}
 use Rattle.std.specs.Prelude.{string_bytes}
 use Rattle.std.proofs.lemmas.List.Elements.{All-tail}
 use Rattle.script.specs.Script.{named}
-use Rattle.run_text.specs.RunText.{IsJudged}
+use Rattle.run_text.specs.inner.{IsJudged}
 use Rattle.run_text.proofs.Texts.{parts_more}
 use Rattle.run_text.proofs.report_text.parts_of.Goals as goal
 

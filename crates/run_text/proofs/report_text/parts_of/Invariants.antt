@@ -2,7 +2,8 @@ use Rattle.std.proofs.Common.{◌≡◌, ◌≤◌, ◌++◌, length}
 use Rattle.std.specs.List.{concat}
 use Rattle.std.specs.List.{All}
 use Rattle.script.specs.Script.{named}
-use Rattle.run_text.specs.RunText.{IsJudged, parts_text}
+use Rattle.run_text.specs.RunText.{parts_text}
+use Rattle.run_text.specs.inner.{IsJudged}
 use Rattle.run_text.proofs.report_text.parts_of.Given as goal
 
 abbrev pub invariant-loop-object : goal.invariant-loop-object

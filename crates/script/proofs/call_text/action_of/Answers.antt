@@ -1,6 +1,6 @@
 use Rattle.history.specs.Text.{line_of}
 use Rattle.history.proofs.Readers.{unread, not_all_read, is_line_of}
-use Rattle.script.specs.CallReading.{action_at}
+use Rattle.script.specs.inner.CallReading.{action_at}
 use Rattle.script.specs.CallText.{action_words}
 use Rattle.script.proofs.CallLemmas.{action_again}
 use Rattle.script.proofs.call_text.action_of.Goals as goal

@@ -9,8 +9,8 @@ use Rattle.tasks.proofs.run_script.run_script.Goals as goal
 
 pub returns-in_err-report-clause-runs : goal.returns-in_err-report-clause-runs
 returns-in_err-report-clause-runs g c =
-    let told : c.from_residual-in_err-report.result ≡ Err (Run c.in_err-report.field-0.0) = search rules in
-    subst (Runs _ _ _) (sym told)
+    let fault : c.from_residual-in_err-report.result ≡ Err (Run c.in_err-report.field-0.0) = search rules in
+    subst (Runs _ _ _) (sym fault)
     (not_run _ _ c.in_ok-script.script c.in_err-report.field-0.0 c.in_ok-script.ensures.ok
     c.in_err-report.ensures.fault)
 

@@ -1,6 +1,7 @@
 use Rattle.std.proofs.Common.{List, ◌++◌}
 use Rattle.workers.specs.declared.report.ObjectReport.{ObjectReport}
-use Rattle.workers.specs.Reports.{AreParts, HaveColumns}
+use Rattle.workers.specs.Reports.{AreParts}
+use Rattle.workers.specs.inner.Homes.{HaveColumns}
 use Rattle.workers.proofs.run.close_all.Given as goal
 
 abbrev pub invariant-loop-object : goal.invariant-loop-object

@@ -1,7 +1,7 @@
-use Rattle.std.proofs.Common.{length, ap, sym, arith, ◌∙◌, map}
+use Rattle.std.proofs.Common.{[], length, ap, sym, arith, ◌∙◌, map, replicate}
 use Rattle.monitor.specs.Lawful.{blank}
 use Rattle.monitor.specs.Shown.{opening_passes}
-use Rattle.workers.specs.Reports.{empties, header_of, headers_of, opening_rows}
+use Rattle.workers.specs.Reports.{header_of, headers_of, opening_rows}
 use Rattle.workers.specs.Rows.{dealt}
 use Rattle.workers.proofs.Columns.{headers_more, passes_count, rows_count, rows_more, rows_none}
 use Rattle.workers.proofs.run.open_all.Goals as goal
@@ -10,7 +10,7 @@ pub loop-place-init : goal.loop-place-init
 loop-place-init c =
     let n = length c.args.script.now.workers in (
       ap (map header_of) c.new-objects.ensures.items,
-      c.in_ok-rows.ensures ∙ ap (λ z. empties (length z)) c.workers.ensures.value ∙ rows_none 0 n
+      c.in_ok-rows.ensures ∙ ap (λ z. replicate (length z) []) c.workers.ensures.value ∙ rows_none 0 n
           ∙ ap (λ z. opening_rows z 0 n) (sym c.new-objects.ensures.items),
     )
 

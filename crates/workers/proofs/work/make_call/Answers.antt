@@ -2,7 +2,8 @@ use Rattle.std.proofs.Common.{rules, ◌≡◌, ◌<◌, length, ap, subst, ◌�
 use Rattle.script.specs.Script.{IsCall}
 use Rattle.script.specs.declared.call.Call.{Call}
 use Rattle.workers.proofs.Passing.{set_homes, acts_on, place_below}
-use Rattle.workers.specs.Calls.{IsCalled, homes, unrecorded_by}
+use Rattle.workers.specs.Calls.{IsCalled, unrecorded_by}
+use Rattle.workers.specs.inner.Homes.{homes}
 use Rattle.workers.proofs.work.make_call.Goals as goal
 
 pub returns-in-On-clause-same : goal.returns-in-On-clause-same

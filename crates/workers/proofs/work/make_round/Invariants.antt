@@ -1,6 +1,7 @@
 use Rattle.std.proofs.Common.{◌≡◌, ◌+◌, ◌≤◌, reverse, take}
-use Rattle.workers.specs.Calls.{Made, homes}
-use Rattle.workers.specs.Works.{LetsBelow}
+use Rattle.workers.specs.Calls.{Made}
+use Rattle.workers.specs.Gates.{LetsBelow}
+use Rattle.workers.specs.inner.Homes.{homes}
 use Rattle.workers.proofs.work.make_round.Given as goal
 
 abbrev pub invariant-loop-call : goal.invariant-loop-call

@@ -1,6 +1,6 @@
 use Rattle.std.proofs.Common.{rules, ◌≡◌, ◌+◌, ◌<◌, length, ap, sym, subst, arith, ◌∙◌, None, IfNone}
 use Rattle.workers.proofs.Passing.{same_locks, rounds_more}
-use Rattle.workers.specs.Works.{StopsBelow, calls_of}
+use Rattle.workers.specs.Gates.{StopsBelow, calls_of}
 use Rattle.workers.proofs.Working.{calls_more, calls_within, stops_among}
 use Rattle.workers.proofs.work.make_rounds.Goals as goal
 

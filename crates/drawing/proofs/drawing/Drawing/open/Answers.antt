@@ -1,11 +1,11 @@
 use Rattle.std.proofs.Common.{refl}
 use Rattle.history.specs.Start.{opening}
-use Rattle.drawing.proofs.Walks.{weaker}
+use Rattle.std.proofs.lemmas.Result.{IfOk-weaker}
 use Rattle.drawing.proofs.drawing.Drawing.open.Goals as goal
 
 pub returns : goal.returns
 returns c =
     let k = c.args.header in
-    weaker c.begin.result
+    IfOk-weaker c.begin.result _ _
     (λ drawing draws. draws (opening k) refl (c.in_ok-standings.ensures k refl) (c.open-2.ensures k refl))
     c.begin.ensures

@@ -10,6 +10,7 @@ use Rattle.history.specs.declared.header.Object.{Object}
 use Rattle.history.specs.Entry.{same_mode}
 use Rattle.history.specs.declared.limits.TheConstants.{MOST_BASE_PERMITS}
 use Rattle.history.specs.Sleepers.{has, sleepers_after}
+use Rattle.drawing.specs.declared.standings.TheConstants.{CONDITIONS}
 use Rattle.drawing.specs.inner.Tables.{holds_by, line_by, table_by, woken}
 use Rattle.deciding.proofs.HoldsFollow.{bound_follows}
 use Rattle.drawing.proofs.TablesFollow.{holds_follow, line_follows, seated_follow, sleepers_follow}
@@ -57,7 +58,7 @@ returns c =
     c.note_holds.ensures.exclusive ∙ ap (λ o. holds_by X o e old.exclusive.items) (sym object) in
     let shared : c.note_holds.new.shared.items ≡ holds_by S s.header.object e old.shared.items =
     c.note_holds.ensures.shared ∙ ap (λ o. holds_by S o e old.shared.items) (sym object) in
-    let at : e.at < 256 = omega arith in
+    let at : e.at < CONDITIONS = omega arith in
     let within : e.at < length old.asleep.items = omega (arith, at, st.conditions) in
     let was : c.index_mut.result.now ≡ get_or old.asleep.items e.at [] =
     c.index_mut.ensures.value ∙ get_or_default old.asleep.items e.at _ [] within in

@@ -20,12 +20,12 @@ returns c =
     let h = a.history.entries in
     let are = c.self.invariant.2 in
     let few : length h < 2 ^ 32 = omega (arith, c.len-few.ensures.value, c.len-few.ensures.few) in
-    let told = calls_told k a.history c.calls.result (based_well k a.history.base are.header are.good) few
+    let same = calls_told k a.history c.calls.result (based_well k a.history.base are.header are.good) few
     c.calls.ensures in
     subst (λ (v : AllAnswers). c.calls.result ≡ ended_calls (all_of v)) c.self.view_is
     (omega (
       arith,
-      told,
+      same,
       calls-ended (start_on k a.history) h,
       are.ended,
       ended_append a.past.items (reverse h),

@@ -1,4 +1,5 @@
 use Rattle.std.proofs.Common.{◌++◌, All, length, subst, append_assoc}
+use Rattle.std.proofs.lemmas.Result.{on_err_weaker, on_ok_weaker}
 use Rattle.history.specs.Entries.{ended_calls}
 use Rattle.history.specs.EntryWords.{IsSpelt}
 use Rattle.history.specs.Text.{ended}
@@ -7,7 +8,7 @@ use Rattle.driver.specs.Answers.{AllAnswers, all_of, remarks_in}
 use Rattle.driver.specs.Remarks.{told_lines}
 use Rattle.streams.specs.Writing.{AppendsFront}
 use Rattle.driver.proofs.Gathering.{front_longer, front_more, gathered_more, if_failed}
-use Rattle.driver.proofs.Gathering.{where_failed, where_written, written_all, written_front}
+use Rattle.driver.proofs.Gathering.{written_all, written_front}
 use Rattle.driver.proofs.answers.Answers.put_all.Goals as goal
 
 pub put_lines-requires-clause-spelt : goal.put_lines-requires-clause-spelt
@@ -17,12 +18,12 @@ put_lines-requires-clause-spelt g c =
 pub returns-in_err-put_lines-clause-err : goal.returns-in_err-put_lines-clause-err
 returns-in_err-put_lines-clause-err g c =
     let a = c.args.self.now in
-    let told = told_lines (all_of a) 0 (remarks_in c.args.form a.remarks) in
+    let lines = told_lines (all_of a) 0 (remarks_in c.args.form a.remarks) in
     let counts = ended (counts_line (length (all_of a)) (ended_calls (all_of a))) in
     let adds = rw c.remarks_in.ensures at c.in_err-put_lines.ensures.adds in
     if_failed c.from_residual.result _
-    (subst (AppendsFront _ _) (append_assoc c.args.lines.now.bytes told counts)
-    (front_longer _ _ (c.args.lines.now.bytes ++ told) counts adds))
+    (subst (AppendsFront _ _) (append_assoc c.args.lines.now.bytes lines counts)
+    (front_longer _ _ (c.args.lines.now.bytes ++ lines) counts adds))
 
 pub returns-in_err-put_counts-clause-err : goal.returns-in_err-put_counts-clause-err
 returns-in_err-put_counts-clause-err g c =
@@ -37,7 +38,7 @@ returns-clause-ok g c =
     gathered_more _ _ _ c.args.lines.now.bytes c.put_lines.new.lines.bytes c.put_counts.new.self.bytes _
     _ (rw c.remarks_in.ensures at c.in_ok-put_lines.ensures.adds)
     (rw (c.count.ensures, c.calls.ensures) at c.in_ok-put_counts.ensures.adds) in
-    where_written c.flush.result _ _ (written_all _ _ _ c.args.lines.now.bytes c.put_counts.new.self.bytes _
+    on_ok_weaker c.flush.result (written_all _ _ _ c.args.lines.now.bytes c.put_counts.new.self.bytes _
     adds) c.flush.ensures.ok
 
 pub returns-clause-err : goal.returns-clause-err
@@ -46,5 +47,5 @@ returns-clause-err g c =
     gathered_more _ _ _ c.args.lines.now.bytes c.put_lines.new.lines.bytes c.put_counts.new.self.bytes _
     _ (rw c.remarks_in.ensures at c.in_ok-put_lines.ensures.adds)
     (rw (c.count.ensures, c.calls.ensures) at c.in_ok-put_counts.ensures.adds) in
-    where_failed c.flush.result _ _ (written_front _ _ _ c.args.lines.now.bytes c.put_counts.new.self.bytes
+    on_err_weaker c.flush.result (written_front _ _ _ c.args.lines.now.bytes c.put_counts.new.self.bytes
     _ adds) c.flush.ensures.err

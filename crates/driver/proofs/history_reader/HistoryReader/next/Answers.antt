@@ -31,9 +31,13 @@ pub end_of-requires-clause-end : goal.end_of-requires-clause-end
 end_of-requires-clause-end g c =
     let held = c.self.inside in
     let i = c.self.invariant in
-    ended_short _ (held.place.folded + held.place.count) held.place.calls
-    (few_entries held.header held.place i.4 i.0 i.3) (few_calls held.header held.place i.4 i.0 i.1)
-    (rw (c.in-Ok-None.field-0-is, c.bytes.ensures.bytes) at c.in-Ok-None.ensures.line)
+    let last = rw (c.in-Ok-None.field-0-is, c.bytes.ensures.bytes) at c.in-Ok-None.ensures.line in
+    omega (
+      arith,
+      ended_short _ (held.place.folded + held.place.count) held.place.calls
+          (few_entries held.header held.place i.4 i.0 i.3)
+          (few_calls held.header held.place i.4 i.0 i.1) last,
+    )
 
 pub returns-in-Ok-None-clause-next : goal.returns-in-Ok-None-clause-next
 returns-in-Ok-None-clause-next g c =
@@ -43,7 +47,7 @@ returns-in-Ok-None-clause-next g c =
     rw (← c.self.view_is)
     (entries_ended (the_view c.self.inside) _ held.window.bytes c.end_of.new.window.bytes left left
     (g.R.Source.left c.end_of.new.reader) c.end_of.result c.self.invariant.5.0 (Keeps-refl _) is
-    c.end_of.ensures.behind c.end_of.ensures.stays)
+    c.end_of.ensures.after c.end_of.ensures.stays)
 
 pub returns-in-Ok-None-clause-stands : goal.returns-in-Ok-None-clause-stands
 returns-in-Ok-None-clause-stands g c =

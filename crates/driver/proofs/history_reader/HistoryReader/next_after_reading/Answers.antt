@@ -8,7 +8,7 @@ use Rattle.streams.specs.declared.stream_fault.StreamFault.TheVariants.{Text}
 use Rattle.driver.specs.contracts.history_reader.HistoryReader.{the_view}
 use Rattle.driver.proofs.EntriesAhead.{entries_ended, entries_kept, entries_read_failed}
 use Rattle.driver.proofs.EntriesAhead.{entry_failed, entry_here, entry_keeps, few_calls, few_entries}
-use Rattle.driver.proofs.ReadingAhead.{end_kept, stands_behind, stands_failed}
+use Rattle.driver.proofs.ReadingAhead.{end_kept, stands_after, stands_failed}
 use Rattle.driver.proofs.history_reader.HistoryReader.next_after_reading.Goals as goal
 
 pub returns-in_err-read_line-clause-next : goal.returns-in_err-read_line-clause-next
@@ -48,9 +48,13 @@ pub end_of-requires-clause-end : goal.end_of-requires-clause-end
 end_of-requires-clause-end g c =
     let held = c.self.inside in
     let i = c.self.invariant in
-    ended_short _ (held.place.folded + held.place.count) held.place.calls
-    (few_entries held.header held.place i.4 i.0 i.3) (few_calls held.header held.place i.4 i.0 i.1)
-    (rw (c.in_default.is, c.bytes.ensures.bytes) at c.in_ok-entry.ensures.line)
+    let last = rw (c.in_default.is, c.bytes.ensures.bytes) at c.in_ok-entry.ensures.line in
+    omega (
+      arith,
+      ended_short _ (held.place.folded + held.place.count) held.place.calls
+          (few_entries held.header held.place i.4 i.0 i.3)
+          (few_calls held.header held.place i.4 i.0 i.1) last,
+    )
 
 pub returns-in_default-clause-next : goal.returns-in_default-clause-next
 returns-in_default-clause-next g c =
@@ -63,11 +67,14 @@ returns-in_default-clause-next g c =
     let keeps =
     end_kept held.window.bytes window (counts_line n held.place.calls) (g.R.Source.left c.args.reader.now)
     (g.R.Source.left c.read_line.new.reader) c.in_ok-read_line.ensures.ahead last
-    (counts_short n held.place.calls (few_entries held.header held.place i.4 i.0 i.3)
-    (few_calls held.header held.place i.4 i.0 i.1)) in
+    (omega (
+      arith,
+      counts_short n held.place.calls (few_entries held.header held.place i.4 i.0 i.3)
+          (few_calls held.header held.place i.4 i.0 i.1),
+    )) in
     rw (← c.self.view_is) (entries_ended (the_view c.self.inside) _ window c.end_of.new.window.bytes
     (g.R.Source.left c.args.reader.now) (g.R.Source.left c.read_line.new.reader)
-    (g.R.Source.left c.end_of.new.reader) c.end_of.result i.5.0 keeps is c.end_of.ensures.behind
+    (g.R.Source.left c.end_of.new.reader) c.end_of.result i.5.0 keeps is c.end_of.ensures.after
     c.end_of.ensures.stays)
 
 pub returns-in_default-clause-stands : goal.returns-in_default-clause-stands
@@ -80,9 +87,12 @@ returns-in_default-clause-stands g c =
     let keeps =
     end_kept held.window.bytes window (counts_line n held.place.calls) (g.R.Source.left c.args.reader.now)
     (g.R.Source.left c.read_line.new.reader) c.in_ok-read_line.ensures.ahead last
-    (counts_short n held.place.calls (few_entries held.header held.place i.4 i.0 i.3)
-    (few_calls held.header held.place i.4 i.0 i.1)) in
-    rw (← c.self.view_is) (stands_behind held.window.bytes window c.end_of.new.window.bytes
+    (omega (
+      arith,
+      counts_short n held.place.calls (few_entries held.header held.place i.4 i.0 i.3)
+          (few_calls held.header held.place i.4 i.0 i.1),
+    )) in
+    rw (← c.self.view_is) (stands_after held.window.bytes window c.end_of.new.window.bytes
     (g.R.Source.left c.args.reader.now) (g.R.Source.left c.read_line.new.reader)
     (g.R.Source.left c.end_of.new.reader) c.end_of.result keeps c.end_of.ensures.stays)
 

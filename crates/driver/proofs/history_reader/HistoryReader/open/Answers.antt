@@ -9,7 +9,7 @@ use Rattle.history_text.proofs.ShortEntries.{short}
 use Rattle.streams.specs.declared.stream_fault.StreamFault.{StreamFault}
 use Rattle.streams.specs.declared.stream_fault.StreamFault.TheVariants.{Memory, Text}
 use Rattle.streams.specs.Window.{Seen}
-use Rattle.driver.proofs.BaseAhead.{beginning_read, few_behind, head_ahead}
+use Rattle.driver.proofs.BaseAhead.{beginning_read, few_after, head_ahead}
 use Rattle.driver.proofs.ReadingAhead.{header_fault, reading_fault, unread_yet, whole_left}
 use Rattle.driver.proofs.history_reader.HistoryReader.open.Goals as goal
 
@@ -58,7 +58,7 @@ invariant_of-result g c =
     let h = c.in_ok-head.head.header in
     let of = c.in_ok-base.ensures.base in
     let at = c.in_ok-base.ensures.place in
-    let few = few_behind h (or_opening h c.in_ok-base.base) c.in_ok-base.place of at in (
+    let few = few_after h (or_opening h c.in_ok-base.base) c.in_ok-base.place of at in (
       omega (arith, at.count),
       omega (arith, few.0),
       at.lines,

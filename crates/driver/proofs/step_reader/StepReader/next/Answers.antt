@@ -54,8 +54,8 @@ returns-in_err-pass-in-Ok-Some-clause-stands g c =
 pub end_of-requires-clause-end : goal.end_of-requires-clause-end
 end_of-requires-clause-end g c =
     let held = c.self.inside in
-    ended_short _ held.count (omega (arith, c.self.invariant.0))
-    ((rw (c.in-Ok-None.field-0-is, c.bytes.ensures.bytes) at c.in-Ok-None.ensures.last) refl)
+    let last = (rw (c.in-Ok-None.field-0-is, c.bytes.ensures.bytes) at c.in-Ok-None.ensures.last) refl in
+    omega (arith, ended_short _ held.count (omega (arith, c.self.invariant.0)) last)
 
 pub returns-in-Ok-None-clause-next : goal.returns-in-Ok-None-clause-next
 returns-in-Ok-None-clause-next g c =
@@ -64,7 +64,7 @@ returns-in-Ok-None-clause-next g c =
     rw (← c.self.view_is)
     (ended_here steps_form (steps_so_far held.header held.count) held.window.bytes c.end_of.new.window.bytes
     (g.R.Source.left c.args.reader.now) (g.R.Source.left c.end_of.new.reader) c.end_of.result _ is
-    c.end_of.ensures.behind c.end_of.ensures.stays)
+    c.end_of.ensures.after c.end_of.ensures.stays)
 
 pub returns-in-Ok-None-clause-stands : goal.returns-in-Ok-None-clause-stands
 returns-in-Ok-None-clause-stands g c =

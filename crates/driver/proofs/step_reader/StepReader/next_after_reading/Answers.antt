@@ -11,7 +11,7 @@ use Rattle.steps.proofs.StepsLawful.{lawful}
 use Rattle.driver.specs.TextReader.{reader_at}
 use Rattle.driver.proofs.ReadingAhead.{end_kept, ended_here, fault_ahead, item_ahead}
 use Rattle.driver.proofs.ReadingAhead.{item_kept, kept, line_within, next_kept, not_counted}
-use Rattle.driver.proofs.ReadingAhead.{read_failed, stands_behind, stands_failed}
+use Rattle.driver.proofs.ReadingAhead.{read_failed, stands_after, stands_failed}
 use Rattle.driver.proofs.StepsAhead.{next_act, next_short}
 use Rattle.driver.proofs.step_reader.StepReader.next_after_reading.Goals as goal
 
@@ -54,8 +54,8 @@ returns-in_err-act-clause-stands g c =
 pub end_of-requires-clause-end : goal.end_of-requires-clause-end
 end_of-requires-clause-end g c =
     let held = c.self.inside in
-    ended_short _ held.count (omega (arith, c.self.invariant.0))
-    ((rw (c.in_default.is, c.bytes.ensures.bytes) at c.in_ok-act.ensures.last) refl)
+    let last = (rw (c.in_default.is, c.bytes.ensures.bytes) at c.in_ok-act.ensures.last) refl in
+    omega (arith, ended_short _ held.count (omega (arith, c.self.invariant.0)) last)
 
 pub returns-in_default-clause-next : goal.returns-in_default-clause-next
 returns-in_default-clause-next g c =
@@ -67,11 +67,11 @@ returns-in_default-clause-next g c =
     let keeps =
     end_kept held.window.bytes window (end_line held.count) (g.R.Source.left c.args.reader.now)
     (g.R.Source.left c.read_line.new.reader) c.in_ok-read_line.ensures.ahead last
-    (end_short held.count (omega (arith, c.self.invariant.0))) in
+    (omega (arith, end_short held.count (omega (arith, c.self.invariant.0)))) in
     rw (← c.self.view_is) (next_kept steps_form so_far _ _ c.end_of.result _
     (g.R.Source.left c.end_of.new.reader) keeps
     (ended_here steps_form so_far window c.end_of.new.window.bytes (g.R.Source.left c.read_line.new.reader)
-    (g.R.Source.left c.end_of.new.reader) c.end_of.result _ is c.end_of.ensures.behind
+    (g.R.Source.left c.end_of.new.reader) c.end_of.result _ is c.end_of.ensures.after
     c.end_of.ensures.stays))
 
 pub returns-in_default-clause-stands : goal.returns-in_default-clause-stands
@@ -82,8 +82,8 @@ returns-in_default-clause-stands g c =
     let keeps =
     end_kept held.window.bytes window (end_line held.count) (g.R.Source.left c.args.reader.now)
     (g.R.Source.left c.read_line.new.reader) c.in_ok-read_line.ensures.ahead last
-    (end_short held.count (omega (arith, c.self.invariant.0))) in
-    rw (← c.self.view_is) (stands_behind held.window.bytes window c.end_of.new.window.bytes
+    (omega (arith, end_short held.count (omega (arith, c.self.invariant.0)))) in
+    rw (← c.self.view_is) (stands_after held.window.bytes window c.end_of.new.window.bytes
     (g.R.Source.left c.args.reader.now) (g.R.Source.left c.read_line.new.reader)
     (g.R.Source.left c.end_of.new.reader) c.end_of.result keeps c.end_of.ensures.stays)
 

@@ -1,7 +1,7 @@
 use Rattle.std.proofs.Common.{get_or, ap, ◌∙◌, sym}
+use Rattle.std.proofs.lemmas.List.Sums.{fold_more}
 use Rattle.std.specs.Prelude.{pos}
 use Rattle.picture.specs.Curve.{wider}
-use Rattle.picture.proofs.Appending.{folded_on}
 use Rattle.picture.proofs.curve.Range.of.Goals as goal
 
 pub loop-amount-preserved : goal.loop-amount-preserved
@@ -9,4 +9,4 @@ loop-amount-preserved c =
     let was = c.loop-amount in
     let xs = c.args.amounts.now in
     c.with-range.ensures ∙ ap (λ r. wider r (get_or xs was.amount-index (pos 0))) was.invariant
-    ∙ sym (folded_on wider _ xs was.amount-index (pos 0) c.loop-amount-test.true)
+    ∙ sym (fold_more wider _ xs was.amount-index (pos 0) c.loop-amount-test.true)

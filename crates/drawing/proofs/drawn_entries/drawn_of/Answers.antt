@@ -1,13 +1,13 @@
 use Rattle.std.proofs.Common.{◌≡◌, ◌+◌, ◌<◌, ℕ, List, ◌∷◌, length, get_or, reverse, take, ap, ◌∙◌, sym, subst, arith}
 use Rattle.std.proofs.lemmas.List.{length-reverse, length-take-le, take_all, take_more}
+use Rattle.std.proofs.lemmas.Result.{IfOk-weaker}
 use Rattle.history.proofs.Lists.{reverse_push}
 use Rattle.history.specs.declared.entry.Entry.{Entry}
 use Rattle.std.specs.List.{All}
 use Rattle.history.specs.declared.header.Header.{Header}
 use Rattle.drawing.specs.Drawing.{HasDrawn}
-use Rattle.drawing.proofs.Walks.{weaker}
 use Rattle.drawing.proofs.Begins.{begins}
-use Rattle.drawing.proofs.whole.drawn_of.Goals as goal
+use Rattle.drawing.proofs.drawn_entries.drawn_of.Goals as goal
 
 -- entries of seats of a header, which is the same
 seats_all : (a b : Header) (xs : List Entry) → a ≡ b → All (λ e. e.seat < a.seats) xs →
@@ -66,19 +66,19 @@ all_drawn c =
 
 pub returns-clause-bars : goal.returns-clause-bars
 returns-clause-bars c =
-    weaker c.finish.result (λ drawn is. is (begins c.args.header c.args.base) c.args.from
+    IfOk-weaker c.finish.result _ _ (λ drawn is. is (begins c.args.header c.args.base) c.args.from
     (reverse c.args.entries.now) (all_drawn c))
     c.finish.ensures.bars
 
 pub returns-clause-marks : goal.returns-clause-marks
 returns-clause-marks c =
-    weaker c.finish.result (λ drawn is. is (begins c.args.header c.args.base) c.args.from
+    IfOk-weaker c.finish.result _ _ (λ drawn is. is (begins c.args.header c.args.base) c.args.from
     (reverse c.args.entries.now) (all_drawn c))
     c.finish.ensures.marks
 
 pub returns-clause-curve : goal.returns-clause-curve
 returns-clause-curve c =
-    weaker c.finish.result (λ drawn is. is (begins c.args.header c.args.base) c.args.from
+    IfOk-weaker c.finish.result _ _ (λ drawn is. is (begins c.args.header c.args.base) c.args.from
     (reverse c.args.entries.now) (all_drawn c))
     c.finish.ensures.curve
 

@@ -2,7 +2,7 @@ use Rattle.std.proofs.Common.{IfOk, [], sym, subst}
 use Rattle.history.specs.Start.{Start}
 use Rattle.history.proofs.OpeningBase.{based_opening}
 use Rattle.drawing.specs.Drawing.{HasDrawn}
-use Rattle.drawing.proofs.whole.begun.Goals as goal
+use Rattle.drawing.proofs.drawn_entries.begun.Goals as goal
 
 pub returns-in-None-clause-drawn : goal.returns-in-None-clause-drawn
 returns-in-None-clause-drawn c =

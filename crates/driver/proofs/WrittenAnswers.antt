@@ -9,7 +9,8 @@ use Rattle.driver.specs.declared.form.Form.{Form}
 use Rattle.streams.specs.declared.stream_fault.StreamFault.{StreamFault}
 use Rattle.streams.specs.declared.stream_fault.StreamFault.TheVariants.{Text, ReadFailed, WriteFailed, Memory}
 use Rattle.driver.specs.Answers.{AllAnswers, Writes, answers_text}
-use Rattle.driver.specs.ReplayStream.{AreAnswersTo, IsLawful, Replayed, Replays, answer_text}
+use Rattle.driver.specs.ReplayStream.{IsLawful, Replayed, Replays, answer_text}
+use Rattle.driver.specs.inner.ReplayStream.{AreAnswersTo}
 use Rattle.driver.specs.ReplayText.{behind_acts}
 use Rattle.streams.specs.Writing.{AppendsFront}
 
@@ -19,7 +20,7 @@ pub replayed : (form : Form) (text : List ℕ) (h : StepsHeader) (acts : List Ac
 replayed form text h acts written is lawful same =
     record { header = h; acts = acts; is = is; lawful = lawful; written = same }
 
--- what is written is told of another way
+-- what is written, said in another way
 rewritten : (form : Form) (text all : List ℕ) (Written : List ℕ → Type 0) →
     Replayed form text (λ written. all ≡ written) → Written all → Replayed form text Written
 rewritten form text all Written r w =

@@ -1,4 +1,4 @@
-//! Drawing a whole history.
+//! Drawing a list of entries.
 
 ghost use Rattle.std.specs.Prelude.{◌≡◌, ◌<◌, ◌^◌, [], IfOk, IfSome, length, reverse};
 ghost use Rattle.std.specs.List.{All};

@@ -1,5 +1,5 @@
 -- What is kept of the answers to acts, besides the core's history.
-use Rattle.std.specs.Prelude.{◌≡◌, ◌≢◌, ◌+◌, ℕ, List, [], ◌∷◌, ◌++◌, length, reverse, Result, Ok, Err}
+use Rattle.std.specs.Prelude.{◌≡◌, ◌≢◌, ◌+◌, ℕ, List, [], ◌∷◌, ◌++◌, length, reverse, Option, Some, None, Result, Ok, Err}
 use Rattle.frame.specs.declared.acts.Act.{Act}
 use Rattle.frame.specs.declared.acts.Act.TheVariants.{Do, Trim}
 use Rattle.frame.specs.Core.{CoreView, IsAnswered, IsTrimmed}
@@ -10,7 +10,7 @@ use Rattle.history.specs.declared.step.Answer.{Answer}
 use Rattle.history.specs.declared.step.Step.{Step}
 use Rattle.driver.specs.declared.replay.Log.{Log}
 use Rattle.driver.specs.declared.remark.Remark.{Remark}
-use Rattle.driver.specs.Remarks.{IsRemarked, remark_of, trim_remark}
+use Rattle.driver.specs.Remarks.{remark_of, trim_remark}
 
 -- what is kept: the entries that were folded, the oldest first, and the remarks
 pub record Logged : Type 0 where
@@ -28,6 +28,11 @@ count_of core log = length log.past + length core.entries
 abbrev pub gone : Result ℕ Fault → List Entry → List Entry
 gone (Ok count) entries = reverse entries
 gone (Err fault) entries = []
+
+-- a remark is added, if there is one
+abbrev pub IsRemarked : List Remark → Option Remark → List Remark → Type 0
+IsRemarked old None new = new ≡ old
+IsRemarked old (Some r) new = new ≡ old ++ r ∷ []
 
 -- a step was answered, and not by OutOfMemory, and the answer was kept
 abbrev pub IsStepLogged : CoreView → Logged → ℕ → Step → CoreView → Logged → Type 0

@@ -1,4 +1,4 @@
--- What a list of steps is answered, with short names for the steps and answers.
+-- The replies to a list of steps, with short names for the steps and the replies.
 use Rattle.std.specs.Prelude.{ℕ, List, [], length, Some, None, Result, Ok, Err, ℤ}
 use Rattle.history.specs.declared.entry.End.{End}
 use Rattle.history.specs.declared.entry.End.TheVariants as end
@@ -25,7 +25,7 @@ infixl 70 ◌wakes◌
 abbrev Reply : Type 0
 Reply = Result Answer Fault
 
--- the answers to a list of steps of an object as opened, the number of entries, and the number of calls
+-- the replies to a list of steps of an object as opened, the number of entries, and the number of calls
 abbrev pub replies : Header → List (ℕ × Step) → List Reply × ℕ × ℕ
 replies k steps =
     let done = results (opening k) [] steps in
@@ -126,7 +126,7 @@ entered e = Ok (answer.Recorded e None)
 
 abbrev pub ◌wakes◌ : Reply → ℕ → Reply
 ◌wakes◌ (Ok (answer.Recorded e _)) seat = Ok (answer.Recorded e (Some seat))
-◌wakes◌ replies seat = replies
+◌wakes◌ reply seat = reply
 
 abbrev pub sleeps : Reply
 sleeps = Ok answer.Sleep

@@ -7,7 +7,8 @@ use Rattle.history.specs.Base.{based}
 use Rattle.history.specs.Legal.{calls}
 use Rattle.history_text.specs.HistoryText.{IsHistoryText}
 use Rattle.driver.specs.declared.judged.Judged.{Judged}
-use Rattle.driver.specs.HistoryReader.{EntriesHeld, OfHistory, base_held}
+use Rattle.driver.specs.HistoryReader.{EntriesHeld, base_held}
+use Rattle.driver.specs.inner.HistoryReader.{OfHistory}
 
 -- the kept entries with one more, which has this number
 abbrev pub kept_with : List Entry → Entry → ℕ → ℕ → List Entry

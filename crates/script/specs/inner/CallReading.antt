@@ -6,11 +6,12 @@ use Rattle.monitor.specs.declared.how.How.{How}
 use Rattle.monitor.specs.declared.how.How.TheVariants.{Plain, Interruptible, Timed}
 use Rattle.script.specs.declared.action.Action.{Action}
 use Rattle.script.specs.declared.action.Action.TheVariants.{Acquire, TryAcquire, Release, AwaitOn, Signal, SignalAll, Drain, Trim}
+use Rattle.script.specs.declared.limits.TheConstants.{MOST_MILLISECONDS}
 use Rattle.steps.specs.StepReading.{asked_at, condition_at}
 
 -- a wait with a deadline
 unfoldable pub timed_at : Words → Option (How × Words)
-timed_at words = number_at 0 4294967295 words >>= λ ms. Some (Timed ms.0, ms.1)
+timed_at words = number_at 0 MOST_MILLISECONDS words >>= λ ms. Some (Timed ms.0, ms.1)
 
 -- an acquire: a mode and an amount, and the milliseconds if it is timed
 abbrev pub acquire_at : How → Words → Option (Action × Words)

@@ -1,0 +1,9 @@
+-- What only contracts of private functions cite: no promise of the crate rests on it.
+pub mod BaseReader
+pub mod HistoryReader
+pub mod Judged
+pub mod Logged
+pub mod ReplayStream
+pub mod StepReader
+pub mod TextReader
+pub mod VerdictText

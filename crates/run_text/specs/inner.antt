@@ -1,0 +1,34 @@
+-- What only contracts of private functions cite: no promise of the crate rests on it.
+use Rattle.std.specs.Prelude.{◌≡◌, ℕ, ◌+◌, List, ◌++◌, length, true}
+use Rattle.audit.specs.Verdict.{IsJudgement, verdict_of}
+use Rattle.driver.specs.AuditText.{audit_text}
+use Rattle.history.specs.Base.{Base, based}
+use Rattle.history.specs.Entries.{start_on}
+use Rattle.history.specs.Legal.{calls}
+use Rattle.history.specs.Text.{ended}
+use Rattle.history_text.specs.EntryLines.{counts_line}
+use Rattle.history_text.specs.HistoryLines.{head_line, head_of, lines_told}
+use Rattle.history_text.specs.Pieces.{lines_text}
+use Rattle.workers.specs.declared.report.ObjectReport.{ObjectReport}
+use Rattle.workers.specs.Reports.{IsSound, is_legal}
+use Rattle.run_text.specs.RunText.{base_of, name_line, shares_line}
+
+-- the history is sound, and the judgement is that of the history
+abbrev pub IsJudged : ObjectReport → Type 0
+IsJudged part =
+    IsSound part × IsJudgement (start_on part.header part.history) part.history.entries part.judgement
+
+-- the audit judges the history of an object legal
+abbrev pub IsLegalPart : ObjectReport → Type 0
+IsLegalPart part = is_legal part.judgement ≡ true
+
+-- what comes before the lines of its entries, and what comes after them
+abbrev pub head_text : List ℕ → Base → List ℕ
+head_text name b = ended (name_line name) ++ ended (head_line (head_of b)) ++ lines_text (lines_told b)
+
+abbrev pub foot_text : ObjectReport → List ℕ
+foot_text part =
+    ended (counts_line ((base_of part).entries + length part.history.entries)
+    (calls (based (base_of part)) part.history.entries))
+    ++ audit_text (base_of part) part.history.entries (verdict_of part.judgement)
+    ++ ended (shares_line part.share)
