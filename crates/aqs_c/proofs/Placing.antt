@@ -1,12 +1,11 @@
 -- The places of an opening, one after another.
-use Rattle.std.proofs.Common.{◌≡◌, ℕ, zero, suc, List, [], ◌∷◌, ◌++◌, length, refl, sym, ap, ◌∙◌}
+use Rattle.std.proofs.Common.{◌≡◌, List, [], ◌∷◌, ◌++◌, length, sym, ap, ◌∙◌}
 use Rattle.std.proofs.lemmas.List.{append-nil, append_assoc, length-map, map_push}
 use Rattle.std.specs.Prelude.{map}
 use Rattle.history.specs.declared.header.Header.{Header}
-use Rattle.history.specs.declared.point.Point.{Point}
 use Rattle.monitor.specs.Lawful.{blank}
 use Rattle.monitor.specs.Shown.{opening_passes}
-use Rattle.word_lock.specs.Ticket.{LockId}
+use Rattle.monitor.proofs.Opening.{opening_count}
 use Rattle.aqs_c.specs.Opening.{IsOpened, idle}
 use Rattle.aqs_c.specs.declared.pass.AqsPass.{AqsPass}
 
@@ -25,10 +24,6 @@ placed_all f g done rest all so_far none =
     sym (append-nil (map f done)) ∙ (ap (λ l. map f done ++ map g l) (sym none) ∙ so_far)
 
 -- an opening makes as many passes as there are seats
-opening_count : (lock : LockId) (p : Point) (k n : ℕ) → length (opening_passes lock p k n) ≡ n
-opening_count lock p k zero = refl
-opening_count lock p k (suc n) = ap suc (opening_count lock p (suc k) n)
-
 pub opened_count : (h : Header) (places : List AqsPass) → IsOpened h places → length places ≡ h.seats
 opened_count h places opened =
     sym (length-map places (λ p. p.held.value))

@@ -1,5 +1,5 @@
 -- Who waits after the turns of its call, and after what changes nothing of it.
-use Rattle.std.proofs.Common.{◌≡◌, inl, inr, ℕ, Bool, true, false, cond, is_some, List, Option, Some, None, Result, Ok, Err, refl, sym, ap, ◌∙◌, subst}
+use Rattle.std.proofs.Common.{◌≡◌, inl, inr, ℕ, Bool, true, false, List, Option, Some, None, Result, Ok, Err, refl, sym, ap, ◌∙◌, subst}
 use Rattle.std.specs.Prelude.{IfNone, IfSome, MatchOption}
 use Rattle.history.specs.Awaiting.{lapsed}
 use Rattle.history.specs.Base.{Base}
@@ -12,10 +12,9 @@ use Rattle.history.specs.declared.step.Step.{Step}
 use Rattle.history.specs.declared.step.Step.TheVariants as step
 use Rattle.permit.specs.Deed.{Deed}
 use Rattle.permit.specs.declared.parking.Woke.{Woke}
-use Rattle.permit.specs.declared.parking.Woke.TheVariants.{Permit, Deadline, Interrupted}
 use Rattle.history.specs.Phase.{waits}
 use Rattle.word_lock.specs.Point.{Agrees, Before}
-use Rattle.monitor.specs.Machine.{IsBegun, IsGoneOn, later_turn, next_behind, step_at, step_of_waiting, step_within}
+use Rattle.monitor.specs.Machine.{IsBegun, IsGoneOn, later_turn, next_behind, step_of_waiting}
 use Rattle.monitor.specs.Observing.{IsLook}
 use Rattle.monitor.specs.Shown.{Shown, IsSound}
 use Rattle.monitor.specs.Stepping.{IsSame, IsTrim, IsUnparked}
@@ -26,11 +25,8 @@ use Rattle.monitor.specs.declared.machine.Next.TheVariants as next
 use Rattle.monitor.specs.declared.machine.Request.{Request}
 use Rattle.monitor.specs.declared.machine.Turn.{Turn}
 use Rattle.monitor.specs.declared.machine.Waiting.{Waiting}
-use Rattle.monitor.specs.declared.waiting.Limits.{Limits}
-use Rattle.monitor.specs.declared.waiting.Stage.{Stage}
-use Rattle.monitor.specs.declared.waiting.Stage.TheVariants.{Expires, Parks, Looks, GivenUp}
 use Rattle.monitor.proofs.InLine.{IsEndBy}
-use Rattle.monitor.proofs.TurnByTurn.{begun_waits, never_waits, waits_now}
+use Rattle.monitor.proofs.TurnByTurn.{begun_waits, never_waits, step_waits, waits_now}
 use Rattle.monitor.proofs.Turns.{TurnMakes, still_waiting, turn}
 use Rattle.monitor.proofs.Turns as turns
 use Rattle.aqs_c.specs.Seated.{waiting_in}
@@ -75,26 +71,6 @@ waits_lapsed b l i (in_line a) s e m q = let z = no_lapse s i a e m in cc
 waits_lapsed b l i (on_condition w) s e (inl m) q = let z = ap (λ (x : Entry). is_lapse x.word) m in cc
 waits_lapsed b l i (on_condition w) s e (inr m) q = (on_way_back (lapsed w m.0), m.3)
 waits_lapsed b l i (on_way_back w) s e m q = let z = ap (λ (x : Entry). is_lapse x.word) m in cc
-
--- one who waits takes a step of one who waits
-waits_within : (l : Limits) (woke : Woke) → waits (step_within l woke) ≡ true
-waits_within l Permit = refl
-waits_within l Deadline = by (is_some l.until)
-  where
-    by : (b : Bool) → waits (cond b step.Expire step.Look) ≡ true
-    by true = refl
-    by false = refl
-waits_within l Interrupted = by l.interruptible
-  where
-    by : (b : Bool) → waits (cond b step.Interrupt step.Look) ≡ true
-    by true = refl
-    by false = refl
-
-step_waits : (stage : Stage) (l : Limits) (woke : Woke) → waits (step_at stage l woke) ≡ true
-step_waits Expires l woke = refl
-step_waits Parks l woke = waits_within l woke
-step_waits Looks l woke = refl
-step_waits GivenUp l woke = refl
 
 -- who waits after a later turn
 waits_gone : (old new : Shown) (k : Cause) (w : Waiting) (s : Step) (r : Result Answer Fault) (n : Waiting) →

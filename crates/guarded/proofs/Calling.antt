@@ -26,7 +26,7 @@ pub is_of_lock : {monitor : LockId} {when_full : WhenFull} {m : MutexView} {l : 
 is_of_lock {monitor} {when_full} {m} {l} view lock of =
     of_lock of (ap (λ (v : MutexView). is_lock v.lock.header.object) (sym view) ∙ lock)
 
--- a call adds the holds that it tells of
+-- a call adds the holds that it returns
 pub call_gains : (did : Deed → Type 0) (w : WhenFull) (a z : Asked) (old new : Shown) (r : Result Entry Fault) →
     a ≡ z → is_lock old.lock.header.object ≡ true → IsSame old new → call_of did z w old r new →
     holds new ≡ holds old + gained_by a r

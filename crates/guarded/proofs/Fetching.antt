@@ -36,13 +36,13 @@ use Rattle.monitor.specs.declared.how.How.{How}
 use Rattle.monitor.specs.declared.room.WhenFull.{WhenFull}
 use Rattle.monitor.proofs.Acquiring.{idle_made}
 use Rattle.monitor.proofs.InLine.{records}
-use Rattle.monitor_fronts.specs.Told.{whether_of}
+use Rattle.monitor_fronts.specs.Returned.{whether_of}
 use Rattle.monitor_fronts.proofs.Exactly.{first_plain, timed, tried_words}
 use Rattle.monitor_fronts.proofs.MakingRoom.{in_room}
 use Rattle.guarded.specs.declared.asking.PoolCall.{PoolCall}
 use Rattle.guarded.specs.declared.asking.PoolCall.TheVariants as asks
 use Rattle.guarded.specs.declared.shelf.Shelf.{Shelf}
-use Rattle.guarded.specs.Asking.{told_of}
+use Rattle.guarded.specs.Asking.{yes_if_some}
 use Rattle.guarded.specs.Pooling.{Answers, asked_by, brought_by, free_after_call, free_if, has_after, is_done}
 use Rattle.guarded.specs.Pooling.{pool_call}
 use Rattle.guarded.specs.Shelved.{IsOfSemaphore}
@@ -111,7 +111,7 @@ gives_free (Lock p) k i n t = cc
 gives_free (ReadWrite p) k i n t = cc
 gives_free (Latch c) k i n t = cc
 
--- what a call leaves of the free permits, by what is told of it
+-- what a call leaves of the free permits, by what it returned
 pub record Left (asked : PoolCall) (old : Shown) (r : Result Entry Fault) (new : Shown) : Type 0 where
   pub free : free_of new ≡ free_after_call asked (whether_of r) (free_of old)
   pub answers : Answers asked (whether_of r)
@@ -227,11 +227,11 @@ has_by true (asks.Try n) m has f brings q = omega (arith, ints, q, brings)
 has_by true (asks.Release n) m has f brings q = omega (arith, ints, q, brings)
 has_by false asked m has f brings q = omega (arith, ints, q, brings)
 
--- what a call leaves on its shelf by what is told of it, which such a call may tell
-pub record Ends {T : Type 0} (asked : PoolCall) (told : Result Bool Fault) (x y : Shelf T) : Type 0 where
-  pub answers : Answers asked told
-  pub has : length y.items ≡ has_after asked told
-  pub keeps : is_done told ≡ false → y ≡ x
+-- what a call leaves on its shelf by what it returned, and it may return that
+pub record Ends {T : Type 0} (asked : PoolCall) (returned : Result Bool Fault) (x y : Shelf T) : Type 0 where
+  pub answers : Answers asked returned
+  pub has : length y.items ≡ has_after asked returned
+  pub keeps : is_done returned ≡ false → y ≡ x
 
 pub call_ends : {T : Type 0} (did : Deed → Type 0) (w : WhenFull) (asked is : PoolCall) (old new : Shown)
     (r : Result Entry Fault) (x y : Shelf T) → asked ≡ is → is_semaphore old.lock.header.object ≡ true →
@@ -250,9 +250,9 @@ call_ends {T} did w asked is old new r x y same_call semaphore brings same shows
 
 -- an acquire that waits as long as it must has items
 pub never_none : {A : Type 0} (n : ℕ) (how : How) (got : Option A) → (is_timed how → ⊥) → got ≡ None →
-    Answers (asks.Acquire n how) (told_of (Ok got)) → ⊥
+    Answers (asks.Acquire n how) (yes_if_some (Ok got)) → ⊥
 never_none {A} n how got never none answers =
-    never (subst (λ (z : Option A). Answers (asks.Acquire n how) (told_of (Ok z))) none answers)
+    never (subst (λ (z : Option A). Answers (asks.Acquire n how) (yes_if_some (Ok z))) none answers)
 
 -- the item that comes back is the one that went out
 pub same_item : {A : Type 0} (items : List A) (item : A) (r : Result (Unit {0}) (A × Fault)) →

@@ -19,12 +19,11 @@ use Rattle.monitor.specs.Shown.{Shown, IsSound}
 use Rattle.monitor.specs.Stepping.{IsEntered, IsSame}
 use Rattle.monitor.specs.declared.room.WhenFull.{WhenFull}
 use Rattle.monitor.proofs.Loads.{true_holds}
-use Rattle.monitor_fronts.specs.Holding.{gained, holds}
-use Rattle.monitor_fronts.specs.Told.{done_of, whether_of}
+use Rattle.monitor_fronts.specs.Holding.{gained, holds, with_yes}
+use Rattle.monitor_fronts.specs.Returned.{done_of, whether_of}
 use Rattle.monitor_fronts.proofs.Counting.{of_lock, of_own}
 use Rattle.monitor_fronts.proofs.Exactly.{acquire_gains, gave_is, give_takes, try_gains}
 use Rattle.monitor_fronts.proofs.MakingRoom.{in_room}
-use Rattle.guarded.specs.Guarding.{told_by}
 use Rattle.guarded.specs.declared.asking.Reading.{Reading}
 use Rattle.guarded.specs.declared.asking.Reading.TheVariants as asks
 use Rattle.guarded.specs.Reading.{GainsReads, Saw, Sees, reading_of, reads}
@@ -33,15 +32,15 @@ use Rattle.guarded.specs.declared.slot.Slot.{Slot}
 use Rattle.guarded.specs.declared.slot.Slot.TheVariants.{Empty, Full}
 use Rattle.guarded.proofs.Stowing.{rests_as}
 
--- a reader's give takes one read hold where it tells so
+-- a reader's give takes one read hold if it returns so
 pub give_reads : (did : Deed → Type 0) (old new : Shown) (r : Result Entry Fault) →
     is_lock old.lock.header.object ≡ true → IsSame old new → IsSound new → IsEntered did old (Give S 1) r new →
-    0 < reads old → (reads new + gained (told_by (done_of r)) ≡ reads old) × (holds new ≡ holds old)
+    0 < reads old → (reads new + gained (with_yes (done_of r)) ≡ reads old) × (holds new ≡ holds old)
 give_reads did old new (Ok e) lock same shows s some =
     let takes = give_takes did old new S e lock same shows s some in
-    let told : gained (told_by (done_of (Ok e))) ≡ 1 =
-    ap (λ (z : Entry). gained (told_by (done_of (Ok z)))) (gave_is did old new S e lock same shows s some) in
-    let one = takes.0 in (omega (arith, one, told), takes.1)
+    let returned : gained (with_yes (done_of (Ok e))) ≡ 1 =
+    ap (λ (z : Entry). gained (with_yes (done_of (Ok z)))) (gave_is did old new S e lock same shows s some) in
+    let one = takes.0 in (omega (arith, one, returned), takes.1)
 give_reads did old new (Err f) lock same shows s some =
     let own : (m : Mode) → holds_of new m ≡ holds_of old m = λ m.
     of_own old new m same ∙ ap (λ (l : List Entry). held (opening old.lock.header) l old.seat m) s.mine in
@@ -78,7 +77,7 @@ saw_there {T} {A} returns p load slot seen answer rests at sees is =
     let there = subst (λ (z : Option A). IfSome z (λ (a : A). Sees returns slot a)) is sees in
     (there.0, rests_as load (Full there.0) _ (sym there.1 ∙ at) rests, there.2)
 
--- a call of a reader adds the read holds that it tells of
+-- a call of a reader adds the read holds that it returns
 pub reading_gains : (did : Deed → Type 0) (w : WhenFull) (a : Reading) (old new : Shown) (r : Result Entry Fault) →
     is_lock old.lock.header.object ≡ true → IsSame old new → reading_of did a w old r new →
     GainsReads old (whether_of r) new

@@ -1,4 +1,4 @@
--- What the calls of a lock ask of its monitor, and what is told of it.
+-- What the calls of a lock ask of its monitor, and what they return.
 use Rattle.std.specs.Prelude.{◌≡◌, ℕ, Bool, true, false, Option, Some, None, Result, Ok, Err}
 use Rattle.history.specs.declared.entry.Entry.{Entry}
 use Rattle.history.specs.declared.entry.Mode.TheVariants.{X}
@@ -12,7 +12,7 @@ use Rattle.monitor.specs.declared.how.How.{How}
 use Rattle.monitor.specs.declared.machine.Request.TheVariants.{Acquire, AwaitOn}
 use Rattle.monitor.specs.declared.room.WhenFull.{WhenFull}
 use Rattle.monitor_fronts.specs.Holding.{gained}
-use Rattle.monitor_fronts.specs.Told.{done_of, whether_of}
+use Rattle.monitor_fronts.specs.Returned.{done_of, whether_of}
 use Rattle.permit.specs.Deed.{Deed}
 use Rattle.guarded.specs.declared.asking.Asked.{Asked}
 use Rattle.guarded.specs.declared.asking.Asked.TheVariants as asked
@@ -52,20 +52,15 @@ gained_by (asked.Acquire how) reply = gained (whether_of reply)
 gained_by (asked.Try) reply = gained (whether_of reply)
 gained_by (asked.Await condition how) reply = 0
 
--- the call had a reply, and this is what is told of it
-abbrev pub Tells : WhenFull → Call → Shown → Shown → Result Bool Fault → Type 0
-Tells w call old new told =
-    (reply : Result Entry Fault) × call w old reply new × (told ≡ whether_of reply)
+-- the call had a reply, and this is what is returned for it
+abbrev pub CallReturns : WhenFull → Call → Shown → Shown → Result Bool Fault → Type 0
+CallReturns w call old new returned =
+    (reply : Result Entry Fault) × call w old reply new × (returned ≡ whether_of reply)
 
--- the same of a call that is told of without a yes or no
-abbrev pub TellsDone : WhenFull → Call → Shown → Shown → Result (Unit {0}) Fault → Type 0
-TellsDone w call old new done =
+-- the same of a call that returns no yes or no
+abbrev pub CallReturnsDone : WhenFull → Call → Shown → Shown → Result (Unit {0}) Fault → Type 0
+CallReturnsDone w call old new done =
     (reply : Result Entry Fault) × call w old reply new × (done ≡ done_of reply)
-
--- an answer without a yes or no as one with a yes
-abbrev pub with_yes : Result (Unit {0}) Fault → Result Bool Fault
-with_yes (Ok u) = Ok true
-with_yes (Err f) = Err f
 
 -- the step was recorded
 abbrev pub IsRecorded : (Deed → Type 0) → Shown → Step → Shown → Type 0
@@ -76,7 +71,7 @@ abbrev pub is_there : {T : Type 0} → Option T → Bool
 is_there None = false
 is_there (Some x) = true
 
--- what is told by an answer with the value, or without it
-abbrev pub told_of : {T : Type 0} → Result (Option T) Fault → Result Bool Fault
-told_of (Ok value) = Ok (is_there value)
-told_of (Err f) = Err f
+-- whether the value is there, of a call that returns it if it got it
+abbrev pub yes_if_some : {T : Type 0} → Result (Option T) Fault → Result Bool Fault
+yes_if_some (Ok value) = Ok (is_there value)
+yes_if_some (Err f) = Err f

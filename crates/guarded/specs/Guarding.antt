@@ -8,7 +8,7 @@ use Rattle.monitor.specs.declared.room.WhenFull.{WhenFull}
 use Rattle.monitor_fronts.specs.Holding.{holds}
 use Rattle.guarded.specs.declared.try_lock.TryLockFault.{TryLockFault}
 use Rattle.guarded.specs.declared.try_lock.TryLockFault.TheVariants.{Missed, Failed}
-use Rattle.guarded.specs.Asking.{Tells}
+use Rattle.guarded.specs.Asking.{CallReturns}
 use Rattle.guarded.specs.Full.{Call}
 use Rattle.guarded.specs.declared.slot.Slot.{Slot}
 use Rattle.guarded.specs.Stowed.{IsFull, MutexView}
@@ -26,28 +26,23 @@ pub record Locked {T : Type 0} (w : WhenFull) (call : Call) (old : Shown) (value
   pub same : IsSame old new
   pub begins : Before old.seen new.seen
   pub shows : IsSound new
-  pub tells : Tells w call old new (Ok true)
+  pub replied : CallReturns w call old new (Ok true)
   pub once : holds new ≡ 1
   pub there : IsFull value
 
--- a call that didn't get it, and what is told of it
-pub record NotLocked (w : WhenFull) (call : Call) (old : Shown) (told : Result Bool Fault) (new : Shown) :
+-- a call that didn't get it, and what is returned
+pub record NotLocked (w : WhenFull) (call : Call) (old : Shown) (returned : Result Bool Fault) (new : Shown) :
     Type 0 where
   pub same : IsSame old new
   pub begins : Before old.seen new.seen
   pub shows : IsSound new
-  pub tells : Tells w call old new told
+  pub replied : CallReturns w call old new returned
   pub free : holds new ≡ 0
 
-abbrev pub told_try : TryLockFault → Result Bool Fault
-told_try Missed = Ok false
-told_try (Failed f) = Err f
+abbrev pub missed_as_no : TryLockFault → Result Bool Fault
+missed_as_no Missed = Ok false
+missed_as_no (Failed f) = Err f
 
--- what a call tells that has no lock
-abbrev pub told_by : {A : Type 0} → Result A Fault → Result Bool Fault
-told_by (Ok guard) = Ok true
-told_by (Err f) = Err f
-
-abbrev pub told_if : {A : Type 0} → Result A TryLockFault → Result Bool Fault
-told_if (Ok guard) = Ok true
-told_if (Err f) = told_try f
+abbrev pub yes_unless_missed : {A : Type 0} → Result A TryLockFault → Result Bool Fault
+yes_unless_missed (Ok guard) = Ok true
+yes_unless_missed (Err f) = missed_as_no f

@@ -14,7 +14,7 @@ use Rattle.monitor.specs.declared.room.WhenFull.{WhenFull}
 use Rattle.permit.specs.Deed.{Deed}
 use Rattle.guarded.specs.declared.asking.PoolCall.{PoolCall}
 use Rattle.guarded.specs.declared.asking.PoolCall.TheVariants as asks
-use Rattle.guarded.specs.Asking.{Tells}
+use Rattle.guarded.specs.Asking.{CallReturns}
 use Rattle.guarded.specs.Full.{Call}
 
 -- the calls of the monitor
@@ -48,9 +48,9 @@ abbrev pub is_done : Result Bool Fault → Bool
 is_done (Ok b) = b
 is_done (Err f) = false
 
--- how many items the caller has after a call, by what is told of it
+-- how many items the caller has after a call, by what it returned
 abbrev pub has_after : PoolCall → Result Bool Fault → ℕ
-has_after asked told = if is_done told then asked_by asked else brought_by asked
+has_after asked returned = if is_done returned then asked_by asked else brought_by asked
 
 -- the free permits that the pass's own entries leave after a call
 abbrev pub free_if : Bool → PoolCall → ℤ → ℤ
@@ -60,7 +60,7 @@ free_if true (asks.Release n) f = f +ℤ pos n
 free_if false asked f = f
 
 abbrev pub free_after_call : PoolCall → Result Bool Fault → ℤ → ℤ
-free_after_call asked told f = free_if (is_done told) asked f
+free_after_call asked returned f = free_if (is_done returned) asked f
 
 -- an acquire without time and a release have no answer 'no'
 abbrev pub MayMiss : PoolCall → Type 0
@@ -72,13 +72,13 @@ abbrev pub Answers : PoolCall → Result Bool Fault → Type 0
 Answers asked (Ok false) = MayMiss asked
 Answers asked _ = Unit {0}
 
--- what is told of a release
-abbrev pub told_release : {A : Type 0} → Result (Unit {0}) (A × Fault) → Result Bool Fault
-told_release (Ok u) = Ok true
-told_release (Err e) = Err e.1
+-- what a release returned, without the items that it gives back
+abbrev pub without_items : {A : Type 0} → Result (Unit {0}) (A × Fault) → Result Bool Fault
+without_items (Ok u) = Ok true
+without_items (Err e) = Err e.1
 
 -- a release of one item: the pool's answer, or memory for its node was refused, and nothing was done
 abbrev pub IsReleased :
     {A : Type 0} → WhenFull → Call → Shown → Shown → Result (Unit {0}) (A × Fault) → Type 0
 IsReleased w call old new result =
-    Tells w call old new (told_release result) ⊎ ((told_release result ≡ Err OutOfMemory) × (new ≡ old))
+    CallReturns w call old new (without_items result) ⊎ ((without_items result ≡ Err OutOfMemory) × (new ≡ old))

@@ -13,7 +13,7 @@ use Rattle.monitor.specs.Stepping.{IsEntered}
 use Rattle.monitor.specs.declared.how.How.{How}
 use Rattle.monitor.specs.declared.machine.Request.TheVariants.{Acquire}
 use Rattle.monitor_fronts.specs.Holding.{gained, holds}
-use Rattle.monitor_fronts.specs.Told.{done_of}
+use Rattle.monitor_fronts.specs.Returned.{done_of}
 use Rattle.permit.specs.Deed.{Deed}
 use Rattle.guarded.specs.declared.asking.Reading.{Reading}
 use Rattle.guarded.specs.declared.asking.Reading.TheVariants as asks
@@ -37,14 +37,14 @@ abbrev pub reading_of : (Deed → Type 0) → Reading → Call
 reading_of did (asks.Acquire how) = reads_by did how
 reading_of did (asks.Try) = tries_read did
 
--- a read hold was given back, or the step was refused, and this is what is told of it
+-- a read hold was given back, or the step was refused, and this is what is returned for it
 abbrev pub GivesRead : (Deed → Type 0) → Shown → Result (Unit {0}) Fault → Shown → Type 0
-GivesRead did old told new =
-    (reply : Result Entry Fault) × IsEntered did old (Give S 1) reply new × (told ≡ done_of reply)
+GivesRead did old returned new =
+    (reply : Result Entry Fault) × IsEntered did old (Give S 1) reply new × (returned ≡ done_of reply)
 
 -- the pass has so many read holds more, and its write holds are as they were
-pub record GainsReads (old : Shown) (told : Result Bool Fault) (new : Shown) : Type 0 where
-  pub reads : reads new ≡ reads old + gained told
+pub record GainsReads (old : Shown) (returned : Result Bool Fault) (new : Shown) : Type 0 where
+  pub reads : reads new ≡ reads old + gained returned
   pub writes : holds new ≡ holds old
 
 -- an answer was given at the value that lay under the lock then, which nobody wrote to

@@ -3,9 +3,9 @@ ghost use Rattle.std.specs.Prelude.{◌≡◌, ◌<◌, ◌≤◌, ◌^◌, ◌�
 ghost use Rattle.monitor.specs.Shown.{IsSound};
 ghost use Rattle.monitor.specs.Stepping.{IsSame};
 ghost use Rattle.monitor.specs.declared.how.How.TheVariants.{Interruptible, Plain, Timed};
-ghost use Rattle.guarded.specs.Asking.{Tells, told_of};
-ghost use Rattle.guarded.specs.Guarding.{told_by};
-ghost use Rattle.guarded.specs.Pooling.{IsReleased, fetches, gives_back, told_release, tries_fetch};
+ghost use Rattle.guarded.specs.Asking.{CallReturns, yes_if_some};
+ghost use Rattle.monitor_fronts.specs.Holding.{with_yes};
+ghost use Rattle.guarded.specs.Pooling.{IsReleased, fetches, gives_back, without_items, tries_fetch};
 ghost use Rattle.word_lock.specs.Point.{Before};
 
 use crate::asking::PoolCall;
@@ -39,8 +39,8 @@ impl<T: Drop> Pool<T> {
         ensures begins { Before pass.old.seen pass.new.seen }
         ensures shows { IsSound pass.new }
         ensures items { IfOk result (λ items. length items ≡ n) }
-        ensures told { Tells self.now.when_full (fetches (P.did parking.now) n Interruptible)
-            pass.old pass.new (told_by result) }
+        ensures returned { CallReturns self.now.when_full (fetches (P.did parking.now) n Interruptible)
+            pass.old pass.new (with_yes result) }
     {
         self.fetch(rt, parking, pass, n, How::Interruptible)
     }
@@ -60,8 +60,8 @@ impl<T: Drop> Pool<T> {
         ensures begins { Before pass.old.seen pass.new.seen }
         ensures shows { IsSound pass.new }
         ensures items { IfOk result (λ items. length items ≡ n) }
-        ensures told { Tells self.now.when_full (fetches (P.did parking.now) n Plain) pass.old pass.new
-            (told_by result) }
+        ensures returned { CallReturns self.now.when_full (fetches (P.did parking.now) n Plain) pass.old pass.new
+            (with_yes result) }
     {
         self.fetch(rt, parking, pass, n, How::Plain)
     }
@@ -81,8 +81,8 @@ impl<T: Drop> Pool<T> {
         ensures begins { Before pass.old.seen pass.new.seen }
         ensures shows { IsSound pass.new }
         ensures items { IfOk result (λ got. IfSome got (λ items. length items ≡ n)) }
-        ensures told { Tells self.now.when_full (tries_fetch (P.did parking.now) n) pass.old pass.new
-            (told_of result) }
+        ensures returned { CallReturns self.now.when_full (tries_fetch (P.did parking.now) n) pass.old pass.new
+            (yes_if_some result) }
     {
         self.take(rt, parking, pass, PoolCall::Try(n))
     }
@@ -104,8 +104,8 @@ impl<T: Drop> Pool<T> {
         ensures begins { Before pass.old.seen pass.new.seen }
         ensures shows { IsSound pass.new }
         ensures items { IfOk result (λ got. IfSome got (λ items. length items ≡ n)) }
-        ensures told { Tells self.now.when_full (fetches (P.did parking.now) n (Timed ms)) pass.old pass.new
-            (told_of result) }
+        ensures returned { CallReturns self.now.when_full (fetches (P.did parking.now) n (Timed ms)) pass.old pass.new
+            (yes_if_some result) }
     {
         self.take(rt, parking, pass, PoolCall::Acquire(n, How::Timed(ms)))
     }
@@ -127,8 +127,8 @@ impl<T: Drop> Pool<T> {
         ensures begins { Before pass.old.seen pass.new.seen }
         ensures shows { IsSound pass.new }
         ensures back { IfErr result (λ e. e.0 ≡ items) }
-        ensures told { Tells self.now.when_full (gives_back (P.did parking.now) (length items))
-            pass.old pass.new (told_release result) }
+        ensures returned { CallReturns self.now.when_full (gives_back (P.did parking.now) (length items))
+            pass.old pass.new (without_items result) }
     {
         let n = items.len() as u32;
         let mut shelf = Shelf { items };
@@ -161,8 +161,8 @@ impl<T: Drop> Pool<T> {
         ensures same { IsSame pass.old pass.new }
         ensures begins { Before pass.old.seen pass.new.seen }
         ensures shows { IsSound pass.new }
-        ensures told { Tells self.now.when_full (fetches (P.did parking.now) 1 Interruptible)
-            pass.old pass.new (told_by result) }
+        ensures returned { CallReturns self.now.when_full (fetches (P.did parking.now) 1 Interruptible)
+            pass.old pass.new (with_yes result) }
     {
         match self.acquire(rt, parking, pass, 1) {
             Ok(items) => Ok(only(items)),
@@ -182,8 +182,8 @@ impl<T: Drop> Pool<T> {
         ensures same { IsSame pass.old pass.new }
         ensures begins { Before pass.old.seen pass.new.seen }
         ensures shows { IsSound pass.new }
-        ensures told { Tells self.now.when_full (tries_fetch (P.did parking.now) 1) pass.old pass.new
-            (told_of result) }
+        ensures returned { CallReturns self.now.when_full (tries_fetch (P.did parking.now) 1) pass.old pass.new
+            (yes_if_some result) }
     {
         match self.try_acquire(rt, parking, pass, 1) {
             Ok(Some(items)) => Ok(Some(only(items))),
@@ -205,8 +205,8 @@ impl<T: Drop> Pool<T> {
         ensures same { IsSame pass.old pass.new }
         ensures begins { Before pass.old.seen pass.new.seen }
         ensures shows { IsSound pass.new }
-        ensures told { Tells self.now.when_full (fetches (P.did parking.now) 1 (Timed ms)) pass.old pass.new
-            (told_of result) }
+        ensures returned { CallReturns self.now.when_full (fetches (P.did parking.now) 1 (Timed ms)) pass.old pass.new
+            (yes_if_some result) }
     {
         match self.try_acquire_for(rt, parking, pass, 1, ms) {
             Ok(Some(items)) => Ok(Some(only(items))),
@@ -230,7 +230,7 @@ impl<T: Drop> Pool<T> {
         ensures begins { Before pass.old.seen pass.new.seen }
         ensures shows { IsSound pass.new }
         ensures back { IfErr result (λ e. e.0 ≡ item) }
-        ensures told { IsReleased self.now.when_full (gives_back (P.did parking.now) 1) pass.old
+        ensures returned { IsReleased self.now.when_full (gives_back (P.did parking.now) 1) pass.old
             pass.new result }
     {
         pass.is_true();
@@ -255,8 +255,8 @@ impl<T: Drop> Pool<T> {
         ensures begins { Before pass.old.seen pass.new.seen }
         ensures shows { IsSound pass.new }
         ensures back { IfErr result (λ e. items ≡ e.0 ∷ []) }
-        ensures told { Tells self.now.when_full (gives_back (P.did parking.now) 1) pass.old pass.new
-            (told_release result) }
+        ensures returned { CallReturns self.now.when_full (gives_back (P.did parking.now) 1) pass.old pass.new
+            (without_items result) }
     {
         match self.release(rt, parking, pass, items) {
             Ok(()) => Ok(()),

@@ -1,5 +1,5 @@
 //! The owner's side of a lock that guards a value.
-ghost use Rattle.std.specs.Prelude.{◌≡◌, ◌+◌, ◌<◌, ℕ, true, false};
+ghost use Rattle.std.specs.Prelude.{◌≡◌, ◌+◌, ◌<◌, true, false};
 ghost use Rattle.std.specs.Borrow.{sem};
 ghost use Rattle.history.specs.declared.entry.Mode.TheVariants.{X};
 ghost use Rattle.history.specs.declared.step.Step.TheVariants.{Give};
@@ -7,7 +7,7 @@ ghost use Rattle.monitor.specs.Shown.{IsSound};
 ghost use Rattle.monitor.specs.Stepping.{IsSame};
 ghost use Rattle.monitor.specs.declared.how.How.TheVariants.{Plain, Interruptible, Timed};
 ghost use Rattle.monitor_fronts.specs.Holding.{gained, holds};
-ghost use Rattle.guarded.specs.Asking.{IsRecorded, Tells, TellsDone, acquires, awaits, signals};
+ghost use Rattle.guarded.specs.Asking.{IsRecorded, CallReturns, CallReturnsDone, acquires, awaits, signals};
 ghost use Rattle.guarded.specs.Guarding.{Guards};
 ghost use Rattle.guarded.specs.Stowed.{IsFull};
 ghost use Rattle.guarded.specs.declared.slot.Slot.TheVariants.{Full};
@@ -72,7 +72,7 @@ impl<'a, T: Drop, P: Parking, R: Wait + Clock, H: Hooks + Drop> Guard<'a, T, P, 
         ensures same { IsSame self.old.pass.now self.new.pass.now }
         ensures guards { Guards self.new.lock.now (P.seats self.new.parking.now) self.new.pass.now self.new.slot }
         ensures keeps { holds self.new.pass.now ≡ holds self.old.pass.now }
-        ensures awaited { Tells self.old.lock.now.when_full
+        ensures awaited { CallReturns self.old.lock.now.when_full
             (awaits (P.did self.old.parking.now) condition Interruptible)
             self.old.pass.now self.new.pass.now result }
     {
@@ -95,7 +95,7 @@ impl<'a, T: Drop, P: Parking, R: Wait + Clock, H: Hooks + Drop> Guard<'a, T, P, 
         ensures same { IsSame self.old.pass.now self.new.pass.now }
         ensures guards { Guards self.new.lock.now (P.seats self.new.parking.now) self.new.pass.now self.new.slot }
         ensures keeps { holds self.new.pass.now ≡ holds self.old.pass.now }
-        ensures awaited { Tells self.old.lock.now.when_full
+        ensures awaited { CallReturns self.old.lock.now.when_full
             (awaits (P.did self.old.parking.now) condition (Timed ms))
             self.old.pass.now self.new.pass.now result }
     {
@@ -118,7 +118,7 @@ impl<'a, T: Drop, P: Parking, R: Wait + Clock, H: Hooks + Drop> Guard<'a, T, P, 
         ensures same { IsSame self.old.pass.now self.new.pass.now }
         ensures guards { Guards self.new.lock.now (P.seats self.new.parking.now) self.new.pass.now self.new.slot }
         ensures keeps { holds self.new.pass.now ≡ holds self.old.pass.now }
-        ensures awaited { Tells self.old.lock.now.when_full
+        ensures awaited { CallReturns self.old.lock.now.when_full
             (awaits (P.did self.old.parking.now) condition Plain)
             self.old.pass.now self.new.pass.now result }
     {
@@ -141,7 +141,7 @@ impl<'a, T: Drop, P: Parking, R: Wait + Clock, H: Hooks + Drop> Guard<'a, T, P, 
         ensures same { IsSame self.old.pass.now self.new.pass.now }
         ensures guards { Guards self.new.lock.now (P.seats self.new.parking.now) self.new.pass.now self.new.slot }
         ensures keeps { holds self.new.pass.now ≡ holds self.old.pass.now }
-        ensures signalled { TellsDone self.old.lock.now.when_full
+        ensures signalled { CallReturnsDone self.old.lock.now.when_full
             (signals (P.did self.old.parking.now) false condition)
             self.old.pass.now self.new.pass.now result }
         ensures value { self.new.slot ≡ self.old.slot }
@@ -161,7 +161,7 @@ impl<'a, T: Drop, P: Parking, R: Wait + Clock, H: Hooks + Drop> Guard<'a, T, P, 
         ensures same { IsSame self.old.pass.now self.new.pass.now }
         ensures guards { Guards self.new.lock.now (P.seats self.new.parking.now) self.new.pass.now self.new.slot }
         ensures keeps { holds self.new.pass.now ≡ holds self.old.pass.now }
-        ensures signalled { TellsDone self.old.lock.now.when_full
+        ensures signalled { CallReturnsDone self.old.lock.now.when_full
             (signals (P.did self.old.parking.now) true condition)
             self.old.pass.now self.new.pass.now result }
         ensures value { self.new.slot ≡ self.old.slot }
@@ -178,7 +178,7 @@ impl<'a, T: Drop, P: Parking, R: Wait + Clock, H: Hooks + Drop> Guard<'a, T, P, 
         ensures same { IsSame self.old.pass.now self.new.pass.now }
         ensures guards { Guards self.new.lock.now (P.seats self.new.parking.now) self.new.pass.now self.new.slot }
         ensures gains { holds self.new.pass.now ≡ holds self.old.pass.now + gained result }
-        ensures acquired { Tells self.old.lock.now.when_full
+        ensures acquired { CallReturns self.old.lock.now.when_full
             (acquires (P.did self.old.parking.now) Plain)
             self.old.pass.now self.new.pass.now result }
     {

@@ -3,9 +3,9 @@ ghost use Rattle.std.specs.Prelude.{◌≡◌, ◌≤◌, IfOk};
 ghost use Rattle.std.specs.Borrow.{sem, RestsIfErr};
 ghost use Rattle.monitor.specs.contracts.pass.Pass.{the_row};
 ghost use Rattle.monitor.specs.declared.how.How.TheVariants.{Plain, Interruptible, Timed};
-ghost use Rattle.monitor_fronts.specs.Holding.{holds};
+ghost use Rattle.monitor_fronts.specs.Holding.{holds, with_yes};
 ghost use Rattle.guarded.specs.Asking.{acquires, tries};
-ghost use Rattle.guarded.specs.Guarding.{Guards, Locked, NotLocked, told_by, told_if};
+ghost use Rattle.guarded.specs.Guarding.{Guards, Locked, NotLocked, yes_unless_missed};
 
 use crate::asking::Asked;
 use crate::guard::Guard;
@@ -37,7 +37,7 @@ impl<T: Drop, H: Hooks + Drop> Mutex<T, H> {
         requires free { holds pass.old ≡ 0 }
         ensures* not_locked { sem 𝓛 (RestsIfErr the_row pass.entry (λ guard. guard.pass.ghost_name) result
             (λ last. NotLocked lock.now.when_full (acquires (P.did parking.now) Plain)
-            pass.old (told_by result) last)) }
+            pass.old (with_yes result) last)) }
         ensures same_reference { IfOk result (λ guard. guard.pass.ghost_name ≡ pass.entry.ghost_name) }
         ensures guards { IfOk result (λ guard.
             Guards guard.lock.now (P.seats guard.parking.now) guard.pass.now guard.slot) }
@@ -68,7 +68,7 @@ impl<T: Drop, H: Hooks + Drop> Mutex<T, H> {
         requires free { holds pass.old ≡ 0 }
         ensures* not_locked { sem 𝓛 (RestsIfErr the_row pass.entry (λ guard. guard.pass.ghost_name) result
             (λ last. NotLocked lock.now.when_full (acquires (P.did parking.now) Interruptible)
-            pass.old (told_by result) last)) }
+            pass.old (with_yes result) last)) }
         ensures same_reference { IfOk result (λ guard. guard.pass.ghost_name ≡ pass.entry.ghost_name) }
         ensures guards { IfOk result (λ guard.
             Guards guard.lock.now (P.seats guard.parking.now) guard.pass.now guard.slot) }
@@ -99,7 +99,7 @@ impl<T: Drop, H: Hooks + Drop> Mutex<T, H> {
         requires free { holds pass.old ≡ 0 }
         ensures* not_locked { sem 𝓛 (RestsIfErr the_row pass.entry (λ guard. guard.pass.ghost_name) result
             (λ last. NotLocked lock.now.when_full (tries (P.did parking.now))
-            pass.old (told_if result) last)) }
+            pass.old (yes_unless_missed result) last)) }
         ensures same_reference { IfOk result (λ guard. guard.pass.ghost_name ≡ pass.entry.ghost_name) }
         ensures guards { IfOk result (λ guard.
             Guards guard.lock.now (P.seats guard.parking.now) guard.pass.now guard.slot) }
@@ -131,7 +131,7 @@ impl<T: Drop, H: Hooks + Drop> Mutex<T, H> {
         requires free { holds pass.old ≡ 0 }
         ensures* not_locked { sem 𝓛 (RestsIfErr the_row pass.entry (λ guard. guard.pass.ghost_name) result
             (λ last. NotLocked lock.now.when_full (acquires (P.did parking.now) (Timed ms))
-            pass.old (told_if result) last)) }
+            pass.old (yes_unless_missed result) last)) }
         ensures same_reference { IfOk result (λ guard. guard.pass.ghost_name ≡ pass.entry.ghost_name) }
         ensures guards { IfOk result (λ guard.
             Guards guard.lock.now (P.seats guard.parking.now) guard.pass.now guard.slot) }

@@ -18,8 +18,8 @@ ghost use Rattle.monitor.specs.Lawful.{IsLawful, blank};
 ghost use Rattle.monitor.specs.Shown.{IsSound, opening_passes};
 ghost use Rattle.monitor.specs.Stepping.{IsSame};
 ghost use Rattle.monitor_fronts.specs.Holding.{gained, holds};
-ghost use Rattle.guarded.specs.Asking.{IsRecorded, IsTake, Tells, acquires, awaits, call_of, gained_by};
-ghost use Rattle.guarded.specs.Guarding.{Guards, Locked, NotLocked, told_try};
+ghost use Rattle.guarded.specs.Asking.{IsRecorded, IsTake, CallReturns, acquires, awaits, call_of, gained_by};
+ghost use Rattle.guarded.specs.Guarding.{Guards, Locked, NotLocked, missed_as_no};
 ghost use Rattle.guarded.specs.Stowed.{Carries, Rests, slot_of};
 ghost use Rattle.word_lock.specs.Point.{Before};
 
@@ -195,7 +195,7 @@ impl<T: Drop, H: Hooks + Drop> Mutex<T, H> {
         ensures locked { IfOk result (λ slot.
             Locked self.now.when_full (call_of (P.did parking.now) asked) pass.old slot pass.new) }
         ensures not_locked { IfErr result (λ fault.
-            NotLocked self.now.when_full (call_of (P.did parking.now) asked) pass.old (told_try fault) pass.new) }
+            NotLocked self.now.when_full (call_of (P.did parking.now) asked) pass.old (missed_as_no fault) pass.new) }
     {
         let mut slot = Slot::Empty;
         let reply = self.call(rt, parking, pass, &mut slot, asked);
@@ -290,7 +290,7 @@ impl<T: Drop, H: Hooks + Drop> Mutex<T, H> {
         requires guards { Guards self.now (P.seats parking.now) pass.old slot.old }
         ensures same { IsSame pass.old pass.new }
         ensures guards { Guards self.now (P.seats parking.now) pass.new slot.new }
-        ensures awaited { Tells self.now.when_full (awaits (P.did parking.now) condition how) pass.old pass.new result }
+        ensures awaited { CallReturns self.now.when_full (awaits (P.did parking.now) condition how) pass.old pass.new result }
         ensures keeps { holds pass.new ≡ holds pass.old }
     {
         whether(self.call(rt, parking, pass, slot, Asked::Await(condition, how)))
@@ -307,7 +307,7 @@ impl<T: Drop, H: Hooks + Drop> Mutex<T, H> {
         requires guards { Guards self.now (P.seats parking.now) pass.old slot.old }
         ensures same { IsSame pass.old pass.new }
         ensures guards { Guards self.now (P.seats parking.now) pass.new slot.new }
-        ensures acquired { Tells self.now.when_full (acquires (P.did parking.now) Plain) pass.old pass.new result }
+        ensures acquired { CallReturns self.now.when_full (acquires (P.did parking.now) Plain) pass.old pass.new result }
         ensures gains { holds pass.new ≡ holds pass.old + gained result }
     {
         whether(self.call(rt, parking, pass, slot, Asked::Acquire(How::Plain)))

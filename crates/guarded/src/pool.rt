@@ -15,9 +15,9 @@ ghost use Rattle.monitor.specs.declared.closing.CloseFault.TheVariants.{MissingP
 ghost use Rattle.monitor.specs.Lawful.{IsLawful, blank};
 ghost use Rattle.monitor.specs.Shown.{IsSound, opening_passes};
 ghost use Rattle.monitor.specs.Stepping.{IsSame};
-ghost use Rattle.monitor_fronts.specs.Told.{whether_of};
-ghost use Rattle.guarded.specs.Asking.{Tells, told_of};
-ghost use Rattle.guarded.specs.Guarding.{told_by};
+ghost use Rattle.monitor_fronts.specs.Returned.{whether_of};
+ghost use Rattle.guarded.specs.Asking.{CallReturns, yes_if_some};
+ghost use Rattle.monitor_fronts.specs.Holding.{with_yes};
 ghost use Rattle.guarded.specs.Pooling.{Answers, asked_by, brought_by, fetches, has_after};
 ghost use Rattle.guarded.specs.Pooling.{is_done, pool_call};
 ghost use Rattle.guarded.specs.Shelved.{Lies};
@@ -223,9 +223,9 @@ impl<T: Drop> Pool<T> {
         ensures begins { Before pass.old.seen pass.new.seen }
         ensures shows { IsSound pass.new }
         ensures items { IfOk result (λ got. IfSome got (λ items. length items ≡ asked_by asked)) }
-        ensures told { Tells self.now.when_full (pool_call (P.did parking.now) asked) pass.old pass.new
-            (told_of result) }
-        ensures answers { Answers asked (told_of result) }
+        ensures returned { CallReturns self.now.when_full (pool_call (P.did parking.now) asked) pass.old pass.new
+            (yes_if_some result) }
+        ensures answers { Answers asked (yes_if_some result) }
     {
         let mut shelf = Shelf {
             items: LinkedList::new(self.alloc),
@@ -263,8 +263,8 @@ impl<T: Drop> Pool<T> {
         ensures begins { Before pass.old.seen pass.new.seen }
         ensures shows { IsSound pass.new }
         ensures items { IfOk result (λ items. length items ≡ n) }
-        ensures told { Tells self.now.when_full (fetches (P.did parking.now) n how) pass.old pass.new
-            (told_by result) }
+        ensures returned { CallReturns self.now.when_full (fetches (P.did parking.now) n how) pass.old pass.new
+            (with_yes result) }
     {
         match self.take(rt, parking, pass, PoolCall::Acquire(n, how)) {
             Ok(Some(items)) => Ok(items),

@@ -6,10 +6,10 @@ ghost use Rattle.monitor.specs.declared.how.How.TheVariants.{Plain};
 ghost use Rattle.monitor.specs.Observing.{IsLook};
 ghost use Rattle.monitor.specs.Shown.{IsSound};
 ghost use Rattle.monitor.specs.Stepping.{IsSame};
-ghost use Rattle.monitor_fronts.specs.Holding.{gained, holds};
-ghost use Rattle.monitor_fronts.specs.Told.{whether_of};
-ghost use Rattle.guarded.specs.Asking.{Tells};
-ghost use Rattle.guarded.specs.Guarding.{Guards, told_by, told_if};
+ghost use Rattle.monitor_fronts.specs.Holding.{gained, holds, with_yes};
+ghost use Rattle.monitor_fronts.specs.Returned.{whether_of};
+ghost use Rattle.guarded.specs.Asking.{CallReturns};
+ghost use Rattle.guarded.specs.Guarding.{Guards, yes_unless_missed};
 ghost use Rattle.guarded.specs.Reading.{GainsReads, GivesRead, Saw, Sees, reading_of, reads, reads_by};
 ghost use Rattle.guarded.specs.Stowed.{Carries};
 ghost use Rattle.guarded.specs.declared.slot.Slot.TheVariants.{Empty};
@@ -78,9 +78,9 @@ impl<T: Drop, H: Hooks + Drop> Mutex<T, H> {
         ensures same { IsSame pass.old pass.new }
         ensures begins { Before pass.old.seen pass.new.seen }
         ensures shows { IsSound pass.new }
-        ensures tells { Tells self.now.when_full (reading_of (P.did parking.now) asked) pass.old pass.new
-            (told_if result) }
-        ensures gains { GainsReads pass.old (told_if result) pass.new }
+        ensures returned { CallReturns self.now.when_full (reading_of (P.did parking.now) asked) pass.old pass.new
+            (yes_unless_missed result) }
+        ensures gains { GainsReads pass.old (yes_unless_missed result) pass.new }
     {
         let mut slot = Slot::Empty;
         let reply = self.start_reading(rt, parking, pass, &mut slot, asked);
@@ -106,9 +106,9 @@ impl<T: Drop, H: Hooks + Drop> Mutex<T, H> {
         ensures same { IsSame pass.old pass.new }
         ensures begins { Before pass.old.seen pass.new.seen }
         ensures shows { IsSound pass.new }
-        ensures tells { Tells self.now.when_full (reads_by (P.did parking.now) how) pass.old pass.new
-            (told_by result) }
-        ensures gains { GainsReads pass.old (told_by result) pass.new }
+        ensures returned { CallReturns self.now.when_full (reads_by (P.did parking.now) how) pass.old pass.new
+            (with_yes result) }
+        ensures gains { GainsReads pass.old (with_yes result) pass.new }
     {
         match self.try_read_by(rt, parking, pass, Reading::Acquire(how)) {
             Ok(()) => Ok(()),
@@ -128,7 +128,7 @@ impl<T: Drop, H: Hooks + Drop> Mutex<T, H> {
         requires guards { Guards self.now (P.seats parking.now) pass.old slot.old }
         ensures same { IsSame pass.old pass.new }
         ensures guards { Guards self.now (P.seats parking.now) pass.new slot.new }
-        ensures tells { Tells self.now.when_full (reads_by (P.did parking.now) Plain) pass.old pass.new result }
+        ensures returned { CallReturns self.now.when_full (reads_by (P.did parking.now) Plain) pass.old pass.new result }
         ensures gains { GainsReads pass.old result pass.new }
     {
         whether(self.start_reading(rt, parking, pass, slot, Reading::Acquire(How::Plain)))
@@ -149,7 +149,7 @@ impl<T: Drop, H: Hooks + Drop> Mutex<T, H> {
         ensures same { IsSame pass.old pass.new }
         ensures shows { IsSound pass.new }
         ensures given { GivesRead (P.did parking.now) pass.old result pass.new }
-        ensures loses { reads pass.new + gained (told_by result) ≡ reads pass.old }
+        ensures loses { reads pass.new + gained (with_yes result) ≡ reads pass.old }
         ensures keeps { holds pass.new ≡ holds pass.old }
         ensures carries { Carries (holds pass.new) slot.new }
     {

@@ -20,9 +20,9 @@ ghost use Rattle.monitor.specs.Lawful.{IsLawful, blank};
 ghost use Rattle.monitor.specs.Observing.{IsLook};
 ghost use Rattle.monitor.specs.Shown.{IsSound, opening_passes};
 ghost use Rattle.monitor.specs.Stepping.{IsSame};
-ghost use Rattle.monitor_fronts.specs.Holding.{gained, holds};
-ghost use Rattle.guarded.specs.Asking.{IsRecorded, Tells, acquires, tries};
-ghost use Rattle.guarded.specs.Guarding.{Guards, Locked, NotLocked, told_by, told_if};
+ghost use Rattle.monitor_fronts.specs.Holding.{gained, holds, with_yes};
+ghost use Rattle.guarded.specs.Asking.{IsRecorded, CallReturns, acquires, tries};
+ghost use Rattle.guarded.specs.Guarding.{Guards, Locked, NotLocked, yes_unless_missed};
 ghost use Rattle.guarded.specs.Reading.{GainsReads, GivesRead, Saw, reads, reads_by, tries_read};
 ghost use Rattle.guarded.specs.Stowed.{Rests, slot_of};
 ghost use Rattle.word_lock.specs.Point.{Before};
@@ -170,7 +170,7 @@ impl<T: Drop> RwMutex<T> {
         requires free { holds pass.old ≡ 0 }
         ensures* not_locked { sem 𝓛 (RestsIfErr the_row pass.entry (λ guard. guard.pass.ghost_name) result
             (λ last. NotLocked lock.now.when_full (acquires (P.did parking.now) Plain)
-            pass.old (told_by result) last)) }
+            pass.old (with_yes result) last)) }
         ensures same_reference { IfOk result (λ guard. guard.pass.ghost_name ≡ pass.entry.ghost_name) }
         ensures guards { IfOk result (λ guard.
             Guards guard.lock.now (P.seats guard.parking.now) guard.pass.now guard.slot) }
@@ -194,7 +194,7 @@ impl<T: Drop> RwMutex<T> {
         requires free { holds pass.old ≡ 0 }
         ensures* not_locked { sem 𝓛 (RestsIfErr the_row pass.entry (λ guard. guard.pass.ghost_name) result
             (λ last. NotLocked lock.now.when_full (acquires (P.did parking.now) Interruptible)
-            pass.old (told_by result) last)) }
+            pass.old (with_yes result) last)) }
         ensures same_reference { IfOk result (λ guard. guard.pass.ghost_name ≡ pass.entry.ghost_name) }
         ensures guards { IfOk result (λ guard.
             Guards guard.lock.now (P.seats guard.parking.now) guard.pass.now guard.slot) }
@@ -218,7 +218,7 @@ impl<T: Drop> RwMutex<T> {
         requires free { holds pass.old ≡ 0 }
         ensures* not_locked { sem 𝓛 (RestsIfErr the_row pass.entry (λ guard. guard.pass.ghost_name) result
             (λ last. NotLocked lock.now.when_full (tries (P.did parking.now))
-            pass.old (told_if result) last)) }
+            pass.old (yes_unless_missed result) last)) }
         ensures same_reference { IfOk result (λ guard. guard.pass.ghost_name ≡ pass.entry.ghost_name) }
         ensures guards { IfOk result (λ guard.
             Guards guard.lock.now (P.seats guard.parking.now) guard.pass.now guard.slot) }
@@ -243,7 +243,7 @@ impl<T: Drop> RwMutex<T> {
         requires free { holds pass.old ≡ 0 }
         ensures* not_locked { sem 𝓛 (RestsIfErr the_row pass.entry (λ guard. guard.pass.ghost_name) result
             (λ last. NotLocked lock.now.when_full (acquires (P.did parking.now) (Timed ms))
-            pass.old (told_if result) last)) }
+            pass.old (yes_unless_missed result) last)) }
         ensures same_reference { IfOk result (λ guard. guard.pass.ghost_name ≡ pass.entry.ghost_name) }
         ensures guards { IfOk result (λ guard.
             Guards guard.lock.now (P.seats guard.parking.now) guard.pass.now guard.slot) }
@@ -273,9 +273,9 @@ impl<T: Drop> RwMutex<T> {
         ensures same { IsSame pass.old pass.new }
         ensures begins { Before pass.old.seen pass.new.seen }
         ensures shows { IsSound pass.new }
-        ensures tells { Tells self.now.when_full (reads_by (P.did parking.now) Plain) pass.old pass.new
-            (told_by result) }
-        ensures gains { GainsReads pass.old (told_by result) pass.new }
+        ensures returned { CallReturns self.now.when_full (reads_by (P.did parking.now) Plain) pass.old pass.new
+            (with_yes result) }
+        ensures gains { GainsReads pass.old (with_yes result) pass.new }
     {
         self.mutex.read_by(rt, parking, pass, How::Plain)
     }
@@ -294,9 +294,9 @@ impl<T: Drop> RwMutex<T> {
         ensures same { IsSame pass.old pass.new }
         ensures begins { Before pass.old.seen pass.new.seen }
         ensures shows { IsSound pass.new }
-        ensures tells { Tells self.now.when_full (reads_by (P.did parking.now) Interruptible) pass.old pass.new
-            (told_by result) }
-        ensures gains { GainsReads pass.old (told_by result) pass.new }
+        ensures returned { CallReturns self.now.when_full (reads_by (P.did parking.now) Interruptible) pass.old pass.new
+            (with_yes result) }
+        ensures gains { GainsReads pass.old (with_yes result) pass.new }
     {
         self.mutex.read_by(rt, parking, pass, How::Interruptible)
     }
@@ -316,9 +316,9 @@ impl<T: Drop> RwMutex<T> {
         ensures same { IsSame pass.old pass.new }
         ensures begins { Before pass.old.seen pass.new.seen }
         ensures shows { IsSound pass.new }
-        ensures tells { Tells self.now.when_full (tries_read (P.did parking.now)) pass.old pass.new
-            (told_if result) }
-        ensures gains { GainsReads pass.old (told_if result) pass.new }
+        ensures returned { CallReturns self.now.when_full (tries_read (P.did parking.now)) pass.old pass.new
+            (yes_unless_missed result) }
+        ensures gains { GainsReads pass.old (yes_unless_missed result) pass.new }
     {
         self.mutex.try_read_by(rt, parking, pass, Reading::Try)
     }
@@ -339,9 +339,9 @@ impl<T: Drop> RwMutex<T> {
         ensures same { IsSame pass.old pass.new }
         ensures begins { Before pass.old.seen pass.new.seen }
         ensures shows { IsSound pass.new }
-        ensures tells { Tells self.now.when_full (reads_by (P.did parking.now) (Timed ms)) pass.old pass.new
-            (told_if result) }
-        ensures gains { GainsReads pass.old (told_if result) pass.new }
+        ensures returned { CallReturns self.now.when_full (reads_by (P.did parking.now) (Timed ms)) pass.old pass.new
+            (yes_unless_missed result) }
+        ensures gains { GainsReads pass.old (yes_unless_missed result) pass.new }
     {
         self.mutex
             .try_read_by(rt, parking, pass, Reading::Acquire(How::Timed(ms)))
@@ -380,7 +380,7 @@ impl<T: Drop> RwMutex<T> {
         ensures same { IsSame pass.old pass.new }
         ensures shows { IsSound pass.new }
         ensures given { GivesRead (P.did parking.now) pass.old result pass.new }
-        ensures loses { reads pass.new + gained (told_by result) ≡ reads pass.old }
+        ensures loses { reads pass.new + gained (with_yes result) ≡ reads pass.old }
         ensures keeps { holds pass.new ≡ holds pass.old }
     {
         let mut slot = Slot::Empty;
@@ -397,7 +397,7 @@ impl<T: Drop, P: Parking, R: Wait + Clock> Guard<'_, T, P, R, RwHooks> {
         ensures same_reference { self.new.pass.ghost_name ≡ self.old.pass.ghost_name }
         ensures same { IsSame self.old.pass.now self.new.pass.now }
         ensures guards { Guards self.new.lock.now (P.seats self.new.parking.now) self.new.pass.now self.new.slot }
-        ensures tells { Tells self.old.lock.now.when_full
+        ensures returned { CallReturns self.old.lock.now.when_full
             (reads_by (P.did self.old.parking.now) Plain)
             self.old.pass.now self.new.pass.now result }
         ensures gains { GainsReads self.old.pass.now result self.new.pass.now }

@@ -1,5 +1,7 @@
 -- The words of a caller's contracts, and all that the contracts of this crate's types speak of.
 pub mod Calling
+pub use Rattle.counting.specs.Semaphore
+pub use Rattle.deciding.specs.Balance
 pub use Rattle.frame.specs.Core
 pub use Rattle.guarded.specs.Asking
 pub use Rattle.guarded.specs.Full
@@ -12,17 +14,26 @@ pub use Rattle.history.specs.Counts
 pub use Rattle.history.specs.Entries
 pub use Rattle.history.specs.Header
 pub use Rattle.history.specs.Legal
+pub use Rattle.history.specs.Line
+pub use Rattle.history.specs.Marks
+pub use Rattle.history.specs.Naming
 pub use Rattle.history.specs.Object
+pub use Rattle.history.specs.Phase
+pub use Rattle.history.specs.Sleepers
 pub use Rattle.monitor.specs.Acquire
 pub use Rattle.monitor.specs.AwaitOn
 pub use Rattle.monitor.specs.Closing
 pub use Rattle.monitor.specs.Lawful
+pub use Rattle.monitor.specs.Load
 pub use Rattle.monitor.specs.Observing
 pub use Rattle.monitor.specs.Room
+pub use Rattle.monitor.specs.Settled
 pub use Rattle.monitor.specs.Shown
 pub use Rattle.monitor.specs.Stepping
 pub use Rattle.monitor_fronts.specs.FrontCalls
 pub use Rattle.monitor_fronts.specs.Holding
-pub use Rattle.monitor_fronts.specs.Told
+pub use Rattle.monitor_fronts.specs.Returned
 pub use Rattle.permit.specs.Deed
 pub use Rattle.word_lock.specs.Point
+pub use Rattle.word_lock.specs.Ticket
+pub use Rattle.word_lock.specs.Woken

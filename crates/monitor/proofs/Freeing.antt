@@ -32,14 +32,13 @@ use Rattle.history.proofs.Answering.{entry_seat}
 use Rattle.history.proofs.Entering.{KnownBy, admitted, known}
 use Rattle.history.proofs.GoodBases.{good_waits}
 use Rattle.history.proofs.OneWait.{waits_from}
-use Rattle.frame.specs.Core.{CoreView, IsAnswered, counts_of}
+use Rattle.frame.specs.Core.{CoreView, IsAnswered, counts_of, made_by}
 use Rattle.frame.specs.Effects.{IsAllowed}
 use Rattle.frame.specs.Hooks.{drain_answer_of}
 use Rattle.frame.proofs.Counting.{allowed}
 use Rattle.word_lock.specs.Ticket.{LockId, Ticket, first_entries}
 use Rattle.monitor.specs.Lawful.{IsLawfulCore, beside_of, point_of, start_at}
 use Rattle.monitor.specs.Load.{Brings, IsFreeAfter, Moves, given_by}
-use Rattle.monitor.specs.Stepping.{made_by}
 use Rattle.monitor.proofs.Acquiring.{idle_made}
 use Rattle.monitor.proofs.InLine.{records}
 use Rattle.monitor.proofs.Sections.{Left, Section, answered_shown, left, mine_grown, sectioned}

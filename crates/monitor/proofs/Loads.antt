@@ -32,13 +32,12 @@ use Rattle.history.proofs.Folding.{fold_alike}
 use Rattle.history.proofs.GoodFolds.{owned_behind}
 use Rattle.history.proofs.OpeningBase.{based_opening}
 use Rattle.history.proofs.SleepLemmas.{held_other}
-use Rattle.frame.specs.Core.{CoreView, IsAnswered, IsTrimmed, counts_of, start_of}
+use Rattle.frame.specs.Core.{CoreView, IsAnswered, IsTrimmed, counts_of, start_of, made_by}
 use Rattle.frame.specs.Hooks.{AreAlike}
 use Rattle.word_lock.specs.Point.{header_of, Agrees}
 use Rattle.monitor.specs.Lawful.{IsLawfulCore, IsLawful, beside_of, point_of, start_at}
 use Rattle.monitor.specs.Load.{IsFree, IsOneOwner, IsTurn, holds_at, holds_by, holds_of, is_signal, opened_counts}
 use Rattle.monitor.specs.Shown.{Shown, IsSound}
-use Rattle.monitor.specs.Stepping.{made_by}
 use Rattle.monitor.proofs.Acquiring.{idle_made}
 use Rattle.monitor.proofs.Freeing.{turn_frees}
 use Rattle.monitor.proofs.InLine.{records}

@@ -13,7 +13,7 @@ use Rattle.history.specs.Counts.{free}
 use Rattle.history.specs.Entries.{ended_calls}
 use Rattle.history.specs.Start.{opening}
 use Rattle.history.proofs.Folding.{fold_alike}
-use Rattle.frame.specs.Core.{CoreView, IsAnswered, IsTold, IsTrimFull, IsTrimmed, counts_of}
+use Rattle.frame.specs.Core.{CoreView, IsAnswered, IsTold, IsTrimFull, IsTrimmed, counts_of, made_by}
 use Rattle.word_lock.specs.Point.{Agrees, Before, Follows, added}
 use Rattle.word_lock.specs.Rule.{AllAgree}
 use Rattle.word_lock.specs.Ticket.{LockId, Ticket, first_entries, first_seat, after_lock, after_unlock}
@@ -25,7 +25,7 @@ use Rattle.monitor.specs.Room.{IsFold, IsStepIn, IsTooMany, at_point, fold_of}
 use Rattle.monitor.specs.inner.CoreSteps.{IsCoreFold, IsCoreStep, IsCoreStepIn, is_full}
 use Rattle.monitor.specs.declared.room.WhenFull.TheVariants.{Trim}
 use Rattle.monitor.specs.Shown.{IsPass, IsSound, shown}
-use Rattle.monitor.specs.Stepping.{IsStep, made_by}
+use Rattle.monitor.specs.Stepping.{IsStep}
 use Rattle.monitor.proofs.Freeing.{both_free, moves_own, section_frees, stays}
 use Rattle.monitor.proofs.Loads.{counts_folded}
 use Rattle.monitor.proofs.Sections.{Left, Section, added_step, answered_shown, calls_more, follows_step, left, owed_shown, own_entries, passed, section_step, true_pass}

@@ -22,7 +22,7 @@ use Rattle.history.specs.declared.step.Step.{Step}
 use Rattle.history.proofs.Answering.{entry_seat}
 use lib.ListN.{get_elem?}
 use Rattle.history.specs.declared.header.Header.{Header}
-use Rattle.frame.specs.Core.{CoreView, start_of, IsAnswered, IsTold, MakesOwed}
+use Rattle.frame.specs.Core.{CoreView, start_of, IsAnswered, IsTold, MakesOwed, made_by}
 use Rattle.history.specs.declared.point.Point.{Point}
 use Rattle.word_lock.specs.declared.view.SeatLog.{SeatLog}
 use Rattle.word_lock.specs.Point.{header_of, Before, Follows, added, Agrees}
@@ -33,7 +33,7 @@ use Rattle.word_lock.proofs.Sections.{IsSection, section}
 use Rattle.word_lock.proofs.Tokens.{one_log}
 use Rattle.monitor.specs.Lawful.{point_of, start_at, view_of, beside_of, Beside, IsLawfulCore, IsLawful}
 use Rattle.monitor.specs.Shown.{Shown, shown, IsPass, IsSound}
-use Rattle.monitor.specs.Stepping.{made_by, now_of, IsStep, IsStepNow}
+use Rattle.monitor.specs.Stepping.{now_of, IsStep, IsStepNow}
 use Rattle.monitor.specs.declared.step.Now.{Now}
 
 -- an answer's history is what was, with the entry that it recorded, which is of the seat

@@ -102,7 +102,7 @@ waits_within l Interrupted = by l.interruptible
     by true = refl
     by false = refl
 
-step_waits : (stage : Stage) (l : Limits) (woke : Woke) → waits (step_at stage l woke) ≡ true
+pub step_waits : (stage : Stage) (l : Limits) (woke : Woke) → waits (step_at stage l woke) ≡ true
 step_waits Expires l woke = refl
 step_waits Parks l woke = waits_within l woke
 step_waits Looks l woke = refl

@@ -1,11 +1,11 @@
 -- What a step of a pass leaves.
-use Rattle.std.specs.Prelude.{◌≡◌, ℕ, List, [], ◌∷◌, ◌++◌, Option, Some, None, Result, Ok, Err, IsOk}
+use Rattle.std.specs.Prelude.{◌≡◌, ℕ, ◌++◌, Option, Some, None, Result, Ok, Err, IsOk}
 use Rattle.history.specs.declared.entry.Entry.{Entry}
 use Rattle.history.specs.declared.fault.Fault.{Fault}
 use Rattle.history.specs.declared.step.Answer.{Answer}
 use Rattle.history.specs.declared.step.Answer.TheVariants.{Recorded, Sleep}
 use Rattle.history.specs.declared.step.Step.{Step}
-use Rattle.frame.specs.Core.{IsAnswered, IsTold, IsTrimmed, MakesOwed}
+use Rattle.frame.specs.Core.{IsAnswered, IsTold, IsTrimmed, MakesOwed, made_by}
 use Rattle.history.specs.declared.point.Point.{Point}
 use Rattle.permit.specs.Deed.{Deed, unparked}
 use Rattle.word_lock.specs.Point.{Before, Agrees}
@@ -13,12 +13,6 @@ use Rattle.monitor.specs.Lawful.{view_of, Beside, IsLawful}
 use Rattle.monitor.specs.Shown.{Shown}
 use Rattle.monitor.specs.declared.step.Now.{Now}
 use Rattle.monitor.specs.declared.step.Now.TheVariants.{Done, Busy}
-
--- the entry that an answer recorded
-abbrev pub made_by : Result Answer Fault → List Entry
-made_by (Ok (Recorded e named)) = e ∷ []
-made_by (Ok Sleep) = []
-made_by (Err fault) = []
 
 -- the pass is of the same monitor and seat
 pub record IsSame (old new : Shown) : Type 0 where

@@ -59,7 +59,6 @@ mod calls;
 mod closing;
 mod how;
 mod interrupts;
-mod kept;
 mod load;
 mod machine;
 mod monitor;
@@ -69,6 +68,7 @@ mod quiet;
 mod room;
 mod step;
 mod trimming;
+mod under_lock;
 mod waiting;
 
 pub use closing::{CloseFault, Closed};

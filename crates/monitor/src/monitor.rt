@@ -8,9 +8,9 @@ ghost use Rattle.frame.specs.Core.{header_of};
 ghost use Rattle.monitor.specs.Load.{opened_counts};
 ghost use Rattle.monitor.specs.Shown.{opening_passes};
 
-use crate::kept::Kept;
 use crate::load::{Empty, Load};
 use crate::pass::Pass;
+use crate::under_lock::UnderLock;
 use frame::hooks::Hooks;
 use history::fault::Fault;
 use std::alloc::Global;
@@ -21,7 +21,7 @@ use word_lock::{Token, WordLock};
 /// the object's holds do.
 #[derive(Drop)]
 pub struct Monitor<H: Hooks + Drop, L: Load = Empty> {
-    pub(crate) lock: WordLock<Kept<H, L>>,
+    pub(crate) lock: WordLock<UnderLock<H, L>>,
     pub(crate) seats: u16,
 }
 
@@ -38,7 +38,7 @@ impl<H: Hooks + Drop, L: Load> Model for Monitor<H, L> {
 
 // A pass for each token of an opening, in order.
 fn give_passes<H: Hooks + Drop, L: Load>(
-    lock: &WordLock<Kept<H, L>>,
+    lock: &WordLock<UnderLock<H, L>>,
     tokens: Vec<Token>,
     passes: &mut Vec<Pass>,
     seats: u16,
@@ -107,7 +107,7 @@ impl<H: Hooks + Drop, L: Load> Monitor<H, L> {
         let Ok(mut passes) = Vec::with_capacity(alloc, seats as usize) else {
             return Err((load, Fault::OutOfMemory));
         };
-        let kept = Kept::open(alloc, hooks, load, seats, conditions, cap)?;
+        let kept = UnderLock::open(alloc, hooks, load, seats, conditions, cap)?;
         match WordLock::open(alloc, kept, seats) {
             Err((kept, fault)) => {
                 let (core, load) = kept.into_parts();

@@ -13,8 +13,6 @@ use Rattle.history.specs.declared.entry.Word.TheVariants as word
 use Rattle.history.specs.declared.fault.Fault.{Fault}
 use Rattle.history.specs.declared.fault.Fault.TheVariants as fault
 use Rattle.history.specs.declared.header.Header.{Header}
-use Rattle.history.specs.declared.header.Object.{Object}
-use Rattle.history.specs.declared.header.Object.TheVariants.{Lock, ReadWrite, Semaphore, Latch}
 use Rattle.history.specs.declared.step.Answer.TheVariants.{Recorded}
 use Rattle.history.specs.declared.step.Step.{Step}
 use Rattle.history.specs.declared.step.Step.TheVariants.{Await, Signal, SignalAll}
@@ -29,7 +27,7 @@ use Rattle.word_lock.specs.Ticket.{LockId}
 use Rattle.monitor.specs.AwaitOn.{IsAwait, IsAwaitRefused, LapsesAndReturns, ReturnsSignalled}
 use Rattle.history.specs.Counts.{Counts, counts, held, holds_after, owner}
 use Rattle.history.specs.Entry.{same_mode}
-use Rattle.history.specs.Object.{in_holds, is_lock}
+use Rattle.history.specs.Object.{is_lock}
 use Rattle.history.specs.Start.{opening}
 use Rattle.history.specs.Steps.{at_most_one, awaits, plain, signals}
 use Rattle.history.specs.Sleepers.{sleepers}
@@ -50,12 +48,6 @@ after m k i e had = cond ((e.seat == i) && same_mode e.mode m) (holds_after k.ob
 pub of_own : (old new : Shown) (m : Mode) → IsSame old new →
     holds_of new m ≡ held (opening old.lock.header) new.mine old.seat m
 of_own old new m same = λ d. held (opening (same.lock d).header) new.mine (same.seat d) m
-
-pub one_hold : (o : Object) (n : ℕ) → is_lock o ≡ true → in_holds o n ≡ 1
-one_hold (Lock p) n q = refl
-one_hold (ReadWrite p) n q = refl
-one_hold (Semaphore p c) n q = cc
-one_hold (Latch c) n q = cc
 
 same_either : (b : Bool) (n : ℕ) → cond b n n ≡ n
 same_either true n = refl

@@ -37,9 +37,10 @@ use Rattle.monitor.specs.declared.how.How.TheVariants.{Plain, Interruptible, Tim
 use Rattle.monitor.proofs.Acquiring.{idle_made}
 use Rattle.monitor.proofs.InLine.{records}
 use Rattle.monitor.proofs.Loads.{own_holds}
-use Rattle.monitor_fronts.specs.Told.{whether_by, whether_of}
+use Rattle.monitor_fronts.specs.Returned.{whether_by, whether_of}
 use Rattle.monitor_fronts.specs.Holding.{gained}
-use Rattle.monitor_fronts.proofs.Counting.{after, found_lock, of_own, one_hold, queued_adds_none}
+use Rattle.monitor_fronts.proofs.Counting.{after, found_lock, of_own, queued_adds_none}
+use Rattle.history.proofs.OneOwner.{lock_holds}
 
 -- the other mode
 abbrev pub other : Mode → Mode
@@ -88,7 +89,7 @@ adds_none : (had : ℕ) → had ≡ had + 0
 adds_none had = omega arith
 
 got : (k : Header) (had : ℕ) → is_lock k.object ≡ true → had + in_holds k.object 1 ≡ had + 1
-got k had lock = ap (λ (n : ℕ). had + n) (one_hold k.object 1 lock)
+got k had lock = ap (λ (n : ℕ). had + n) (lock_holds k.object 1 lock)
 
 as_plain : (i : ℕ) (w : Word) (m : Mode) (n : ℕ) (e : Entry) → e ≡ plain i w m n → e ≡ plain i e.word m n
 as_plain i w m n e q = q ∙ ap (λ (z : Word). plain i z m n) (sym (ap (λ (z : Entry). z.word) q))
@@ -228,7 +229,7 @@ give_takes did old new m e lock same shows s some =
     let k = old.lock.header in
     let is = gave_is did old new m e lock same shows s some in
     let entry = own_entry m k old.seat word.Gave 1 0 end.None in
-    let one = one_hold k.object 1 lock in
+    let one = lock_holds k.object 1 lock in
     let now : (o : Mode) → holds_of new o ≡ after o k old.seat (plain old.seat word.Gave m 1) (holds_of old o) = λ o.
     by_own old new o (e ∷ old.mine) same s.1.mine ∙ ap (λ (z : Entry). after o k old.seat z (holds_of old o)) is in
     let left : holds_of new m ≡ holds_of old m - in_holds k.object 1 = now m ∙ entry.own (holds_of old m) in

@@ -21,7 +21,7 @@ use Rattle.monitor.specs.declared.room.WhenFull.{WhenFull}
 use Rattle.monitor.specs.declared.room.WhenFull.TheVariants.{Refuse, Trim}
 use Rattle.monitor_fronts.specs.FrontCalls.{Acquires, Awaits, Steps}
 use Rattle.monitor_fronts.specs.Holding.{Gains, gained, holds, with_yes}
-use Rattle.monitor_fronts.specs.Told.{done_of, whether_of, without}
+use Rattle.monitor_fronts.specs.Returned.{done_of, whether_of, without}
 use Rattle.monitor_fronts.proofs.Counting.{await_holds, of_lock, signal_keeps}
 use Rattle.monitor_fronts.proofs.Exactly.{acquire_gains, try_gains, waits_to_the_end}
 

@@ -29,7 +29,7 @@ use Rattle.monitor.specs.Stepping.{IsEntered, IsSame}
 use Rattle.monitor.proofs.Loads.{own_holds}
 use Rattle.monitor.proofs.Opening.{header_shown}
 use Rattle.monitor_fronts.specs.Holding.{holds}
-use Rattle.monitor_fronts.specs.Told.{done_of}
+use Rattle.monitor_fronts.specs.Returned.{done_of}
 use Rattle.monitor_fronts.proofs.Exactly.{gave_is, gave_own, give_takes}
 
 -- an owner's give makes one entry

@@ -1,3 +1,3 @@
-pub mod Told
+pub mod Returned
 pub mod FrontCalls
 pub mod Holding

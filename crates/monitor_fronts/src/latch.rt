@@ -8,10 +8,10 @@ ghost use Rattle.monitor.specs.Stepping.{IsSame};
 ghost use Rattle.monitor.specs.declared.how.How.TheVariants.{Interruptible, Timed};
 ghost use Rattle.monitor.specs.declared.room.WhenFull.TheVariants.{Trim};
 ghost use Rattle.monitor_fronts.specs.FrontCalls.{Acquires, Steps};
-ghost use Rattle.monitor_fronts.specs.Told.{Tells, done_of, whether_of};
+ghost use Rattle.monitor_fronts.specs.Returned.{ReturnedAs, done_of, whether_of};
 ghost use Rattle.word_lock.specs.Point.{Before};
 
-use crate::told::{done, whether};
+use crate::returned::{done, whether};
 use counting::latch::LatchHooks;
 use history::entry::{Entry, Mode};
 use history::fault::Fault;
@@ -64,7 +64,7 @@ impl<'m> Latch<'m> {
         ensures same { IsSame pass.old pass.new }
         ensures begins { Before pass.old.seen pass.new.seen }
         ensures shows { IsSound pass.new }
-        ensures acquired { Tells done_of
+        ensures acquired { ReturnedAs done_of
             (Acquires self.now.when_full (P.did parking.now) S 1 Interruptible pass.old pass.new) result }
     {
         done(self.acquire_as(rt, parking, pass, How::Interruptible))
@@ -83,7 +83,7 @@ impl<'m> Latch<'m> {
         ensures same { IsSame pass.old pass.new }
         ensures begins { Before pass.old.seen pass.new.seen }
         ensures shows { IsSound pass.new }
-        ensures acquired { Tells whether_of
+        ensures acquired { ReturnedAs whether_of
             (Acquires self.now.when_full (P.did parking.now) S 1 (Timed ms) pass.old pass.new) result }
     {
         whether(self.acquire_as(rt, parking, pass, How::Timed(ms)))
@@ -101,7 +101,7 @@ impl<'m> Latch<'m> {
         ensures same { IsSame pass.old pass.new }
         ensures begins { Before pass.old.seen pass.new.seen }
         ensures shows { IsSound pass.new }
-        ensures entered { Tells done_of
+        ensures entered { ReturnedAs done_of
             (Steps self.now.when_full (P.did parking.now) (Give S 1) pass.old pass.new) result }
     {
         done(self.enter(rt, parking, pass, Step::Give(Mode::S, 1)))

@@ -22,13 +22,13 @@ mod latch;
 mod lock;
 mod openings;
 mod read_write_lock;
+mod returned;
 mod semaphore;
-mod told;
 
 pub use latch::Latch;
 pub use lock::ReentrantLock;
 pub use monitor::WhenFull;
 pub use openings::{open_latch, open_lock, open_read_write_lock, open_semaphore};
 pub use read_write_lock::ReadWriteLock;
+pub use returned::{done, whether};
 pub use semaphore::Semaphore;
-pub use told::{done, whether};

@@ -11,10 +11,10 @@ ghost use Rattle.monitor.specs.declared.how.How.TheVariants.{Plain, Interruptibl
 ghost use Rattle.monitor.specs.declared.room.WhenFull.TheVariants.{Trim};
 ghost use Rattle.monitor_fronts.specs.Holding.{Gains, holds, with_yes};
 ghost use Rattle.monitor_fronts.specs.FrontCalls.{Acquires, Awaits, Steps};
-ghost use Rattle.monitor_fronts.specs.Told.{Tells, done_of, whether_of};
+ghost use Rattle.monitor_fronts.specs.Returned.{ReturnedAs, done_of, whether_of};
 ghost use Rattle.word_lock.specs.Point.{Before};
 
-use crate::told::{done, whether};
+use crate::returned::{done, whether};
 use history::entry::{Entry, Mode};
 use history::fault::Fault;
 use history::step::Step;
@@ -68,7 +68,7 @@ impl<'m> ReentrantLock<'m> {
         ensures same { IsSame pass.old pass.new }
         ensures begins { Before pass.old.seen pass.new.seen }
         ensures shows { IsSound pass.new }
-        ensures acquired { Tells done_of
+        ensures acquired { ReturnedAs done_of
             (Acquires self.now.when_full (P.did parking.now) X 1 Plain pass.old pass.new) result }
         ensures gains { Gains pass.old (with_yes result) pass.new }
     {
@@ -87,7 +87,7 @@ impl<'m> ReentrantLock<'m> {
         ensures same { IsSame pass.old pass.new }
         ensures begins { Before pass.old.seen pass.new.seen }
         ensures shows { IsSound pass.new }
-        ensures acquired { Tells done_of
+        ensures acquired { ReturnedAs done_of
             (Acquires self.now.when_full (P.did parking.now) X 1 Interruptible pass.old pass.new) result }
         ensures gains { Gains pass.old (with_yes result) pass.new }
     {
@@ -107,7 +107,7 @@ impl<'m> ReentrantLock<'m> {
         ensures same { IsSame pass.old pass.new }
         ensures begins { Before pass.old.seen pass.new.seen }
         ensures shows { IsSound pass.new }
-        ensures entered { Tells whether_of
+        ensures entered { ReturnedAs whether_of
             (Steps self.now.when_full (P.did parking.now) (Try X 1) pass.old pass.new) result }
         ensures gains { Gains pass.old result pass.new }
     {
@@ -129,7 +129,7 @@ impl<'m> ReentrantLock<'m> {
         ensures same { IsSame pass.old pass.new }
         ensures begins { Before pass.old.seen pass.new.seen }
         ensures shows { IsSound pass.new }
-        ensures acquired { Tells whether_of
+        ensures acquired { ReturnedAs whether_of
             (Acquires self.now.when_full (P.did parking.now) X 1 (Timed ms) pass.old pass.new) result }
         ensures gains { Gains pass.old result pass.new }
     {
@@ -149,7 +149,7 @@ impl<'m> ReentrantLock<'m> {
         ensures same { IsSame pass.old pass.new }
         ensures begins { Before pass.old.seen pass.new.seen }
         ensures shows { IsSound pass.new }
-        ensures entered { Tells done_of
+        ensures entered { ReturnedAs done_of
             (λ reply. IsEntered (P.did parking.now) pass.old (Give X 1) reply pass.new) result }
         ensures owner { is_lock self.now.monitor.now.header.object ≡ true → 0 < holds pass.old → IsOk result }
         ensures loses { is_lock self.now.monitor.now.header.object ≡ true → 0 < holds pass.old
@@ -174,7 +174,7 @@ impl<'m> ReentrantLock<'m> {
         ensures same { IsSame pass.old pass.new }
         ensures begins { Before pass.old.seen pass.new.seen }
         ensures shows { IsSound pass.new }
-        ensures awaited { Tells done_of
+        ensures awaited { ReturnedAs done_of
             (Awaits self.now.when_full (P.did parking.now) condition Interruptible pass.old pass.new) result }
         ensures keeps { holds pass.new ≡ holds pass.old }
     {
@@ -194,7 +194,7 @@ impl<'m> ReentrantLock<'m> {
         ensures same { IsSame pass.old pass.new }
         ensures begins { Before pass.old.seen pass.new.seen }
         ensures shows { IsSound pass.new }
-        ensures awaited { Tells done_of
+        ensures awaited { ReturnedAs done_of
             (Awaits self.now.when_full (P.did parking.now) condition Plain pass.old pass.new) result }
         ensures keeps { holds pass.new ≡ holds pass.old }
     {
@@ -216,7 +216,7 @@ impl<'m> ReentrantLock<'m> {
         ensures same { IsSame pass.old pass.new }
         ensures begins { Before pass.old.seen pass.new.seen }
         ensures shows { IsSound pass.new }
-        ensures awaited { Tells whether_of
+        ensures awaited { ReturnedAs whether_of
             (Awaits self.now.when_full (P.did parking.now) condition (Timed ms) pass.old pass.new) result }
         ensures keeps { holds pass.new ≡ holds pass.old }
     {
@@ -236,7 +236,7 @@ impl<'m> ReentrantLock<'m> {
         ensures same { IsSame pass.old pass.new }
         ensures begins { Before pass.old.seen pass.new.seen }
         ensures shows { IsSound pass.new }
-        ensures entered { Tells done_of
+        ensures entered { ReturnedAs done_of
             (Steps self.now.when_full (P.did parking.now) (Signal condition) pass.old pass.new) result }
         ensures keeps { holds pass.new ≡ holds pass.old }
     {
@@ -256,7 +256,7 @@ impl<'m> ReentrantLock<'m> {
         ensures same { IsSame pass.old pass.new }
         ensures begins { Before pass.old.seen pass.new.seen }
         ensures shows { IsSound pass.new }
-        ensures entered { Tells done_of
+        ensures entered { ReturnedAs done_of
             (Steps self.now.when_full (P.did parking.now) (SignalAll condition) pass.old pass.new) result }
         ensures keeps { holds pass.new ≡ holds pass.old }
     {

@@ -10,10 +10,10 @@ ghost use Rattle.monitor.specs.declared.how.How.TheVariants.{Plain, Interruptibl
 ghost use Rattle.monitor.specs.declared.room.WhenFull.TheVariants.{Trim};
 ghost use Rattle.monitor_fronts.specs.FrontCalls.{Acquires, Awaits, Steps};
 ghost use Rattle.monitor_fronts.specs.Holding.{holds};
-ghost use Rattle.monitor_fronts.specs.Told.{Tells, done_of, whether_of};
+ghost use Rattle.monitor_fronts.specs.Returned.{ReturnedAs, done_of, whether_of};
 ghost use Rattle.word_lock.specs.Point.{Before};
 
-use crate::told::{done, whether};
+use crate::returned::{done, whether};
 use history::entry::{Entry, Mode};
 use history::fault::Fault;
 use history::step::Step;
@@ -67,7 +67,7 @@ impl<'m> ReadWriteLock<'m> {
         ensures same { IsSame pass.old pass.new }
         ensures begins { Before pass.old.seen pass.new.seen }
         ensures shows { IsSound pass.new }
-        ensures acquired { Tells done_of
+        ensures acquired { ReturnedAs done_of
             (Acquires self.now.when_full (P.did parking.now) X 1 Plain pass.old pass.new) result }
     {
         done(self.acquire_as(rt, parking, pass, Mode::X, How::Plain))
@@ -85,7 +85,7 @@ impl<'m> ReadWriteLock<'m> {
         ensures same { IsSame pass.old pass.new }
         ensures begins { Before pass.old.seen pass.new.seen }
         ensures shows { IsSound pass.new }
-        ensures acquired { Tells done_of
+        ensures acquired { ReturnedAs done_of
             (Acquires self.now.when_full (P.did parking.now) X 1 Interruptible pass.old pass.new) result }
     {
         done(self.acquire_as(rt, parking, pass, Mode::X, How::Interruptible))
@@ -104,7 +104,7 @@ impl<'m> ReadWriteLock<'m> {
         ensures same { IsSame pass.old pass.new }
         ensures begins { Before pass.old.seen pass.new.seen }
         ensures shows { IsSound pass.new }
-        ensures entered { Tells whether_of
+        ensures entered { ReturnedAs whether_of
             (Steps self.now.when_full (P.did parking.now) (Try X 1) pass.old pass.new) result }
     {
         whether(self.enter(rt, parking, pass, Step::Try(Mode::X, 1)))
@@ -125,7 +125,7 @@ impl<'m> ReadWriteLock<'m> {
         ensures same { IsSame pass.old pass.new }
         ensures begins { Before pass.old.seen pass.new.seen }
         ensures shows { IsSound pass.new }
-        ensures acquired { Tells whether_of
+        ensures acquired { ReturnedAs whether_of
             (Acquires self.now.when_full (P.did parking.now) X 1 (Timed ms) pass.old pass.new) result }
     {
         whether(self.acquire_as(rt, parking, pass, Mode::X, How::Timed(ms)))
@@ -144,7 +144,7 @@ impl<'m> ReadWriteLock<'m> {
         ensures same { IsSame pass.old pass.new }
         ensures begins { Before pass.old.seen pass.new.seen }
         ensures shows { IsSound pass.new }
-        ensures entered { Tells done_of
+        ensures entered { ReturnedAs done_of
             (λ reply. IsEntered (P.did parking.now) pass.old (Give X 1) reply pass.new) result }
         ensures owner { is_lock self.now.monitor.now.header.object ≡ true → 0 < holds pass.old → IsOk result }
     {
@@ -167,7 +167,7 @@ impl<'m> ReadWriteLock<'m> {
         ensures same { IsSame pass.old pass.new }
         ensures begins { Before pass.old.seen pass.new.seen }
         ensures shows { IsSound pass.new }
-        ensures awaited { Tells done_of
+        ensures awaited { ReturnedAs done_of
             (Awaits self.now.when_full (P.did parking.now) condition Interruptible pass.old pass.new) result }
     {
         done(self.wait_as(rt, parking, pass, condition, How::Interruptible))
@@ -186,7 +186,7 @@ impl<'m> ReadWriteLock<'m> {
         ensures same { IsSame pass.old pass.new }
         ensures begins { Before pass.old.seen pass.new.seen }
         ensures shows { IsSound pass.new }
-        ensures awaited { Tells done_of
+        ensures awaited { ReturnedAs done_of
             (Awaits self.now.when_full (P.did parking.now) condition Plain pass.old pass.new) result }
     {
         done(self.wait_as(rt, parking, pass, condition, How::Plain))
@@ -207,7 +207,7 @@ impl<'m> ReadWriteLock<'m> {
         ensures same { IsSame pass.old pass.new }
         ensures begins { Before pass.old.seen pass.new.seen }
         ensures shows { IsSound pass.new }
-        ensures awaited { Tells whether_of
+        ensures awaited { ReturnedAs whether_of
             (Awaits self.now.when_full (P.did parking.now) condition (Timed ms) pass.old pass.new) result }
     {
         whether(self.wait_as(rt, parking, pass, condition, How::Timed(ms)))
@@ -226,7 +226,7 @@ impl<'m> ReadWriteLock<'m> {
         ensures same { IsSame pass.old pass.new }
         ensures begins { Before pass.old.seen pass.new.seen }
         ensures shows { IsSound pass.new }
-        ensures entered { Tells done_of
+        ensures entered { ReturnedAs done_of
             (Steps self.now.when_full (P.did parking.now) (Signal condition) pass.old pass.new) result }
     {
         done(self.enter(rt, parking, pass, Step::Signal(condition)))
@@ -245,7 +245,7 @@ impl<'m> ReadWriteLock<'m> {
         ensures same { IsSame pass.old pass.new }
         ensures begins { Before pass.old.seen pass.new.seen }
         ensures shows { IsSound pass.new }
-        ensures entered { Tells done_of
+        ensures entered { ReturnedAs done_of
             (Steps self.now.when_full (P.did parking.now) (SignalAll condition) pass.old pass.new) result }
     {
         done(self.enter(rt, parking, pass, Step::SignalAll(condition)))
@@ -264,7 +264,7 @@ impl<'m> ReadWriteLock<'m> {
         ensures same { IsSame pass.old pass.new }
         ensures begins { Before pass.old.seen pass.new.seen }
         ensures shows { IsSound pass.new }
-        ensures acquired { Tells done_of
+        ensures acquired { ReturnedAs done_of
             (Acquires self.now.when_full (P.did parking.now) S 1 Plain pass.old pass.new) result }
     {
         done(self.acquire_as(rt, parking, pass, Mode::S, How::Plain))
@@ -282,7 +282,7 @@ impl<'m> ReadWriteLock<'m> {
         ensures same { IsSame pass.old pass.new }
         ensures begins { Before pass.old.seen pass.new.seen }
         ensures shows { IsSound pass.new }
-        ensures acquired { Tells done_of
+        ensures acquired { ReturnedAs done_of
             (Acquires self.now.when_full (P.did parking.now) S 1 Interruptible pass.old pass.new) result }
     {
         done(self.acquire_as(rt, parking, pass, Mode::S, How::Interruptible))
@@ -301,7 +301,7 @@ impl<'m> ReadWriteLock<'m> {
         ensures same { IsSame pass.old pass.new }
         ensures begins { Before pass.old.seen pass.new.seen }
         ensures shows { IsSound pass.new }
-        ensures entered { Tells whether_of
+        ensures entered { ReturnedAs whether_of
             (Steps self.now.when_full (P.did parking.now) (Try S 1) pass.old pass.new) result }
     {
         whether(self.enter(rt, parking, pass, Step::Try(Mode::S, 1)))
@@ -322,7 +322,7 @@ impl<'m> ReadWriteLock<'m> {
         ensures same { IsSame pass.old pass.new }
         ensures begins { Before pass.old.seen pass.new.seen }
         ensures shows { IsSound pass.new }
-        ensures acquired { Tells whether_of
+        ensures acquired { ReturnedAs whether_of
             (Acquires self.now.when_full (P.did parking.now) S 1 (Timed ms) pass.old pass.new) result }
     {
         whether(self.acquire_as(rt, parking, pass, Mode::S, How::Timed(ms)))
@@ -340,7 +340,7 @@ impl<'m> ReadWriteLock<'m> {
         ensures same { IsSame pass.old pass.new }
         ensures begins { Before pass.old.seen pass.new.seen }
         ensures shows { IsSound pass.new }
-        ensures entered { Tells done_of
+        ensures entered { ReturnedAs done_of
             (λ reply. IsEntered (P.did parking.now) pass.old (Give S 1) reply pass.new) result }
     {
         done(self.monitor.release(rt, parking, pass, Mode::S, 1))

@@ -8,10 +8,10 @@ ghost use Rattle.monitor.specs.Stepping.{IsSame};
 ghost use Rattle.monitor.specs.declared.how.How.TheVariants.{Plain, Interruptible, Timed};
 ghost use Rattle.monitor.specs.declared.room.WhenFull.TheVariants.{Trim};
 ghost use Rattle.monitor_fronts.specs.FrontCalls.{Acquires, Steps};
-ghost use Rattle.monitor_fronts.specs.Told.{Tells, done_of, number_of, whether_of};
+ghost use Rattle.monitor_fronts.specs.Returned.{ReturnedAs, done_of, number_of, whether_of};
 ghost use Rattle.word_lock.specs.Point.{Before};
 
-use crate::told::{done, number, whether};
+use crate::returned::{done, number, whether};
 use counting::semaphore::SemaphoreHooks;
 use history::entry::{Entry, Mode};
 use history::fault::Fault;
@@ -66,7 +66,7 @@ impl<'m> Semaphore<'m> {
         ensures same { IsSame pass.old pass.new }
         ensures begins { Before pass.old.seen pass.new.seen }
         ensures shows { IsSound pass.new }
-        ensures acquired { Tells done_of
+        ensures acquired { ReturnedAs done_of
             (Acquires self.now.when_full (P.did parking.now) S n Interruptible pass.old pass.new) result }
     {
         done(self.acquire_as(rt, parking, pass, n, How::Interruptible))
@@ -85,7 +85,7 @@ impl<'m> Semaphore<'m> {
         ensures same { IsSame pass.old pass.new }
         ensures begins { Before pass.old.seen pass.new.seen }
         ensures shows { IsSound pass.new }
-        ensures acquired { Tells done_of
+        ensures acquired { ReturnedAs done_of
             (Acquires self.now.when_full (P.did parking.now) S n Plain pass.old pass.new) result }
     {
         done(self.acquire_as(rt, parking, pass, n, How::Plain))
@@ -105,7 +105,7 @@ impl<'m> Semaphore<'m> {
         ensures same { IsSame pass.old pass.new }
         ensures begins { Before pass.old.seen pass.new.seen }
         ensures shows { IsSound pass.new }
-        ensures entered { Tells whether_of
+        ensures entered { ReturnedAs whether_of
             (Steps self.now.when_full (P.did parking.now) (Try S n) pass.old pass.new) result }
     {
         whether(self.enter(rt, parking, pass, Step::Try(Mode::S, n)))
@@ -126,7 +126,7 @@ impl<'m> Semaphore<'m> {
         ensures same { IsSame pass.old pass.new }
         ensures begins { Before pass.old.seen pass.new.seen }
         ensures shows { IsSound pass.new }
-        ensures acquired { Tells whether_of
+        ensures acquired { ReturnedAs whether_of
             (Acquires self.now.when_full (P.did parking.now) S n (Timed ms) pass.old pass.new) result }
     {
         whether(self.acquire_as(rt, parking, pass, n, How::Timed(ms)))
@@ -145,7 +145,7 @@ impl<'m> Semaphore<'m> {
         ensures same { IsSame pass.old pass.new }
         ensures begins { Before pass.old.seen pass.new.seen }
         ensures shows { IsSound pass.new }
-        ensures entered { Tells done_of
+        ensures entered { ReturnedAs done_of
             (Steps self.now.when_full (P.did parking.now) (Give S n) pass.old pass.new) result }
     {
         done(self.enter(rt, parking, pass, Step::Give(Mode::S, n)))
@@ -164,7 +164,7 @@ impl<'m> Semaphore<'m> {
         ensures same { IsSame pass.old pass.new }
         ensures begins { Before pass.old.seen pass.new.seen }
         ensures shows { IsSound pass.new }
-        ensures entered { Tells number_of
+        ensures entered { ReturnedAs number_of
             (Steps self.now.when_full (P.did parking.now) Drain pass.old pass.new) result }
     {
         number(self.enter(rt, parking, pass, Step::Drain))

@@ -12,7 +12,6 @@ use Rattle.monitor.specs.Closing.{IsBased, left_by, passes_of}
 use Rattle.monitor.specs.Lawful.{IsLawful, blank}
 use Rattle.monitor.specs.Shown.{Shown, opening_pass, opening_passes}
 use Rattle.script.specs.Script.{WorkerView}
-use Rattle.history.specs.declared.point.Point.{Point}
 use Rattle.word_lock.specs.Ticket.{LockId}
 use Rattle.workers.specs.declared.report.ObjectReport.{ObjectReport}
 use Rattle.workers.specs.declared.work.Worked.{Worked}
@@ -250,10 +249,6 @@ headers_more locks lock hs k h so_far at same =
     let here : get_or hs k h ≡ h = get_or_from_slice_get hs k h h at in
     map-append header_of locks (lock ∷ []) ∙ ap (λ z. z ++ lock.header ∷ []) so_far
     ∙ ap (λ (z : Header). take k hs ++ z ∷ []) (same ∙ sym here) ∙ sym (take_more hs k h below)
-
-pub passes_count : (lock : LockId) (p : Point) (seat n : ℕ) → length (opening_passes lock p seat n) ≡ n
-passes_count lock p seat zero = refl
-passes_count lock p seat (suc n) = ap suc (passes_count lock p (suc seat) n)
 
 -- one part more, that of the first object left
 pub parts_on : (all : List LockId) (cols : List (List Shown)) (left next : List LockId) (lock : LockId)

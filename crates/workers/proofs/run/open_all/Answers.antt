@@ -3,7 +3,8 @@ use Rattle.monitor.specs.Lawful.{blank}
 use Rattle.monitor.specs.Shown.{opening_passes}
 use Rattle.workers.specs.Reports.{header_of, headers_of, opening_rows}
 use Rattle.workers.specs.Rows.{dealt}
-use Rattle.workers.proofs.Columns.{headers_more, passes_count, rows_count, rows_more, rows_none}
+use Rattle.monitor.proofs.Opening.{opening_count}
+use Rattle.workers.proofs.Columns.{headers_more, rows_count, rows_more, rows_none}
 use Rattle.workers.proofs.run.open_all.Goals as goal
 
 pub loop-place-init : goal.loop-place-init
@@ -19,7 +20,7 @@ deal-requires c =
     let n = length c.args.script.now.workers in
     let object = c.in_ok-object.object in
     let dealt_out = ap length c.in_ok-object.ensures.passes
-    ∙ passes_count object (blank object.header) 0 c.header_at.result.seats in
+    ∙ opening_count object (blank object.header) 0 c.header_at.result.seats in
     let rows = ap length c.loop-place.invariant.1 ∙ rows_count c.loop-place.objects.items 0 n in
     let seats = c.header_at.ensures.seats in
     omega (arith, dealt_out, rows, seats)

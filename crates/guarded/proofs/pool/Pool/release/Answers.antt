@@ -9,8 +9,8 @@ put_away-requires g c =
     let is : c.whether.result ≡ Ok true = search rules in
     c.call-reply.ensures.has ∙ ap (has_after (asks.Release _)) (sym c.whether.ensures ∙ is)
 
-never : (n m : ℕ) (told : Result Bool Fault) → n ≡ m → told ≡ Ok false → Answers (asks.Release n) told → ⊥
-never n m told same is answers = subst (λ (z : Result Bool Fault). Answers (asks.Release n) z) is answers
+never : (n m : ℕ) (returned : Result Bool Fault) → n ≡ m → returned ≡ Ok false → Answers (asks.Release n) returned → ⊥
+never n m returned same is answers = subst (λ (z : Result Bool Fault). Answers (asks.Release n) z) is answers
 
 pub unreachable-requires : goal.unreachable-requires
 unreachable-requires g c =
@@ -22,8 +22,8 @@ returns-in-Err-clause-back g c =
     let missed = ap is_done (sym c.whether.ensures ∙ c.in-Err.is) in
     let same = c.call-reply.ensures.keeps missed in λ d. (same d).items
 
-pub returns-in-Ok-true-clause-told : goal.returns-in-Ok-true-clause-told
-returns-in-Ok-true-clause-told g c =
+pub returns-in-Ok-true-clause-returned : goal.returns-in-Ok-true-clause-returned
+returns-in-Ok-true-clause-returned g c =
     let is : c.whether.result ≡ Ok true = search rules in (
       c.call-reply.result,
       subst (λ (n : ℕ). gives_back (g.P.Parking.did c.args.parking.now) n c.args.self.now.when_full
@@ -31,8 +31,8 @@ returns-in-Ok-true-clause-told g c =
       sym is ∙ c.whether.ensures,
     )
 
-pub returns-in-Err-clause-told : goal.returns-in-Err-clause-told
-returns-in-Err-clause-told g c = (
+pub returns-in-Err-clause-returned : goal.returns-in-Err-clause-returned
+returns-in-Err-clause-returned g c = (
   c.call-reply.result,
   subst (λ (n : ℕ). gives_back (g.P.Parking.did c.args.parking.now) n c.args.self.now.when_full
       c.args.pass.now c.call-reply.result c.call-reply.new.pass) c.len-n.ensures.value c.call-reply.ensures.called,

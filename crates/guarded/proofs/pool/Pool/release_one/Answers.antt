@@ -6,12 +6,12 @@ use Rattle.guarded.proofs.pool.Pool.release_one.Goals as goal
 pub returns-in-Err-clause-begins : goal.returns-in-Err-clause-begins
 returns-in-Err-clause-begins g c = before_refl c.args.pass.now.seen
 
-pub returns-in-Err-clause-told : goal.returns-in-Err-clause-told
-returns-in-Err-clause-told g c = inr (refl, refl)
+pub returns-in-Err-clause-returned : goal.returns-in-Err-clause-returned
+returns-in-Err-clause-returned g c = inr (refl, refl)
 
 pub returns-in-Ok-clause-back : goal.returns-in-Ok-clause-back
 returns-in-Ok-clause-back g c =
     same_item c.in-Ok.items c.args.item c.release_only.result c.in-Ok.ensures.ok c.release_only.ensures.back
 
-pub returns-in-Ok-clause-told : goal.returns-in-Ok-clause-told
-returns-in-Ok-clause-told g c = inl c.release_only.ensures.told
+pub returns-in-Ok-clause-returned : goal.returns-in-Ok-clause-returned
+returns-in-Ok-clause-returned g c = inl c.release_only.ensures.returned

@@ -1,7 +1,7 @@
 use Rattle.std.proofs.Common.{subst}
 use Rattle.frame.specs.Core.{CoreView}
 use Rattle.monitor.specs.inner.CoreSteps.{IsCoreStepIn, Unmoved}
-use Rattle.monitor.proofs.kept.Kept.signal_in_room.Goals as goal
+use Rattle.monitor.proofs.under_lock.UnderLock.signal_in_room.Goals as goal
 
 pub returns-clause-stepped : goal.returns-clause-stepped
 returns-clause-stepped g c =

@@ -1,6 +1,6 @@
 //! What a front type returns for the entry that ended a call.
 ghost use Rattle.std.specs.Prelude.{◌≡◌};
-ghost use Rattle.monitor_fronts.specs.Told.{done_of, number_of, whether_of};
+ghost use Rattle.monitor_fronts.specs.Returned.{done_of, number_of, whether_of};
 
 use history::entry::{End, Entry, Word};
 use history::fault::Fault;

@@ -1,5 +1,5 @@
 use Rattle.monitor.proofs.Loads.{rests_trimmed}
-use Rattle.monitor.proofs.kept.trim_laden.Goals as goal
+use Rattle.monitor.proofs.under_lock.trim_laden.Goals as goal
 
 pub returns-clause-rests : goal.returns-clause-rests
 returns-clause-rests g c =

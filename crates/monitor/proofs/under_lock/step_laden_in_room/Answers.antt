@@ -7,8 +7,8 @@ use Rattle.monitor.specs.Load.{Moves}
 use Rattle.monitor.specs.inner.CoreSteps.{IsCoreStep}
 use Rattle.monitor.proofs.Freeing.{brings_still, moves_since}
 use Rattle.monitor.proofs.Rooms.{no_fold, no_room, not_full, refused_stays, trimmed_holds}
-use Rattle.monitor.proofs.kept.step_laden_in_room.Goals.{After-trim_laden}
-use Rattle.monitor.proofs.kept.step_laden_in_room.Goals as goal
+use Rattle.monitor.proofs.under_lock.step_laden_in_room.Goals.{After-trim_laden}
+use Rattle.monitor.proofs.under_lock.step_laden_in_room.Goals as goal
 
 pub returns-then-not-is_full-clause-stepped : goal.returns-then-not-is_full-clause-stepped
 returns-then-not-is_full-clause-stepped g c =

@@ -6,7 +6,7 @@ use Rattle.frame.specs.Core.{counts_of}
 use Rattle.monitor.specs.Lawful.{IsLawfulCore}
 use Rattle.monitor.specs.Load.{Brings, Moves, given_by, holds_in}
 use Rattle.monitor.proofs.Loads.{told_free, turn, turn_step}
-use Rattle.monitor.proofs.kept.step_laden.Goals as goal
+use Rattle.monitor.proofs.under_lock.step_laden.Goals as goal
 
 traded : (g : _) (c : goal.After-trade g) → g.L.Load.rests c.trade.new.self (counts_of c.step-answer.new.self)
     × g.L.Load.carries c.trade.new.there (holds_in c.step-answer.new.self c.args.seat)

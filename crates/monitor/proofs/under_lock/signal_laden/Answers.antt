@@ -1,7 +1,7 @@
 use Rattle.std.proofs.Common.{rules}
 use Rattle.monitor.specs.Lawful.{IsLawfulCore}
 use Rattle.monitor.proofs.Loads.{rests_signalled}
-use Rattle.monitor.proofs.kept.signal_laden.Goals as goal
+use Rattle.monitor.proofs.under_lock.signal_laden.Goals as goal
 
 pub returns-clause-rests : goal.returns-clause-rests
 returns-clause-rests g c =

@@ -3,8 +3,8 @@ use Rattle.history.specs.declared.fault.Fault.{Fault}
 use Rattle.history.specs.declared.fault.Fault.TheVariants.{HistoryFull}
 use Rattle.monitor.specs.inner.CoreSteps.{IsCoreStep, Unmoved}
 use Rattle.monitor.proofs.Rooms.{no_fold, no_room, not_full}
-use Rattle.monitor.proofs.kept.signal_laden_in_room.Goals.{After-trim_laden}
-use Rattle.monitor.proofs.kept.signal_laden_in_room.Goals as goal
+use Rattle.monitor.proofs.under_lock.signal_laden_in_room.Goals.{After-trim_laden}
+use Rattle.monitor.proofs.under_lock.signal_laden_in_room.Goals as goal
 
 pub returns-then-not-is_full-clause-stepped : goal.returns-then-not-is_full-clause-stepped
 returns-then-not-is_full-clause-stepped g c =

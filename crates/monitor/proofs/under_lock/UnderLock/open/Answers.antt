@@ -2,9 +2,9 @@ use Rattle.std.proofs.Common.{sym, subst}
 use Rattle.frame.specs.Core.{CoreView, counts_of}
 use Rattle.history.specs.declared.header.Header.{Header}
 use Rattle.monitor.specs.Load.{opened_counts}
-use Rattle.monitor.specs.declared.kept.Laden.{Laden}
+use Rattle.monitor.specs.declared.under_lock.Laden.{Laden}
 use Rattle.monitor.proofs.Loads.{rests_opened}
-use Rattle.monitor.proofs.kept.Kept.open.Goals as goal
+use Rattle.monitor.proofs.under_lock.UnderLock.open.Goals as goal
 
 pub returns-in-Ok-new-clause-rests : goal.returns-in-Ok-new-clause-rests
 returns-in-Ok-new-clause-rests g c =

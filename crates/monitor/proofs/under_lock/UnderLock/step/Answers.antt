@@ -1,6 +1,6 @@
 use Rattle.std.proofs.Common.{subst}
 use Rattle.frame.specs.Core.{CoreView, IsTold}
-use Rattle.monitor.proofs.kept.Kept.step.Goals as goal
+use Rattle.monitor.proofs.under_lock.UnderLock.step.Goals as goal
 
 pub returns-clause-told : goal.returns-clause-told
 returns-clause-told g c =

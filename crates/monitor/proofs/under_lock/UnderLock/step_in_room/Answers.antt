@@ -2,7 +2,7 @@ use Rattle.std.proofs.Common.{subst}
 use Rattle.frame.specs.Core.{CoreView, counts_of}
 use Rattle.monitor.specs.Load.{Moves}
 use Rattle.monitor.specs.inner.CoreSteps.{IsCoreStepIn}
-use Rattle.monitor.proofs.kept.Kept.step_in_room.Goals as goal
+use Rattle.monitor.proofs.under_lock.UnderLock.step_in_room.Goals as goal
 
 pub returns-clause-stepped : goal.returns-clause-stepped
 returns-clause-stepped g c =

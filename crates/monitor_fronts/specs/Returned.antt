@@ -40,5 +40,5 @@ number_of (Err f) = Err f
 number_of (Ok e) = number_by e.word e.n
 
 -- the monitor's call had a reply, and this is what is returned for it
-abbrev pub Tells : {A : Type 0} → (Result Entry Fault → A) → (Result Entry Fault → Type 0) → A → Type 0
-Tells told call r = (reply : Result Entry Fault) × call reply × (r ≡ told reply)
+abbrev pub ReturnedAs : {A : Type 0} → (Result Entry Fault → A) → (Result Entry Fault → Type 0) → A → Type 0
+ReturnedAs as_result call r = (reply : Result Entry Fault) × call reply × (r ≡ as_result reply)
