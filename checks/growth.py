@@ -3,8 +3,9 @@
 
 Each command gets a text of some size and one four times as long. It may take five times as long at most. It has the
 memory that docs/PERFORMANCE.md says of each entry and answer, and no more. Then the same calls are made in an object
-of 2 seats and in one of 256, in which the others are idle, wait in line or sleep: that may take half as long again at most.
-Times are those of the processor, the least of three runs. A case that takes too long is measured
+of 2 seats and in one of 256, in which the others are idle, wait in line or sleep: that may take half as long again at
+most. At last threads wait for a second by the clock, and may take a part of it at most, since a thread that waits
+sleeps. All other times are those of the processor, the least of three runs. A case that takes too long is measured
 twice more, since other work on the machine slows it. A run that takes longer than a minute fails. The last line is 'N
 passed, M failed'.
 """
@@ -16,6 +17,7 @@ import signal
 import subprocess
 import sys
 import tempfile
+import time
 from dataclasses import dataclass
 
 RUNS = 3
@@ -30,6 +32,8 @@ LISTED = 1.4  # answers, and entries that were folded, stand in lists, which hav
 ITSELF = 3 << 20  # bytes that the program takes with a short text
 STACKS = 16 << 20  # and with a thread
 START = 0.01  # seconds that a start may take, whatever it does
+NAP = 1000  # milliseconds for which threads wait
+AWAKE = 0.3  # seconds that they may take meanwhile
 
 
 @dataclass
@@ -70,6 +74,15 @@ def waits(count):
 def script(calls, count):
     objects = [["a", "lock fair seats 1 conditions 0 cap 4294967295"]]
     return json.dumps({"objects": objects, "threads": [{"repeat": count, "calls": calls}]}).encode()
+
+
+def napping():
+    """A script in which one thread waits on a condition of an object, while it holds another that a second thread asks
+    for."""
+    objects = [[name, LOCK.format(2)] for name in "ab"]
+    nap = ["a acquire x 1", "b acquire x 1", f"b await-timed 0 {NAP}", "b give x 1", "a give x 1"]
+    threads = [{"repeat": 1, "calls": calls} for calls in (nap, ["a acquire x 1", "a give x 1"])]
+    return json.dumps({"objects": objects, "threads": threads}).encode()
 
 
 def history(program, text):
@@ -158,6 +171,15 @@ def is_crowd_borne(program, words, text):
     return many <= CROWDED * few + START, f"{few:.3f} s with 2 seats, {many:.3f} s with 256"
 
 
+def sleeps(program):
+    """Whether threads wait as long as they are to, and take hardly any time of the processor, and the numbers."""
+    begun = time.monotonic()
+    seconds, waited = once(program, ["run"], napping(), resource.RLIM_INFINITY), time.monotonic() - begun
+    if seconds is None:
+        return False, "failed, or took more than a minute"
+    return seconds <= AWAKE and NAP / 1000 <= waited, f"{seconds:.3f} s of the processor in {waited:.3f} s for {NAP} ms"
+
+
 def tried(measure, *given):
     """What a measurement says, the first good one of some tries."""
     for _ in range(TRIES):
@@ -170,6 +192,7 @@ def tried(measure, *given):
 def main(program):
     results = [(case.name, *tried(grows, program, case)) for case in growing(program)]
     results += [(name, *tried(is_crowd_borne, program, words, text)) for name, words, text in crowded(program)]
+    results.append(("run, threads that wait", *tried(sleeps, program)))
     for name, is_good, numbers in results:
         print(f"{'good' if is_good else 'FAILED'}: {name}: {numbers}", flush=True)
     failed = sum(not is_good for _, is_good, _ in results)

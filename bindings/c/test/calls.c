@@ -7,6 +7,7 @@
 #include <signal.h>
 #include <stdatomic.h>
 #include <string.h>
+#include <time.h>
 
 static const char *folder;
 
@@ -200,6 +201,25 @@ static void read_write_conditions(void) {
     IS(ended(thread, &other), AQS_OK);
     keep_history(aqs_rwlock_object(lock), folder, "calls-rwlock-conditions");
     aqs_rwlock_close(lock);
+}
+
+/* The nanoseconds for which this thread had a processor. */
+static long nanoseconds_used(void) {
+    struct timespec used;
+    CHECK(clock_gettime(CLOCK_THREAD_CPUTIME_ID, &used) == 0);
+    return (long)used.tv_sec * 1000000000 + used.tv_nsec;
+}
+
+/* A thread that waits for 300 milliseconds sleeps for most of them. */
+static void waits_asleep(void) {
+    aqs_lock_t *lock;
+    IS(aqs_lock_open(&lock, NULL), AQS_OK);
+    IS(aqs_lock_lock(lock), AQS_OK);
+    long before = nanoseconds_used();
+    IS(aqs_lock_timedwait(lock, 0, 300), AQS_TIMED_OUT);
+    CHECK(nanoseconds_used() - before < 100 * 1000000);
+    IS(aqs_lock_unlock(lock), AQS_OK);
+    aqs_lock_close(lock);
 }
 
 static aqs_lock_t *of_handler;
@@ -470,6 +490,7 @@ int main(int count, char **words) {
     conditions();
     read_write_locks();
     read_write_conditions();
+    waits_asleep();
     calls_within_calls();
     hold_limits();
     semaphores();

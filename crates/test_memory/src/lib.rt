@@ -17,7 +17,7 @@ mod devices;
 #[cfg(test)]
 mod guards;
 #[cfg(test)]
-mod kept;
+mod memory_kept;
 #[cfg(test)]
 mod monitors;
 #[cfg(test)]

@@ -1,7 +1,6 @@
-//! Pseudo-random calls and steps, which are the same for the same seed.
+//! Pseudo-random steps, which are the same for the same seed.
 ghost use Rattle.std.specs.Prelude.{◌≡◌, ◌<◌};
 
-use crate::asks::Ask;
 use history::entry::Mode;
 use history::header::Object;
 use history::step::Step;
@@ -11,9 +10,6 @@ use std::thread;
 use std::time::{Clock, Duration};
 
 const SEED: u64 = 20_040_930;
-
-/// The most milliseconds that a call waits.
-const TIME: u32 = 2;
 
 /// Numbers that are the same for the same seat, or for the list of all seats.
 #[derive(Drop)]
@@ -48,16 +44,6 @@ impl Chance {
         (seat, step)
     }
 
-    /// Returns the next step of the list as a call, or the next call of a list.
-    pub fn listed(&mut self, is_step: bool) -> (u16, Ask) {
-        if is_step {
-            let (seat, step) = self.listed_step();
-            (seat, Ask::Step(step))
-        } else {
-            ((self.below(4) % 4) as u16, self.ask_lock())
-        }
-    }
-
     /// Returns a number below `end`.
     fn below(&mut self, end: u32) -> u32
         requires { 0 < end }
@@ -70,19 +56,6 @@ impl Chance {
     pub fn pause<R: Clock>(&mut self, rt: &R) {
         if self.below(8) == 0 {
             thread::sleep(rt, Duration::from_micros(20));
-        }
-    }
-
-    /// Returns a call of a lock that ends even if nobody else does anything.
-    fn ask_lock(&mut self) -> Ask {
-        match self.below(16) {
-            0..=3 => Ask::TryLockFor(TIME),
-            4..=5 => Ask::TryLock,
-            6..=10 => Ask::Unlock,
-            11..=12 => Ask::WaitFor(0, TIME),
-            13 => Ask::TryLockFor(0),
-            14 => Ask::Signal(0),
-            _ => Ask::SignalAll(0),
         }
     }
 

@@ -1,10 +1,10 @@
-//! Storms: thousands of steps or calls at one object. Each ends even if nobody else does anything. After a
+//! Storms: thousands of steps at one object by many threads. Each ends even if nobody else does anything. After a
 //! storm nobody waits or holds, the history is legal, and each of its calls was counted by a pass.
 ghost use Rattle.std.specs.Prelude.{◌≡◌, ◌≤◌, All};
 ghost use Rattle.history.specs.Header.{IsInRange};
 ghost use Rattle.monitor.specs.Stepping.{IsSame};
 
-use crate::asks::{Ask, Front};
+use crate::asks::Front;
 use crate::chance::Chance;
 use crate::plays::close_and_audit;
 use history::entry::{Mode, Word};
@@ -13,7 +13,6 @@ use history::header::{Header, Object, Policy};
 use history::step::{Answer, Step};
 use monitor::{Closed, Monitor, Now, Pass};
 use monitor_fronts::{open_lock, open_read_write_lock, open_semaphore};
-use permit::{ScriptedParking, Woke};
 use std::process::Abort;
 use std::sync::Wait;
 use std::sync::atomic::{AtomicU32, Ordering};
@@ -28,28 +27,18 @@ enum Way {
     Own,
     /// A thread for each seat makes those steps of one list that are its own.
     Listed,
-    /// One thread makes all steps of the list.
-    OneSteps,
-    /// One thread makes calls from a list.
-    OneCalls,
 }
 
 #[derive(Clone, Copy)]
 struct Storm {
     way: Way,
     header: Header,
-    /// How many steps or calls the list has, or each thread.
+    /// How many steps the list has, or each thread makes.
     rounds: u32,
     /// Releases that each thread repeats at its end until they fail. So no thread waits for its holds.
     gives: &'static [Step],
     /// At least this number of calls end.
     least: u64,
-}
-
-impl Storm {
-    fn is_of_one(&self) -> bool {
-        self.way == Way::OneSteps || self.way == Way::OneCalls
-    }
 }
 
 /// How often a release is made at the end. No seat has more holds than that.
@@ -238,99 +227,6 @@ fn is_idle(object: &Object, closed: &Closed) -> bool {
     balance.exclusive == 0 && reads == 0 && balance.line == 0 && balance.sleepers == 0
 }
 
-/// Makes a step or a call. Returns whether the monitor was busy.
-fn take<H: Front, R: Wait + Clock>(
-    rt: &R,
-    monitor: &Monitor<H>,
-    parking: &ScriptedParking,
-    pass: &mut Pass,
-    ask: Ask,
-) -> bool
-    requires own { pass.old.lock ≡ monitor.now }
-    requires places { monitor.now.header.seats ≤ 256 }
-    ensures { IsSame pass.old pass.new }
-{
-    if let Ask::Step(step) = ask {
-        return matches!(monitor.step_now(pass, step), Ok(Now::Busy));
-    }
-    let _reply = H::ask(rt, monitor, parking, pass, ask);
-    false
-}
-
-/// The same with the pass of a seat.
-fn take_at<H: Front, R: Wait + Clock>(
-    rt: &R,
-    monitor: &Monitor<H>,
-    parking: &ScriptedParking,
-    passes: &mut Vec<Pass>,
-    seat: u16,
-    ask: Ask,
-) -> bool
-    requires own { All (λ p. p.lock ≡ monitor.now) passes.old.items }
-    requires places { monitor.now.header.seats ≤ 256 }
-    ensures { All (λ p. p.lock ≡ monitor.now) passes.new.items }
-{
-    match passes.get_mut(usize::from(seat)) {
-        Some(pass) => take(rt, monitor, parking, pass, ask),
-        None => false,
-    }
-}
-
-/// Returns the results of parks that end each wait: deadlines and interrupts in turn.
-fn endings<R: Abort + AllocGlobal>(rt: &R, count: u32) -> Vec<Woke> {
-    let mut endings = Vec::new(rt.alloc());
-    for number in 0..count {
-        let ending = if number % 2 == 0 {
-            Woke::Deadline
-        } else {
-            Woke::Interrupted
-        };
-        endings.push(ending).expect(rt, "memory");
-    }
-    endings
-}
-
-/// Takes the list in one thread. No step finds the monitor busy.
-fn take_all<H: Front, R: Abort + AllocGlobal + Wait + Clock>(
-    rt: &R,
-    monitor: &Monitor<H>,
-    passes: &mut Vec<Pass>,
-    storm: &Storm,
-)
-    requires own { All (λ p. p.lock ≡ monitor.now) passes.old.items }
-    requires places { monitor.now.header.seats ≤ 256 }
-    ensures { All (λ p. p.lock ≡ monitor.now) passes.new.items }
-{
-    let endings = endings(rt, storm.rounds);
-    let parking = ScriptedParking::open(rt.alloc(), endings, 0).expect(rt, "memory");
-    let mut list = Chance::of_list();
-    for _ in 0..storm.rounds {
-        let (seat, ask) = list.listed(storm.way == Way::OneSteps);
-        let is_busy = take_at(rt, monitor, &parking, passes, seat, ask);
-        assert!(rt; !is_busy, "the monitor is busy");
-    }
-}
-
-/// Takes all steps or calls, in one thread or in many.
-fn blow<H: Front + Send, R: Abort + AllocGlobal + Threads + Wait + Clock + Sync>(
-    rt: &R,
-    monitor: &Monitor<H>,
-    passes: Vec<Pass>,
-    storm: &Storm,
-) -> Vec<Pass>
-    requires own { All (λ p. p.lock ≡ monitor.now) passes.items }
-    requires places { monitor.now.header.seats ≤ 256 }
-    ensures { All (λ p. p.lock ≡ monitor.now) result.items }
-{
-    if storm.is_of_one() {
-        let mut passes = passes;
-        take_all(rt, monitor, &mut passes, storm);
-        return passes;
-    }
-    let started = AtomicU32::new(0);
-    work_in_threads(rt, monitor, passes, storm, &started)
-}
-
 /// Runs a storm.
 fn rage<H: Front + Send, R: Abort + AllocGlobal + Threads + Wait + Clock + Sync>(
     rt: &R,
@@ -342,11 +238,12 @@ fn rage<H: Front + Send, R: Abort + AllocGlobal + Threads + Wait + Clock + Sync>
     requires range { IsInRange storm.now.header }
 {
     let (monitor, passes) = opened;
-    let passes = blow(rt, &monitor, passes, storm);
+    let started = AtomicU32::new(0);
+    let passes = work_in_threads(rt, &monitor, passes, storm, &started);
     let closed = close_and_audit(rt, monitor, &storm.header, passes, "");
     assert!(rt; storm.least <= closed.share, "{} calls", closed.share);
     assert!(rt;
-        storm.is_of_one() || is_idle(&storm.header.object, &closed),
+        is_idle(&storm.header.object, &closed),
         "somebody waits or holds"
     );
 }
@@ -434,16 +331,13 @@ fn threads_step_each_object_10_000_times(rt: HostRuntime) {
     }
 }
 
-/// One list for all seats, in each way.
 #[test]
-fn a_list_of_10_000_steps_and_one_of_calls_is_taken(rt: HostRuntime) {
-    for way in [Way::OneSteps, Way::Listed, Way::OneCalls] {
-        let storm = Storm {
-            way,
-            rounds: 10_000,
-            least: 1000,
-            ..LOCK
-        };
-        storm_at(&rt, &storm);
-    }
+fn four_threads_step_by_one_list_of_10_000(rt: HostRuntime) {
+    let storm = Storm {
+        way: Way::Listed,
+        rounds: 10_000,
+        least: 1000,
+        ..LOCK
+    };
+    storm_at(&rt, &storm);
 }

@@ -12,11 +12,13 @@ use workers::Gate;
 const TURNS: u32 = 10_000;
 
 /// Lets two workers make two calls each, if they run at the same time. Worker 1 waits with its first call
-/// until worker 0 has asked for one, and worker 0 until worker 1 has made both.
+/// until worker 0 has asked for one, and worker 0 until worker 1 has made both. Worker 1 waits once more until
+/// worker 0 asks for its second one. So a worker that notifies the gate before its call makes it too late.
 #[derive(Drop)]
 pub struct Crossing {
     has_asked: AtomicBool,
     has_ended: AtomicBool,
+    has_asked_again: AtomicBool,
 }
 
 impl Crossing {
@@ -24,6 +26,7 @@ impl Crossing {
         Crossing {
             has_asked: AtomicBool::new(false),
             has_ended: AtomicBool::new(false),
+            has_asked_again: AtomicBool::new(false),
         }
     }
 }
@@ -49,13 +52,18 @@ impl Gate for Crossing {
                 is_set(rt, &self.has_ended)
             }
             (1, 0) => is_set(rt, &self.has_asked),
+            (0, 1) => {
+                self.has_asked_again.store(true, Ordering::SeqCst);
+                true
+            }
             _ => true,
         }
     }
 
-    fn after<R: Wait + Clock>(&self, _rt: &R, worker: u16, call: u64) {
+    fn after<R: Wait + Clock>(&self, rt: &R, worker: u16, call: u64) {
         if worker == 1 && call == 1 {
             self.has_ended.store(true, Ordering::SeqCst);
+            let _has_come = is_set(rt, &self.has_asked_again);
         }
     }
 }

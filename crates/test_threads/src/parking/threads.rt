@@ -3,18 +3,13 @@ ghost use Rattle.std.specs.Prelude.{◌≡◌, ◌<◌};
 
 use permit::{Parking, ThreadParking, Woke};
 use std::process::Abort;
-use std::rt::Files;
 use std::sync::Wait;
+use std::thread;
 use std::thread::{Threads, join};
 use std::time::{Clock, Duration};
-use std::{fs, thread};
 
 /// After this number of milliseconds a thread wakes another, which sleeps by then.
 const LATER: u64 = 30;
-
-/// In nanoseconds, less than a thread uses that spins during that time, even if others have most of the
-/// processors.
-const LITTLE: u64 = 5_000_000;
 
 fn send_later<R: Clock>(rt: &R, parking: &ThreadParking, is_interrupt: bool)
     requires { 0 < parking.now }
@@ -57,25 +52,6 @@ fn one_who_sleeps_is_woken_by_an_unpark_and_by_an_interrupt(rt: HostRuntime) {
         assert_eq!(rt; woken(&rt, &parking, true, until), Woke::Interrupted);
     }
     assert_eq!(rt; parking.park(&rt, 0, Some(0), true), Woke::Deadline);
-}
-
-/// Returns the processor time of the calling thread, in nanoseconds.
-fn processor_time<R: Files + AllocGlobal>(rt: &R) -> Option<u64> {
-    let told = fs::read_to_string(rt, "/proc/thread-self/schedstat").ok()?;
-    told.split(' ').next()?.parse::<u64>().ok()
-}
-
-#[test]
-fn one_who_sleeps_takes_no_processor_time(rt: HostRuntime) {
-    let parking = ThreadParking::open(&rt, rt.alloc(), 1).expect(&rt, "memory");
-    let until = parking.now(&rt).saturating_add(LATER);
-    let before = processor_time(&rt).expect(&rt, "a time");
-    assert_eq!(rt; parking.park(&rt, 0, Some(until), true), Woke::Deadline);
-    let used = processor_time(&rt)
-        .expect(&rt, "a time")
-        .saturating_sub(before);
-    assert!(rt; used < LITTLE, "{used}");
-    assert!(rt; until <= parking.now(&rt));
 }
 
 /// How often each result came.

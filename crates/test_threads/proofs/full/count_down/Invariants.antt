@@ -1,5 +1,0 @@
-use Rattle.monitor.specs.Stepping.{IsSame}
-use Rattle.test_threads.proofs.full.count_down.Given as goal
-
-abbrev pub invariant-loop-turn : goal.invariant-loop-turn
-invariant-loop-turn g l = IsSame l.fn.pass l.worker
