@@ -51,7 +51,7 @@ impl<S: Sum> Counter<S> {
     }
 
     /// Returns the number. What was asked for and not counted is in the whole share.
-    fn counted(&mut self, all: &mut Share<S>) -> u64
+    pub fn counted(&mut self, all: &mut Share<S>) -> u64
         requires whole { all.old.parts ≡ S.parts }
         ensures all { result + all.old.amount ≡ S.asked }
     {
@@ -138,23 +138,4 @@ pub fn count_share<S: Sum, P: Parking, R: Wait + Clock>(
         }
     }
     Worker::new(own, mine, 0, None)
-}
-
-/// Reads the number, with the whole share. What was counted and what is left add up to what was asked for.
-pub fn count_of<S: Sum, P: Parking, R: Wait + Clock>(
-    rt: &R,
-    parking: &P,
-    lock: &Mutex<Counter<S>>,
-    pass: &mut Pass,
-    all: &mut Share<S>,
-) -> Result<u64, Fault>
-    requires is_of { pass.old.lock ≡ lock.now.lock }
-    requires places { lock.now.lock.header.seats ≤ P.seats parking.now }
-    requires free { holds pass.old ≡ 0 }
-    requires whole { all.old.parts ≡ S.parts }
-    ensures same { IsSame pass.old pass.new }
-    ensures exact { IfOk result (λ counted. counted + all.old.amount ≡ S.asked) }
-{
-    let mut guard = Mutex::lock(pass, lock, rt, parking)?;
-    Ok(guard.value_mut().counted(all))
 }

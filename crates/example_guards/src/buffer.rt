@@ -1,8 +1,8 @@
 //! A bounded buffer guarded by a fair lock: one thread puts, another takes. The owner of the lock has the
 //! buffer.
 //!
-//! The history of the lock has few places, and is folded whenever it is full. Proved: the buffer never has more
-//! items than places.
+//! The history of the lock has few places, and is folded whenever it is full. Proved: the buffer never has
+//! more items than places.
 
 ghost use Rattle.std.specs.Prelude.{◌≡◌, ◌≤◌, All, IfOk, IfSome, length};
 ghost use Rattle.monitor.specs.Stepping.{IsSame};
@@ -121,9 +121,9 @@ fn exchange_all<R: Threads + Wait + Clock + Sync>(
     Ok((passes, sum))
 }
 
-/// What is printed at the end.
+/// The sum of what was taken, and what happened to the history.
 #[derive(Clone, Copy)]
-struct Told {
+struct Summary {
     sum: u64,
     all_calls: bool,
     folded: bool,
@@ -136,11 +136,11 @@ fn close<R: Wait>(
     lock: Mutex<Bounded>,
     passes: Vec<Pass>,
     sum: u64,
-) -> Result<Told, Failure>
+) -> Result<Summary, Failure>
     requires own { All (λ p. p.lock ≡ lock.lock) passes.items }
 {
     match lock.close(rt, passes) {
-        Ok((closed, buffer)) => Ok(Told {
+        Ok((closed, buffer)) => Ok(Summary {
             sum,
             all_calls: closed.history.calls() == closed.share,
             folded: closed.history.base().is_some(),
@@ -151,7 +151,7 @@ fn close<R: Wait>(
 }
 
 /// Runs the example with a new lock, and closes it.
-fn play<R: Threads + Wait + Clock + Sync>(rt: &R, alloc: Global) -> Result<Told, Failure> {
+fn play<R: Threads + Wait + Clock + Sync>(rt: &R, alloc: Global) -> Result<Summary, Failure> {
     let parking = ThreadParking::open(rt, alloc, 2)?;
     let opened = Mutex::open(
         alloc,
@@ -171,14 +171,26 @@ fn play<R: Threads + Wait + Clock + Sync>(rt: &R, alloc: Global) -> Result<Told,
     }
 }
 
-/// Runs both threads, and prints the sum of what was taken, and what happened to the history.
+/// Prints the sum of what was taken, and what happened to the history.
+fn print<R: Print>(rt: &R, summary: &Summary) -> io::Result<()> {
+    let Summary {
+        sum,
+        is_empty,
+        all_calls,
+        folded,
+    } = *summary;
+    println!(rt;
+        "taken {sum}\n\
+         the buffer is empty: {is_empty}\n\
+         every call is in the history: {all_calls}\n\
+         its entries were folded: {folded}"
+    )
+}
+
+/// Runs both threads, and prints the outcome.
 pub fn run<R: Print + AllocGlobal + Threads + Wait + Clock + Sync>(rt: &R) -> io::Result<()> {
-    let told = match play(rt, rt.alloc()) {
-        Ok(told) => told,
-        Err(failure) => return println!(rt; "{failure}: the buffer was given up"),
-    };
-    println!(rt; "taken {}", told.sum)?;
-    println!(rt; "the buffer is empty: {}", told.is_empty)?;
-    println!(rt; "every call is in the history: {}", told.all_calls)?;
-    println!(rt; "its entries were folded: {}", told.folded)
+    match play(rt, rt.alloc()) {
+        Ok(summary) => print(rt, &summary),
+        Err(failure) => println!(rt; "{failure}: the buffer was given up"),
+    }
 }

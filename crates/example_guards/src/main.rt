@@ -1,7 +1,8 @@
 //! Programs over locks that guard a value.
 //!
 //! - `buffer`: a queue with two places, which a lock guards. One thread puts, another takes.
-//! - `table`: two rows that a read-write lock guards. A writer changes both, and no reader sees only one changed.
+//! - `table`: two rows that a read-write lock guards. A writer changes both, and no reader sees only one
+//!   changed.
 //! - `read_mostly_table`: a table that a read-write lock guards, and writers that downgrade to readers.
 //! - `counter`: a number that four threads count up. What they counted and what they left add up to what was
 //!   asked for.
@@ -24,6 +25,9 @@ mod table;
 mod working;
 
 use history::fault::Fault;
+use std::sync::Wait;
+use std::thread::Threads;
+use std::time::Clock;
 use std::{env, io};
 use thiserror::Error;
 
@@ -52,15 +56,18 @@ impl From<Fault> for Failure {
 /// How often the threads count if nothing is asked for.
 const TIMES: u32 = 20_000;
 
+/// Runs all four programs, one after another.
+fn run_all<R: Print + AllocGlobal + Threads + Wait + Clock + Sync>(rt: &R) -> io::Result<()> {
+    buffer::run(rt)?;
+    table::run(rt)?;
+    read_mostly_table::run(rt)?;
+    counter::run(rt, TIMES)
+}
+
 fn main(rt: HostRuntime) -> io::Result<()> {
     let words = env::args(&rt)?.skip(1).collect::<Vec<String>>(rt.alloc())?;
     match words.first().map(|word| word.as_str()) {
-        None => {
-            buffer::run(&rt)?;
-            table::run(&rt)?;
-            read_mostly_table::run(&rt)?;
-            counter::run(&rt, TIMES)
-        }
+        None => run_all(&rt),
         Some(word) => match word.parse::<u32>() {
             Ok(times) => counter::run(&rt, times),
             Err(_) => eprintln!(rt;

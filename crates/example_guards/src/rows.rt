@@ -1,6 +1,5 @@
 //! Two rows that change together.
 ghost use Rattle.std.specs.Prelude.{◌≡◌, ◌≤◌, ◌+◌, ◌%◌, ◌^◌, IfOk};
-ghost use Rattle.guarded.specs.Reading.{reads};
 ghost use Rattle.monitor.specs.Stepping.{IsSame};
 ghost use Rattle.monitor_fronts.specs.Holding.{holds};
 
@@ -12,8 +11,8 @@ use std::marker::Model;
 use std::sync::Wait;
 use std::time::Clock;
 
-/// A version of each row. An update changes one after the other, and both are the same between two updates. A contract
-/// sees that version.
+/// A version of each row. An update changes one after the other, and both are the same between two updates. A
+/// contract sees that version.
 #[derive(Drop)]
 pub struct Rows {
     first: u64,

@@ -26,15 +26,21 @@ const LOOKS: u64 = 200;
 /// The most entries of the history.
 const CAP: u32 = 64;
 
+/// The versions that both threads reached.
+#[derive(Clone, Copy)]
+struct Reached {
+    /// The last version that was made.
+    made: u64,
+    /// The last version that was seen.
+    seen: u64,
+}
+
 /// The passes of both threads, and the versions that they reached.
 #[derive(Drop)]
 struct Played {
     writer: Pass,
     reader: Pass,
-    /// The last version that was made.
-    made: u64,
-    /// The last version that was seen.
-    seen: u64,
+    reached: Reached,
 }
 
 /// One thread updates, and the other looks.
@@ -63,34 +69,22 @@ fn play_both<R: Threads + Wait + Clock + Sync>(
     Ok(Played {
         writer,
         reader,
-        made,
-        seen,
+        reached: Reached { made, seen },
     })
 }
 
-/// What is printed at the end.
-#[derive(Clone, Copy)]
-struct Told {
-    /// The last version that was made.
-    made: u64,
-    /// Whether the last look saw that version, or an earlier one.
-    seen_before: bool,
-    /// The versions of both rows at the end. None if somebody still writes.
-    left: Option<(u64, u64)>,
-    folded: bool,
-}
-
-/// Plays with the passes of a new lock, and closes it.
-fn play_with<R: Threads + Wait + Clock + Sync>(
+/// Plays with the passes of a new lock. Returns the passes, and the versions that both threads reached.
+fn play_all<R: Threads + Wait + Clock + Sync>(
     rt: &R,
     parking: &ThreadParking,
-    lock: RwMutex<Rows>,
+    lock: &RwMutex<Rows>,
     passes: Vec<Pass>,
-) -> Result<Told, Failure>
+) -> Result<(Vec<Pass>, Reached), Failure>
     requires two { length passes.items ≡ 2 }
-    requires own { All (λ p. p.lock ≡ lock.lock) passes.items }
+    requires own { All (λ p. p.lock ≡ lock.now.lock) passes.items }
     requires free { All (λ p. holds p ≡ 0) passes.items }
-    requires places { lock.lock.header.seats ≤ parking.now }
+    requires places { lock.now.lock.header.seats ≤ parking.now }
+    ensures { IfOk result (λ played. All (λ p. p.lock ≡ lock.now.lock) played.0.items) }
 {
     let mut passes = passes;
     let Some(reader) = passes.pop() else {
@@ -102,16 +96,39 @@ fn play_with<R: Threads + Wait + Clock + Sync>(
     let Played {
         writer,
         reader,
-        made,
-        seen,
-    } = play_both(rt, parking, &lock, writer, reader)?;
+        reached,
+    } = play_both(rt, parking, lock, writer, reader)?;
     if passes.push(writer).is_err() || passes.push(reader).is_err() {
         return Err(Failure::Call(Fault::OutOfMemory));
     }
+    Ok((passes, reached))
+}
+
+/// What both threads reached, and what the lock was left with.
+#[derive(Clone, Copy)]
+struct Summary {
+    /// The last version that was made.
+    made: u64,
+    /// Whether the last look saw that version, or an earlier one.
+    seen_before: bool,
+    /// The versions of both rows at the end. None if somebody still writes.
+    left: Option<(u64, u64)>,
+    folded: bool,
+}
+
+/// Closes the lock.
+fn close<R: Wait>(
+    rt: &R,
+    lock: RwMutex<Rows>,
+    passes: Vec<Pass>,
+    reached: Reached,
+) -> Result<Summary, Failure>
+    requires own { All (λ p. p.lock ≡ lock.lock) passes.items }
+{
     match lock.close(rt, passes) {
-        Ok((closed, rows)) => Ok(Told {
-            made,
-            seen_before: seen <= made,
+        Ok((closed, rows)) => Ok(Summary {
+            made: reached.made,
+            seen_before: reached.seen <= reached.made,
             left: rows.map(|rows| rows.versions()),
             folded: closed.history.base().is_some(),
         }),
@@ -119,27 +136,41 @@ fn play_with<R: Threads + Wait + Clock + Sync>(
     }
 }
 
-/// Opens the lock, and plays.
-fn play<R: Threads + Wait + Clock + Sync>(rt: &R, alloc: Global) -> Result<Told, Failure> {
+/// Plays with a new lock, and closes it.
+fn play<R: Threads + Wait + Clock + Sync>(rt: &R, alloc: Global) -> Result<Summary, Failure> {
     let parking = ThreadParking::open(rt, alloc, 2)?;
     let opened = RwMutex::open(alloc, Rows::new(), Policy::Fair, WhenFull::Trim, 2, 0, CAP);
     match opened {
-        Ok((lock, passes)) => play_with(rt, &parking, lock, passes),
+        Ok((lock, passes)) => {
+            let (passes, reached) = play_all(rt, &parking, &lock, passes)?;
+            close(rt, lock, passes, reached)
+        }
         Err((_, fault)) => Err(Failure::Call(fault)),
     }
 }
 
+/// Prints the versions of both rows at the end.
+fn print_rows<R: Print>(rt: &R, left: Option<(u64, u64)>) -> io::Result<()> {
+    match left {
+        Some((first, last)) => println!(rt; "the rows are of versions {first} and {last}"),
+        None => println!(rt; "a thread still writes"),
+    }
+}
+
+/// Prints what both threads reached, and what the lock was left with.
+fn print<R: Print>(rt: &R, summary: &Summary) -> io::Result<()> {
+    println!(rt;
+        "updated to version {}\nlooks saw no later version: {}",
+        summary.made, summary.seen_before
+    )?;
+    print_rows(rt, summary.left)?;
+    println!(rt; "its entries were folded: {}", summary.folded)
+}
+
 /// Runs both threads, and prints the outcome.
 pub fn run<R: Print + AllocGlobal + Threads + Wait + Clock + Sync>(rt: &R) -> io::Result<()> {
-    let told = match play(rt, rt.alloc()) {
-        Ok(told) => told,
-        Err(failure) => return println!(rt; "{failure}: the table was given up"),
-    };
-    println!(rt; "updated to version {}", told.made)?;
-    println!(rt; "looks saw no later version: {}", told.seen_before)?;
-    match told.left {
-        Some((first, last)) => println!(rt; "the rows are of versions {first} and {last}")?,
-        None => println!(rt; "a thread still writes")?,
+    match play(rt, rt.alloc()) {
+        Ok(summary) => print(rt, &summary),
+        Err(failure) => println!(rt; "{failure}: the table was given up"),
     }
-    println!(rt; "its entries were folded: {}", told.folded)
 }

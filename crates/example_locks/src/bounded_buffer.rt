@@ -166,9 +166,9 @@ fn exchange_all<R: Threads + Wait + Clock + Sync>(
     Ok((passes, sum))
 }
 
-/// What is printed at the end.
+/// The sum of what was taken, and what the audit finds in the history.
 #[derive(Clone, Copy)]
-struct Told {
+struct Summary {
     sum: u64,
     all_calls: bool,
     verdict: Verdict,
@@ -181,7 +181,7 @@ fn close<R: Wait>(
     monitor: Monitor<LockHooks>,
     passes: Vec<Pass>,
     sum: u64,
-) -> Result<Told, Fault>
+) -> Result<Summary, Fault>
     requires own { All (λ p. p.lock ≡ monitor) passes.items }
     requires header { monitor.header ≡ header_of (Lock Fair) 2 2 10000 }
 {
@@ -189,7 +189,7 @@ fn close<R: Wait>(
         return Err(Fault::OutOfPhase);
     };
     match check(alloc, &HEADER, &closed.history) {
-        Ok(verdict) => Ok(Told {
+        Ok(verdict) => Ok(Summary {
             sum,
             all_calls: closed.history.calls() == closed.share,
             verdict,
@@ -199,7 +199,7 @@ fn close<R: Wait>(
 }
 
 /// Runs the example with a new lock, closes it and judges its history.
-fn play<R: Threads + Wait + Clock + Sync>(rt: &R, alloc: Global) -> Result<Told, Failure> {
+fn play<R: Threads + Wait + Clock + Sync>(rt: &R, alloc: Global) -> Result<Summary, Failure> {
     let parking = ThreadParking::open(rt, alloc, HEADER.seats)?;
     let (monitor, passes) = open_lock(
         alloc,
@@ -212,16 +212,22 @@ fn play<R: Threads + Wait + Clock + Sync>(rt: &R, alloc: Global) -> Result<Told,
     Ok(close(rt, alloc, monitor, passes, sum)?)
 }
 
-/// Runs both threads, and prints the results.
-pub fn run<R: Print + AllocGlobal + Threads + Wait + Clock + Sync>(rt: &R) -> io::Result<()> {
-    let told = match play(rt, rt.alloc()) {
-        Ok(told) => told,
-        Err(failure) => return println!(rt; "{failure}"),
-    };
-    println!(rt; "taken {}", told.sum)?;
-    println!(rt; "every call is in the history: {}", told.all_calls)?;
-    match told.verdict {
+/// Prints the sum of what was taken, and what the audit finds.
+fn print<R: Print>(rt: &R, summary: &Summary) -> io::Result<()> {
+    println!(rt;
+        "taken {}\nevery call is in the history: {}",
+        summary.sum, summary.all_calls
+    )?;
+    match summary.verdict {
         Verdict::Legal => println!(rt; "the history is legal"),
         Verdict::NotLegal(number) => println!(rt; "not legal at {number}"),
+    }
+}
+
+/// Runs both threads, and prints the results.
+pub fn run<R: Print + AllocGlobal + Threads + Wait + Clock + Sync>(rt: &R) -> io::Result<()> {
+    match play(rt, rt.alloc()) {
+        Ok(summary) => print(rt, &summary),
+        Err(failure) => println!(rt; "{failure}"),
     }
 }

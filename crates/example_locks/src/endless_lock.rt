@@ -6,8 +6,8 @@
 //! entries.
 //!
 //! `example_locks endless_lock` makes 8,000 calls. `example_locks endless_lock 10000000` makes 10,000,000.
-//! Prints how many calls were made, what the number is, and what the lock was left with. `close` promises that
-//! the history is legal, from its last fold on, and has each call.
+//! Prints how many calls were made, what the number is, and what the lock was left with. `close` promises
+//! that the history is legal, from its last fold on, and has each call.
 
 ghost use Rattle.std.specs.Prelude.{◌≡◌, ◌≤◌, true, All, IfOk};
 ghost use Rattle.history.specs.Object.{is_lock};
@@ -15,12 +15,14 @@ ghost use Rattle.history.specs.Object.{is_lock};
 mod adding;
 
 use crate::endless_lock::adding::{Sum, work};
+use frame::Balance;
 use history::fault::Fault;
 use history::header::{Header, Object, Policy};
-use monitor::{Closed, Pass};
+use monitor::{Monitor, Pass};
 use monitor_fronts::{ReentrantLock, open_lock};
 use permit::ThreadParking;
-use std::alloc::Global;
+use reentrant::lock::LockHooks;
+use std::alloc::{AllocError, Global};
 use std::sync::Wait;
 use std::thread::Threads;
 use std::time::Clock;
@@ -60,13 +62,13 @@ fn work_in_threads<R: Threads + Wait + Clock + Sync>(
     sum: &Sum,
     passes: Vec<Pass>,
     turns: u64,
-) -> Result<Vec<Pass>, Fault>
+) -> Result<Vec<Pass>, AllocError>
     requires places { lock.now.monitor.now.header.seats ≤ parking.now }
     requires lock { is_lock lock.now.monitor.now.header.object ≡ true }
     requires own { All (λ p. p.lock ≡ lock.now.monitor.now) passes.items }
     ensures { IfOk result (λ v. All (λ p. p.lock ≡ lock.now.monitor.now) v.items) }
 {
-    let passes = thread::map_vec(
+    thread::map_vec(
         rt,
         passes,
         &|pass: Pass| -> Pass
@@ -75,18 +77,47 @@ fn work_in_threads<R: Threads + Wait + Clock + Sync>(
                 × (is_lock lock.now.monitor.now.header.object ≡ true) }
             ensures { result.lock ≡ lock.entry.now.monitor.now }
         { work(rt, parking, lock, sum, pass, turns) },
-    )?;
-    Ok(passes)
+    )
 }
 
-/// Runs the example, and closes the lock.
-fn play<R: Threads + Wait + Clock + Sync>(
+/// What the threads did, and what the lock was left with.
+#[derive(Clone, Copy)]
+struct Summary {
+    faults: u64,
+    number: u64,
+    calls: u64,
+    balance: Balance,
+}
+
+/// Closes the lock.
+fn close<R: Wait>(
+    rt: &R,
+    monitor: Monitor<LockHooks>,
+    passes: Vec<Pass>,
+    sum: &Sum,
+) -> Result<Summary, Fault>
+    requires { All (λ p. p.lock ≡ monitor) passes.items }
+{
+    match monitor.close(rt, passes) {
+        Ok(closed) => Ok(Summary {
+            faults: sum.faults(),
+            number: sum.number(),
+            calls: closed.share,
+            balance: closed.balance,
+        }),
+        Err(_) => Err(Fault::OutOfPhase),
+    }
+}
+
+/// Runs all threads with a new lock, and closes it.
+fn play_with<R: Threads + Wait + Clock + Sync>(
     rt: &R,
     alloc: Global,
-    sum: &Sum,
+    parking: &ThreadParking,
     turns: u64,
-) -> Result<Closed, Fault> {
-    let parking = ThreadParking::open(rt, alloc, HEADER.seats)?;
+) -> Result<Summary, Fault>
+    requires places { THREADS ≤ parking.now }
+{
     let (monitor, passes) = open_lock(
         alloc,
         Policy::NonFair,
@@ -95,11 +126,35 @@ fn play<R: Threads + Wait + Clock + Sync>(
         HEADER.cap,
     )?;
     let lock = ReentrantLock::of(&monitor);
-    let passes = work_in_threads(rt, &parking, &lock, sum, passes, turns)?;
-    match monitor.close(rt, passes) {
-        Ok(closed) => Ok(closed),
-        Err(_) => Err(Fault::OutOfPhase),
-    }
+    let sum = Sum::new();
+    let passes = work_in_threads(rt, parking, &lock, &sum, passes, turns)?;
+    close(rt, monitor, passes, &sum)
+}
+
+/// Opens the place where the threads park, and runs the example.
+fn play<R: Threads + Wait + Clock + Sync>(
+    rt: &R,
+    alloc: Global,
+    turns: u64,
+) -> Result<Summary, Fault> {
+    let parking = ThreadParking::open(rt, alloc, HEADER.seats)?;
+    play_with(rt, alloc, &parking, turns)
+}
+
+/// Prints what the threads did, and what the lock was left with.
+fn print<R: Print>(rt: &R, turns: u64, summary: &Summary) -> io::Result<()> {
+    let Summary {
+        faults,
+        number,
+        calls,
+        balance,
+    } = *summary;
+    println!(rt;
+        "{THREADS} threads, {turns} turns each, faults {faults}\n\
+         calls {calls}, number {number}, room for {} entries\n\
+         holds {}, in the queue {}",
+        HEADER.cap, balance.exclusive, balance.line
+    )
 }
 
 /// Runs all threads, and prints the results. The first word is the name of the example.
@@ -108,23 +163,8 @@ pub fn run<R: Print + AllocGlobal + Threads + Wait + Clock + Sync>(
     words: &[String],
 ) -> io::Result<()> {
     let turns = asked(words) / CALLS_IN_A_TURN / u64::from(THREADS);
-    let sum = Sum::new();
-    let closed = match play(rt, rt.alloc(), &sum, turns) {
-        Ok(closed) => closed,
-        Err(fault) => return println!(rt; "endless_lock: {fault}"),
-    };
-    println!(rt;
-        "{THREADS} threads, {turns} turns each, faults {}",
-        sum.faults()
-    )?;
-    println!(rt;
-        "calls {}, number {}, room for {} entries",
-        closed.share,
-        sum.number(),
-        HEADER.cap
-    )?;
-    println!(rt;
-        "holds {}, in the queue {}",
-        closed.balance.exclusive, closed.balance.line
-    )
+    match play(rt, rt.alloc(), turns) {
+        Ok(summary) => print(rt, turns, &summary),
+        Err(fault) => println!(rt; "endless_lock: {fault}"),
+    }
 }

@@ -89,21 +89,33 @@ fn print_replay<R: Print + AllocGlobal>(rt: &R) -> io::Result<()> {
     }
 }
 
-/// Makes all calls, and prints what they return.
-pub fn run<R: Print + AllocGlobal>(rt: &R) -> io::Result<()> {
+/// Makes the calls on histories and cores, and prints what they return.
+fn print_histories<R: Print + AllocGlobal>(rt: &R) -> io::Result<()> {
     let (entries, reserved) = added(rt.alloc());
-    println!(rt; "entries {entries}, reserved {reserved}")?;
     let (first, second) = holds(rt.alloc());
-    println!(rt; "holds of thread 0: {first}, of thread 1: {second}")?;
-    println!(rt; "an empty history is legal: {}", is_empty_legal(rt.alloc()))?;
-    print_replay(rt)?;
-    println!(rt; "this history is {}", says(rt.alloc(), LEGAL))?;
     println!(rt;
-        "one that begins with a release is {}",
-        says(rt.alloc(), NOT_LEGAL)
-    )?;
+        "entries {entries}, reserved {reserved}\n\
+         holds of thread 0: {first}, of thread 1: {second}\n\
+         an empty history is legal: {}",
+        is_empty_legal(rt.alloc())
+    )
+}
+
+/// Makes the calls on texts, and prints what they return.
+fn print_texts<R: Print + AllocGlobal>(rt: &R) -> io::Result<()> {
     println!(rt;
-        "a script has {} threads",
+        "this history is {}\n\
+         one that begins with a release is {}\n\
+         a script has {} threads",
+        says(rt.alloc(), LEGAL),
+        says(rt.alloc(), NOT_LEGAL),
         threads_of(rt.alloc(), SCRIPT).unwrap_or(0)
     )
+}
+
+/// Makes all calls, and prints what they return.
+pub fn run<R: Print + AllocGlobal>(rt: &R) -> io::Result<()> {
+    print_histories(rt)?;
+    print_replay(rt)?;
+    print_texts(rt)
 }

@@ -1,5 +1,5 @@
-//! A pool of connections: a client acquires one, uses it and releases it. A client owns the connection that it
-//! acquired, so no other client has it.
+//! A pool of connections: a client acquires one, uses it and releases it. A client owns the connection that
+//! it acquired, so no other client has it.
 //!
 //! First one client acquires all connections, and no other client gets one in time. Then all clients share
 //! them. Prints how many requests were served and how many were not, how many connections are in the pool at
@@ -100,6 +100,26 @@ fn play_while_taken<R: Threads + Wait + Clock + Sync>(
     played
 }
 
+/// Both rounds: in the first one this owner has all connections. Returns the passes of the clients, and the
+/// outcome of all requests.
+fn serve_clients<R: Threads + Wait + Clock + Sync>(
+    rt: &R,
+    alloc: Global,
+    service: &Service,
+    owner: &mut Pass,
+    passes: Vec<Pass>,
+) -> Result<(Vec<Pass>, Outcome), Fault>
+    requires is_of { owner.old.lock ≡ service.now.pool.now.lock }
+    requires own { All (λ p. p.lock ≡ service.now.pool.now.lock) passes.items }
+    ensures same { IsSame owner.old owner.new }
+    ensures own { IfOk result (λ r. All (λ p. p.lock ≡ service.now.pool.now.lock) r.0.items) }
+{
+    let clients = enroll(alloc, service.pool, passes)?;
+    let clients = play_while_taken(rt, service, owner, clients)?;
+    let clients = play_round(rt, service, clients, WHILE_ALL_ARE_SHARED)?;
+    Ok(dismiss(alloc, service.pool, clients)?)
+}
+
 /// Both rounds, with the passes of a new pool. Returns the passes and the outcome of all requests.
 fn play_rounds<R: Threads + Wait + Clock + Sync>(
     rt: &R,
@@ -114,23 +134,19 @@ fn play_rounds<R: Threads + Wait + Clock + Sync>(
 {
     let service = Service { parking, pool };
     let mut passes = passes;
-    let Some(owner) = passes.pop() else {
+    let Some(mut owner) = passes.pop() else {
         return Err(Fault::OutOfPhase);
     };
-    let mut owner = owner;
-    let clients = enroll(alloc, pool, passes)?;
-    let clients = play_while_taken(rt, &service, &mut owner, clients)?;
-    let clients = play_round(rt, &service, clients, WHILE_ALL_ARE_SHARED)?;
-    let (mut passes, outcome) = dismiss(alloc, pool, clients)?;
+    let (mut passes, outcome) = serve_clients(rt, alloc, &service, &mut owner, passes)?;
     match passes.push(owner) {
         Ok(()) => Ok((passes, outcome)),
         Err(_) => Err(Fault::OutOfMemory),
     }
 }
 
-/// What is printed at the end.
+/// The outcome of all requests, and what the pool was left with.
 #[derive(Clone, Copy)]
-struct Told {
+struct Summary {
     outcome: Outcome,
     /// How many requests the connections counted.
     by_connections: u64,
@@ -143,40 +159,11 @@ struct Told {
     verdict: Verdict,
 }
 
-/// Closes the pool and audits the history of its semaphore. The pool has a connection for each free permit.
-fn close<R: Wait>(
-    rt: &R,
-    alloc: Global,
-    pool: Pool<Connection>,
-    passes: Vec<Pass>,
-    outcome: Outcome,
-) -> Result<Told, Fault>
-    requires own { All (λ p. p.lock ≡ pool.lock) passes.items }
-    requires header { pool.lock.header ≡ HEADER }
-    ensures { IfOk result (λ told. pos told.lie ≡ told.free) }
+/// Opens the pool, with a pass for each thread.
+fn open(alloc: Global) -> Result<(Pool<Connection>, Vec<Pass>), Fault>
+    ensures header { IfOk result (λ opened. opened.0.lock.header ≡ HEADER) }
+    ensures own { IfOk result (λ opened. All (λ p. p.lock ≡ opened.0.lock) opened.1.items) }
 {
-    match pool.close(rt, passes) {
-        Ok((closed, connections)) => {
-            let verdict = check(alloc, &HEADER, &closed.history)?;
-            let lie = connections.len();
-            Ok(Told {
-                outcome,
-                by_connections: requests_of(connections),
-                lie,
-                free: closed.balance.available,
-                calls: closed.share,
-                verdict,
-            })
-        }
-        Err(_) => Err(Fault::OutOfPhase),
-    }
-}
-
-/// Opens a pool, plays both rounds, and closes it.
-fn play<R: Threads + Wait + Clock + Sync>(rt: &R, alloc: Global) -> Result<Told, Fault>
-    ensures { IfOk result (λ told. pos told.lie ≡ told.free) }
-{
-    let parking = ThreadParking::open(rt, alloc, HEADER.seats)?;
     let connections = connect(alloc, CONNECTIONS)?;
     let opened = Pool::open(
         alloc,
@@ -187,40 +174,90 @@ fn play<R: Threads + Wait + Clock + Sync>(rt: &R, alloc: Global) -> Result<Told,
         HEADER.cap,
     );
     match opened {
-        Ok((pool, passes)) => {
-            let (passes, outcome) = play_rounds(rt, alloc, &parking, &pool, passes)?;
-            close(rt, alloc, pool, passes, outcome)
-        }
+        Ok(opened) => Ok(opened),
         Err((_connections, fault)) => Err(fault),
     }
 }
 
-/// Plays, and prints the outcome.
-pub fn run<R: Print + AllocGlobal + Threads + Wait + Clock + Sync>(rt: &R) -> io::Result<()> {
-    let told = match play(rt, rt.alloc()) {
-        Ok(told) => told,
-        Err(fault) => return println!(rt; "{fault}, and the connections were given up"),
-    };
-    let Told {
+/// Closes the pool and audits the history of its semaphore. The pool has a connection for each free permit.
+fn close<R: Wait>(
+    rt: &R,
+    alloc: Global,
+    pool: Pool<Connection>,
+    passes: Vec<Pass>,
+    outcome: Outcome,
+) -> Result<Summary, Fault>
+    requires own { All (λ p. p.lock ≡ pool.lock) passes.items }
+    requires header { pool.lock.header ≡ HEADER }
+    ensures { IfOk result (λ summary. pos summary.lie ≡ summary.free) }
+{
+    match pool.close(rt, passes) {
+        Ok((closed, connections)) => {
+            let lie = connections.len();
+            let by_connections = requests_of(connections);
+            let verdict = check(alloc, &HEADER, &closed.history)?;
+            Ok(Summary {
+                outcome,
+                by_connections,
+                lie,
+                free: closed.balance.available,
+                calls: closed.share,
+                verdict,
+            })
+        }
+        Err(_) => Err(Fault::OutOfPhase),
+    }
+}
+
+/// Plays both rounds with a new pool, and closes it.
+fn play_with<R: Threads + Wait + Clock + Sync>(
+    rt: &R,
+    alloc: Global,
+    parking: &ThreadParking,
+) -> Result<Summary, Fault>
+    requires places { 7 ≤ parking.now }
+    ensures { IfOk result (λ summary. pos summary.lie ≡ summary.free) }
+{
+    let (pool, passes) = open(alloc)?;
+    let (passes, outcome) = play_rounds(rt, alloc, parking, &pool, passes)?;
+    close(rt, alloc, pool, passes, outcome)
+}
+
+/// Opens the place where the threads park, and plays.
+fn play<R: Threads + Wait + Clock + Sync>(rt: &R, alloc: Global) -> Result<Summary, Fault>
+    ensures { IfOk result (λ summary. pos summary.lie ≡ summary.free) }
+{
+    let parking = ThreadParking::open(rt, alloc, HEADER.seats)?;
+    play_with(rt, alloc, &parking)
+}
+
+/// Prints the outcome of all requests, and what the pool was left with.
+fn print<R: Print>(rt: &R, summary: &Summary) -> io::Result<()> {
+    let Summary {
         outcome,
         by_connections,
         lie,
         free: _,
         calls,
         verdict,
-    } = told;
+    } = *summary;
     println!(rt;
-        "served {}, of them by the connections {by_connections}",
-        outcome.served
+        "served {}, of them by the connections {by_connections}\n\
+         not served in time {}\n\
+         connections in the pool {lie}, given up {}, faults {}\n\
+         calls {calls}",
+        outcome.served, outcome.timed_out, outcome.given_up, outcome.failed
     )?;
-    println!(rt; "not served in time {}", outcome.timed_out)?;
-    println!(rt;
-        "connections in the pool {lie}, given up {}, faults {}",
-        outcome.given_up, outcome.failed
-    )?;
-    println!(rt; "calls {calls}")?;
     match verdict {
         Verdict::Legal => println!(rt; "the history is legal"),
         Verdict::NotLegal(number) => println!(rt; "not legal at {number}"),
+    }
+}
+
+/// Plays, and prints the outcome.
+pub fn run<R: Print + AllocGlobal + Threads + Wait + Clock + Sync>(rt: &R) -> io::Result<()> {
+    match play(rt, rt.alloc()) {
+        Ok(summary) => print(rt, &summary),
+        Err(fault) => println!(rt; "{fault}, and the connections were given up"),
     }
 }

@@ -25,7 +25,7 @@ use crate::latch_workers::worker::{Worker, pair_up, part};
 use counting::latch::LatchHooks;
 use history::fault::Fault;
 use history::header::{Header, Object};
-use monitor::{Closed, Monitor, Pass};
+use monitor::{Monitor, Pass};
 use monitor_fronts::open_latch;
 use permit::ThreadParking;
 use std::alloc::Global;
@@ -109,62 +109,89 @@ fn work<R: Threads + Wait + Clock + Sync>(
     Ok(part(alloc, shift, workers)?)
 }
 
-/// What is printed at the end.
-#[derive(Drop)]
-struct Told {
-    outcome: Outcome,
-    start: Closed,
-    end: Closed,
+/// What a latch was left with.
+#[derive(Clone, Copy)]
+struct Left {
+    calls: u64,
+    count: u32,
 }
 
 /// Closes a latch with its passes.
-fn close<R: Wait>(rt: &R, latch: Monitor<LatchHooks>, passes: Vec<Pass>) -> Result<Closed, Fault>
+fn close<R: Wait>(rt: &R, latch: Monitor<LatchHooks>, passes: Vec<Pass>) -> Result<Left, Fault>
     requires { All (λ p. p.lock ≡ latch) passes.items }
-    ensures { IfOk result (λ closed. closed.share ≡ shares passes.items) }
+    ensures { IfOk result (λ left. left.calls ≡ shares passes.items) }
 {
     match latch.close(rt, passes) {
-        Ok(closed) => Ok(closed),
+        Ok(closed) => Ok(Left {
+            calls: closed.share,
+            count: closed.balance.count,
+        }),
         Err(_) => Err(Fault::OutOfPhase),
     }
 }
 
-/// Plays, and closes both latches.
-fn play<R: Threads + Wait + Clock + Sync>(rt: &R, alloc: Global) -> Result<Told, ShiftFault> {
-    let (shift, starts, ends) = open_shift(rt, alloc)?;
-    let (starts, ends) = work(rt, alloc, &shift, starts, ends)?;
+/// The outcome of the work, and what both latches were left with.
+#[derive(Clone, Copy)]
+struct Summary {
+    outcome: Outcome,
+    start: Left,
+    end: Left,
+}
+
+/// Closes both latches with their passes.
+fn close_both<R: Wait>(
+    rt: &R,
+    shift: Shift,
+    starts: Vec<Pass>,
+    ends: Vec<Pass>,
+) -> Result<Summary, Fault>
+    requires starts { All (λ p. p.lock ≡ shift.start) starts.items }
+    requires ends { All (λ p. p.lock ≡ shift.end) ends.items }
+{
     let outcome = shift.tally.outcome();
     let Shift { start, end, .. } = shift;
     let start = close(rt, start, starts);
     let end = close(rt, end, ends);
-    Ok(Told {
+    Ok(Summary {
         outcome,
         start: start?,
         end: end?,
     })
 }
 
-/// Runs the shift, and prints its outcome.
-pub fn run<R: Print + AllocGlobal + Threads + Wait + Clock + Sync>(rt: &R) -> io::Result<()> {
-    let told = match play(rt, rt.alloc()) {
-        Ok(told) => told,
-        Err(fault) => return println!(rt; "{fault}"),
-    };
-    let Told {
+/// Works a shift, and closes both latches.
+fn play<R: Threads + Wait + Clock + Sync>(rt: &R, alloc: Global) -> Result<Summary, ShiftFault> {
+    let (shift, starts, ends) = open_shift(rt, alloc)?;
+    let (starts, ends) = work(rt, alloc, &shift, starts, ends)?;
+    Ok(close_both(rt, shift, starts, ends)?)
+}
+
+/// Prints the outcome of the work, and what both latches were left with.
+fn print<R: Print>(rt: &R, summary: &Summary) -> io::Result<()> {
+    let Summary {
         outcome,
         start,
         end,
-    } = told;
+    } = *summary;
     println!(rt;
-        "sum of {NUMBERS} squares at the end {}",
-        outcome.sum_at_end
-    )?;
-    println!(rt;
-        "began before the start {}, faults {}",
-        outcome.early, outcome.faults
-    )?;
-    println!(rt;
-        "start: calls {}, count {}",
-        start.share, start.balance.count
-    )?;
-    println!(rt; "end: calls {}, count {}", end.share, end.balance.count)
+        "sum of {NUMBERS} squares at the end {}\n\
+         began before the start {}, faults {}\n\
+         start: calls {}, count {}\n\
+         end: calls {}, count {}",
+        outcome.sum_at_end,
+        outcome.early,
+        outcome.faults,
+        start.calls,
+        start.count,
+        end.calls,
+        end.count
+    )
+}
+
+/// Runs the shift, and prints its outcome.
+pub fn run<R: Print + AllocGlobal + Threads + Wait + Clock + Sync>(rt: &R) -> io::Result<()> {
+    match play(rt, rt.alloc()) {
+        Ok(summary) => print(rt, &summary),
+        Err(fault) => println!(rt; "{fault}"),
+    }
 }

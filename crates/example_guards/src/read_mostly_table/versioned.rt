@@ -1,5 +1,6 @@
 //! The table, and the threads at it.
-ghost use Rattle.std.specs.Prelude.{◌≡◌, ◌≤◌, ◌+◌, ◌%◌, ◌^◌, IfErr, IfOk, IfSome, replicate};
+ghost use Rattle.std.specs.Prelude.{◌≡◌, ◌<◌, ◌≤◌, ◌+◌, ◌%◌, ◌^◌, IfErr, IfOk, IfSome, replicate};
+ghost use Rattle.guarded.specs.Reading.{reads};
 ghost use Rattle.history.specs.declared.fault.Fault.TheVariants.{OutOfMemory};
 ghost use Rattle.monitor.specs.Stepping.{IsSame};
 ghost use Rattle.monitor_fronts.specs.Holding.{holds};
@@ -20,7 +21,8 @@ const LOOKS_TO_AN_UPDATE: u64 = 20;
 
 const ROWS: usize = 4;
 
-/// Four rows and their version. An update writes each of them, and whoever has the lock finds all of one version.
+/// Four rows and their version. An update writes each of them, and whoever has the lock finds all of one
+/// version.
 #[derive(Drop)]
 pub struct Table {
     rows: Vec<u64>,
@@ -107,6 +109,33 @@ pub struct Worker {
     pub tally: Tally,
 }
 
+/// Reads the table with a read hold, and releases the hold. Returns the versions of the first row and the
+/// last.
+fn see_and_unread<R: Wait + Clock>(
+    rt: &R,
+    parking: &ThreadParking,
+    lock: &RwMutex<Table>,
+    pass: &mut Pass,
+) -> Result<(u64, u64), Fault>
+    requires is_of { pass.old.lock ≡ lock.now.lock }
+    requires places { lock.now.lock.header.seats ≤ parking.now }
+    requires reads { 0 < reads pass.old }
+    requires free { holds pass.old ≡ 0 }
+    ensures same { IsSame pass.old pass.new }
+    ensures free { holds pass.new ≡ 0 }
+    ensures whole { IfOk result (λ seen. seen.0 ≡ seen.1) }
+{
+    let seen = lock.read_with(
+        rt,
+        pass,
+        |table: &Table| -> (u64, u64)
+            ensures { result.0 ≡ result.1 }
+        { table.ends() },
+    );
+    lock.unread(rt, parking, pass)?;
+    Ok(seen)
+}
+
 /// Reads the table, together with other readers. Returns the versions of the first row and the last.
 fn look<R: Wait + Clock>(
     rt: &R,
@@ -122,27 +151,20 @@ fn look<R: Wait + Clock>(
     ensures whole { IfOk result (λ seen. seen.0 ≡ seen.1) }
 {
     lock.read(rt, parking, pass)?;
-    let seen = lock.read_with(
-        rt,
-        pass,
-        |table: &Table| -> (u64, u64)
-            ensures { result.0 ≡ result.1 }
-        { table.ends() },
-    );
-    lock.unread(rt, parking, pass)?;
-    Ok(seen)
+    see_and_unread(rt, parking, lock, pass)
 }
 
 /// What an update came to.
 #[derive(Clone, Copy)]
 struct Updated {
     made: u64,
-    /// The versions of the first row and the last when the writer read. None if it didn't acquire the read lock.
+    /// The versions of the first row and the last when the writer read. None if it didn't acquire the read
+    /// lock.
     seen: Option<(u64, u64)>,
 }
 
-/// Changes the table alone, and then reads it. It acquires the read lock before it releases the write lock, so no
-/// other writer comes between. If that fails, it holds nothing.
+/// Changes the table alone, and then reads it. It acquires the read lock before it releases the write lock,
+/// so no other writer comes between. If that fails, it holds nothing.
 fn update<R: Wait + Clock>(
     rt: &R,
     parking: &ThreadParking,
@@ -162,14 +184,7 @@ fn update<R: Wait + Clock>(
         return Ok(Updated { made, seen: None });
     }
     guard.downgrade();
-    let seen = lock.read_with(
-        rt,
-        pass,
-        |table: &Table| -> (u64, u64)
-            ensures { result.0 ≡ result.1 }
-        { table.ends() },
-    );
-    lock.unread(rt, parking, pass)?;
+    let seen = see_and_unread(rt, parking, lock, pass)?;
     Ok(Updated {
         made,
         seen: Some(seen),
