@@ -112,7 +112,7 @@ def steps(tree):
 def last_steps(tree, is_written):
     """Returns the steps that come at last, and do not disturb one another."""
     python, more = [sys.executable, "-B"], ["--write"] if is_written else []
-    yield [*python, f"{tree}/checks/bindings.py", f"{tree}/crates/aqs/out/aqs"], COUNTED
+    yield [*python, f"{tree}/checks/bindings.py", "--built", f"{tree}/crates/aqs/out/aqs"], COUNTED
     yield [*python, f"{tree}/checks/wrong_bodies.py", "--built", "--sample", seed(), *more], REFUSED
 
 

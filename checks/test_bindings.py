@@ -1,4 +1,4 @@
-"""How the step of the bindings reads what make check prints."""
+"""How the step of the bindings makes the library, and reads what make check prints."""
 import unittest
 
 import bindings
@@ -11,6 +11,14 @@ class Numbers(unittest.TestCase):
     def test_a_run_that_stopped_counts_nothing(self):
         self.assertIsNone(bindings.numbers_of("ok: one\n"))
         self.assertIsNone(bindings.numbers_of(""))
+
+
+class Making(unittest.TestCase):
+    def test_libraries_that_stand_are_not_made_anew(self):
+        self.assertEqual(bindings.making(False), ["rt", "lib"])
+        words = bindings.making(True)
+        self.assertEqual((words[1], words[-1]), ("build", bindings.CORE))
+        self.assertIn("staticlib", words)
 
 
 if __name__ == "__main__":
