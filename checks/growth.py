@@ -103,6 +103,7 @@ def growing(program):
     yield Case("audit", ["audit"], 100_000, lambda count: history(program, pairs(count)), 0)
     yield Case("audit on a base", ["audit"], 100_000, on_base, 0)
     yield Case("draw", ["draw"], 20_000, lambda count: history(program, pairs(count)), 4096)
+    yield Case("draw all", ["draw", "--from", "0"], 20_000, lambda count: history(program, pairs(count)), 4096)
     yield Case("run", ["run"], 100_000, lambda count: script(call, count), 2 * ENTRY, STACKS)
     yield Case("run with trims", ["run"], 100_000, lambda count: script([*call, "a trim"], count), 0, STACKS)
 

@@ -3,9 +3,14 @@
 A refusal is a goal of one function that the prover does not close. It reads that function's text and proof, the
 contracts of what it calls, types, definitions and lemmas. It reads no other function's body or proof. rt ci
 leaves exactly this in the rlib of each crate: src without bodies, the definitions, and the files of lemmas. We
-call it the crate's face. So a wrong body's sum is made of the kit, of the programs here that judge a trial, of the
-faces of its crate and of the crates below, of its function with its proof, and of the edit. It is the same on
+call it the crate's face. So a wrong body's sum is made of the kit's logic, of the programs here that judge a trial, of
+the faces of its crate and of the crates below, of its function with its proof, and of the edit. It is the same on
 each machine.
+
+Of the kit only the logic counts: the rules and libraries in which goals are stated. Two kits with one logic may differ
+in how they search. No sound search closes a false goal, so a line outlives such a change. A goal that is true and was
+only not found could be found by another kit. So KITS names the kits with which every wrong body was tried, and the
+gate says if it runs with another.
 
 The lines stand in crates/NAME/wrong-bodies/refused.txt, a sum and a name each.
 """
@@ -17,7 +22,7 @@ from kit import rt
 
 HERE = os.path.dirname(os.path.realpath(__file__))
 JUDGES = ("bodies.py", "kit.py", "ledger.py", "said.py", "trial.py")
-OF_THE_KIT = ("KIT-ID", "WHAT", "bin/rt", "bin/rtlib.py", "bin/rattle")
+KITS = f"{HERE}/kits.txt"
 SOURCES = ("src", "specs", "proofs")
 FACE = ("lang/src", "lang/antt/specs", "lang/antt/proofs")
 OF_A_FUNCTION = ("Answers.antt", "Invariants.antt", "Proof.antt")  # the parts of a function's proof, which no other reads
@@ -48,10 +53,19 @@ def files(top, leave_out=()):
     return found
 
 
+def kit():
+    """Returns the kit's line, as rt version prints it."""
+    return read(f"{rt.KIT}/KIT-ID").decode().strip()
+
+
 def kit_sum():
-    """Returns a sum of the kit by what it is, not by where or when it was unpacked."""
-    formats = [f"rlibs/{it}/format" for it in sorted(os.listdir(f"{rt.KIT}/rlibs"))]
-    return sum_of(*[read(f"{rt.KIT}/{it}") for it in (*OF_THE_KIT, *formats)])
+    """Returns a sum of the kit's logic."""
+    return sum_of(kit().partition(" ")[2].encode())
+
+
+def is_tried_with():
+    """Whether every wrong body was tried with this kit."""
+    return kit() in read(KITS).decode().splitlines()
 
 
 def judges_sum():

@@ -82,6 +82,21 @@ class Lines(unittest.TestCase):
         self.assertFalse(self.changes("low/src/lib.rt", SOURCE.replace("    2\n", "    4 - 2\n")))
         self.assertFalse(self.changes("low/out/low.rlib/lang/antt/proofs/one/Answers.antt", "another"))
 
+    def test_a_kit_with_another_logic_changes_the_sum_and_one_with_the_same_does_not(self):
+        mock.patch.stopall()
+        kits = ("kit-a logic 1", "kit-b logic 1", "kit-a logic 2")
+        with mock.patch.object(ledger, "kit", side_effect=kits):
+            made = [ledger.kit_sum() for _ in kits]
+        self.assertEqual(made[0], made[1])
+        self.assertNotEqual(made[0], made[2])
+
+    def test_a_kit_is_known_by_its_whole_line(self):
+        self.write("kits.txt", "# kits\nkit-a logic 1\n")
+        with mock.patch.object(ledger, "KITS", f"{self.root}/kits.txt"):
+            for name, known in (("kit-a logic 1", True), ("kit-a", False), ("kit-b logic 1", False)):
+                with mock.patch.object(ledger, "kit", lambda: name):
+                    self.assertEqual(ledger.is_tried_with(), known)
+
     def test_a_program_and_functions_that_share_a_proof_are_read_whole(self):
         self.write("high/proofs/+both/Proof.antt", "both")
         self.assertTrue(self.changes("high/src/lib.rt", SOURCE.replace("    2\n", "    4 - 2\n")))

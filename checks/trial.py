@@ -7,11 +7,11 @@ import tempfile
 from dataclasses import dataclass
 
 from bodies import body_of, composed, symbol_of
-from kit import rt
+from kit import AT_LIMIT, REFUSED, rt
 from said import Said
 
 ONE_JOB = ["--jobs", "1"]
-REFUSALS = (rt.REFUSED, rt.AT_LIMIT)  # by a failing goal, or by a limit of the prover, as rt ci counts them
+REFUSALS = (REFUSED, AT_LIMIT)  # by a failing goal, or by a limit of the prover, as rt ci counts them
 MOST = 60  # wrong bodies in one check: a crate has seldom more, and a check of so many takes some 1.5 GB
 
 
@@ -54,7 +54,7 @@ def picked(left, calls):
 def result_of(kind, text):
     """Returns what a trial by rt's rules came to. A refusal for a name that is gone says nothing of the contract."""
     is_by_name = "only because a proof file names" in text
-    return Result(kind in REFUSALS and not is_by_name, True, text.partition(": ")[2], kind == rt.AT_LIMIT)
+    return Result(kind in REFUSALS and not is_by_name, True, text.partition(": ")[2], kind == AT_LIMIT)
 
 
 def tried_by_itself(crate, edit):

@@ -194,6 +194,8 @@ def main(words):
     again = try_sample(ledgers, seed) if seed else 0
     refused, others = judged(ledgers, "--write" in flags)
     tell(f"tried {left} without a valid line or anew, and {again} of the others")
+    if not ledger.is_tried_with():
+        tell(f"the others stand by trials with other kits than {ledger.kit()}: --anew tries all")
     tell(f"{(time.monotonic() - at) / 60:.1f} minutes, {seconds() / 60:.1f} processor minutes")
     print(f"{refused} refused, {others} not refused", flush=True)
     return 1 if others else 0

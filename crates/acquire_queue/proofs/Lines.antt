@@ -9,7 +9,7 @@ use Rattle.std.proofs.lemmas.Iterator.Adapters.{position_from-zero}
 use Rattle.std.proofs.lemmas.Map.Steps.{length-le_from_distinct_below}
 use Rattle.history.specs.declared.arrival.Arrival.{Arrival}
 use Rattle.history.specs.Line.{place_of}
-use Rattle.acquire_queue.specs.Line.{StandOnce}
+use Rattle.history.specs.Waiting.{StandOnce}
 
 pub eqb_swap : (i j : ℕ) → eqb i j ≡ eqb j i
 eqb_swap i j = grind (arith, nat_tests)

@@ -12,8 +12,9 @@ use Rattle.node_arena.specs.declared.node.Node.{Node}
 use Rattle.node_arena.specs.declared.node.NodeNo.{NodeNo}
 use Rattle.node_arena.specs.declared.node.NumberedNode.{NumberedNode}
 use Rattle.node_arena.specs.NodeList.{Nodes, is_at, at_place, under, of_number, without_place, cancelled, cancel_at, StandApart}
-use Rattle.acquire_queue.specs.Line.{StandOnce, is_live, live, number_of, without_dead_head, swept, LiveHead, left_by, standing_behind, IsLinkedLine}
+use Rattle.acquire_queue.specs.Line.{is_live, live, number_of, without_dead_head, swept, LiveHead, left_by, standing_behind, IsLinkedLine}
 use Rattle.acquire_queue.proofs.Lines.{eqb_swap, place_of-push_other, once-push, once-left, left_absent, length-left, length-few}
+use Rattle.history.specs.Waiting.{StandOnce}
 
 -- a node that isn't cancelled, and what it asks for
 pub live_by : (x : NumberedNode) (rest : List NumberedNode) → x.node.cancelled ≡ false →

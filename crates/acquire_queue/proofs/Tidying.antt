@@ -8,8 +8,9 @@ use Rattle.node_arena.specs.declared.node.Node.{Node}
 use Rattle.node_arena.specs.declared.node.NodeNo.{NodeNo}
 use Rattle.node_arena.specs.declared.node.NumberedNode.{NumberedNode}
 use Rattle.node_arena.specs.NodeList.{Nodes, is_at, at_place, without_place, StandApart, standing_before}
-use Rattle.acquire_queue.specs.Line.{Line, StandOnce, live, number_of, is_first, tidied, IsTidy, LiveHead, IsLinkedLine}
+use Rattle.acquire_queue.specs.Line.{Line, live, number_of, is_first, tidied, IsTidy, LiveHead, IsLinkedLine}
 use Rattle.acquire_queue.proofs.Nodes.{either, live_by, live_past, number_past, absent_behind, stands_live, without_head, head_is, at_index, Found, find_node}
+use Rattle.history.specs.Waiting.{StandOnce}
 
 both : (b d : Bool) → (b && d) ≡ true → (b ≡ true) × (d ≡ true)
 both true true e = (refl, refl)

@@ -5,6 +5,7 @@ use Rattle.history.specs.Line.{place_of}
 use Rattle.node_arena.specs.declared.node.NodeNo.{NodeNo}
 use Rattle.node_arena.specs.declared.node.NumberedNode.{NumberedNode}
 use Rattle.node_arena.specs.NodeList.{Nodes, StandApart, cancel_at, standing_before}
+use Rattle.history.specs.Waiting.{StandOnce}
 
 -- The number of seats, how many ever joined, the waiters (the longest waiting first), and all nodes, with the
 -- cancelled ones.
@@ -13,11 +14,6 @@ pub record Line : Type 0 where
   pub joined : ℕ
   pub arrivals : List Arrival
   pub nodes : List NumberedNode
-
--- each seat is in the queue at most once
-abbrev pub StandOnce : List Arrival → Type 0
-StandOnce [] = Unit {0}
-StandOnce (a ∷ rest) = (place_of a.seat rest ≡ None) × StandOnce rest
 
 -- whether the seat of a node still waits
 abbrev pub is_live : NumberedNode → Bool

@@ -4,7 +4,8 @@ ghost use Rattle.std.specs.Prelude.{◌≡◌, ◌≢◌, ℕ, ◌+◌, ◌^◌,
 ghost use Rattle.std.specs.Bool.{OnFalse};
 ghost use Rattle.history.specs.Line.{first_of, place_of};
 ghost use Rattle.history.specs.declared.arrival.Arrival.{Arrival};
-ghost use Rattle.acquire_queue.specs.Line.{StandOnce, live, number_of, left_by, standing_behind, without_dead_head, swept, tidied, IsTidy};
+ghost use Rattle.history.specs.Waiting.{StandOnce};
+ghost use Rattle.acquire_queue.specs.Line.{live, number_of, left_by, standing_behind, without_dead_head, swept, tidied, IsTidy};
 ghost use Rattle.node_arena.specs.NodeList.{under, StandApart};
 
 use history::arrival::Arrival;

@@ -1,6 +1,6 @@
 pub mod Seated
 pub mod Standing
-pub mod Texts
+pub mod inner
 pub mod Owned
 pub mod Codes
 pub mod Calls

@@ -2,7 +2,7 @@
 ghost use Rattle.std.specs.Prelude.{◌≡◌, ◌≤◌, length, take, Some, IfOk};
 ghost use Rattle.std.specs.Option.{IsSomeAnd};
 ghost use Rattle.history_text.specs.Pieces.{history_text};
-ghost use Rattle.aqs_c.specs.Texts.{IsTextOf};
+ghost use Rattle.aqs_c.specs.inner.Texts.{IsTextOf};
 
 use history::entries::History;
 use history::fault::Fault;

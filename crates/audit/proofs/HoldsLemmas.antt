@@ -32,9 +32,3 @@ seat_with_zero (suc n) f h = rw (h n (omega arith)) (seat_with_zero n f (λ i l.
 pub seat_with_only : (n : ℕ) (f : ℕ → ℕ) (j : ℕ) → j < n → 0 < f j → ((i : ℕ) → j ≢ i → f i ≡ 0) →
     seat_with n f ≡ Some j
 seat_with_only n f j l p h = seat_with_one n f j l p (λ i ne. h i (λ q. ne (sym q)))
-
--- a new table has the same item everywhere
-pub blank : {X : Type 0} (n i : ℕ) (d : X) → get_or (replicate n d) i d ≡ d
-blank zero i d = refl
-blank (suc n) zero d = refl
-blank (suc n) (suc i) d = blank n i d

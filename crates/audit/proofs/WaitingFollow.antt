@@ -19,12 +19,12 @@ use Rattle.condition_queue.proofs.Movable.{movable}
 use Rattle.deciding.proofs.Bounds.{waits_by}
 use Rattle.deciding.specs.Sleep.{sleep_of}
 use Rattle.deciding.specs.declared.sleep.LastSleep.{LastSleep}
-use Rattle.audit.proofs.HoldsLemmas.{blank}
 use Rattle.audit.specs.declared.ledger.Ledger.{Ledger}
 use Rattle.audit.specs.declared.waiting.Waiting.{Waiting}
 use Rattle.audit.specs.Ledger.{IsNext, LedgerStand}
 use Rattle.audit.specs.Waiting.{never_slept, WaitingStand}
 use Rattle.audit.specs.inner.Waiting.{ended_by, NobodyWaits, saved_by, sleep_by}
+use Rattle.deciding.proofs.NewTables.{blank}
 
 -- a table of last sleeps that stays, or is written at the entry's seat
 slept_same : (s : Start) (e : Entry) (h : List Entry) (table : List LastSleep) →

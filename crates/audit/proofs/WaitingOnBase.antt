@@ -20,7 +20,8 @@ use Rattle.condition_queue.specs.Sleepers.{asleep_on}
 use Rattle.deciding.specs.Sleep.{sleep_of}
 use Rattle.audit.specs.declared.waiting.Waiting.{Waiting}
 use Rattle.audit.specs.Waiting.{never_slept, WaitingStand}
-use Rattle.audit.specs.inner.Waiting.{AreSleepers, or_kept, sleeping_seats}
+use Rattle.audit.specs.inner.Waiting.{AreSleepers, or_kept}
+use Rattle.history.specs.inner.BaseSleepers.{sleeping_seats}
 
 standing_seated : (b : Base) (n : ℕ) → n ≡ b.header.seats → (q : List LinePlace) →
     AllByRecursion (StandsWell b) q → AllByRecursion (λ p. p.who.seat < n) q

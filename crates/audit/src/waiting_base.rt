@@ -9,7 +9,8 @@ ghost use Rattle.history.specs.Base.{sleep_below, sleep_in_line, sleep_on, sleep
 ghost use Rattle.history.specs.Sleepers.{has};
 ghost use Rattle.history.specs.Waiting.{seats_of, times};
 ghost use Rattle.audit.specs.Waiting.{never_slept};
-ghost use Rattle.audit.specs.inner.Waiting.{AreAwake, AreSleepers, or_kept, sleeping_seats};
+ghost use Rattle.audit.specs.inner.Waiting.{AreAwake, AreSleepers, or_kept};
+ghost use Rattle.history.specs.inner.BaseSleepers.{sleeping_seats};
 
 use acquire_queue::queue::Queue;
 use condition_queue::waiters::Waiters;

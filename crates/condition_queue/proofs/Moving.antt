@@ -14,6 +14,7 @@ use Rattle.condition_queue.specs.declared.sleeper.Sleeper.{Sleeper}
 use Rattle.condition_queue.specs.Moves.{Moves}
 use Rattle.condition_queue.proofs.Lists.{has-append, without_first}
 use Rattle.condition_queue.proofs.Kept.{left_elsewhere}
+use Rattle.history.proofs.Awaiting.{comes_not}
 
 pub at_most_one_is : (n : ℕ) → 0 < n → at_most_one n ≡ 1
 at_most_one_is n p = rw (ne_eqb n 0 (λ e. absurd (omega (arith, e)))) refl
@@ -135,16 +136,6 @@ place_of-append i (a ∷ xs) ys p q = by (eqb a.seat i) p (λ e. place_of-append
     by true p ih = cc
     by false p ih = ih p
 
-place_of-moved : (i : ℕ) (xs : List ℕ) → has i xs ≡ false → place_of i (map coming_back xs) ≡ None
-place_of-moved i [] p = refl
-place_of-moved i (x ∷ xs) p = by (eqb x i) p (place_of-moved i xs)
-  where
-    by : (b : Bool) → (b || has i xs) ≡ false →
-        (has i xs ≡ false → place_of i (map coming_back xs) ≡ None) →
-        cond b (Some (coming_back x)) (place_of i (map coming_back xs)) ≡ None
-    by true p ih = cc
-    by false p ih = ih p
-
 drop_has : (i k : ℕ) (xs : List ℕ) → has i (drop k xs) ≡ true → has i xs ≡ true
 drop_has i zero xs p = p
 drop_has i (suc k) [] p = p
@@ -173,4 +164,4 @@ still_apart c k old mid before line moves once apart i p =
     ap (place_of i) moves.arrivals
     ∙ place_of-append i before.arrivals (map coming_back (take k (asleep_on old c)))
     (apart i (drop_has i k (asleep_on old c) q))
-    (place_of-moved i (take k (asleep_on old c)) (once_apart i k (asleep_on old c) once q))
+    (comes_not i (take k (asleep_on old c)) (once_apart i k (asleep_on old c) once q))

@@ -8,7 +8,8 @@ use Rattle.history.specs.Faults.{is_wrong_mode, is_no_condition, is_bad_amount}
 use Rattle.history.specs.Phase.{Phase, phase, suits}
 use Rattle.history.specs.Start.{Start}
 use Rattle.history.specs.Steps.{entry_for, phase_entry}
-use Rattle.deciding.specs.Checks.{refused_as, in_phase}
+use Rattle.deciding.specs.Checks.{refused_as}
+use Rattle.deciding.specs.inner.Checks.{in_phase}
 
 refused_by : {A : Type 0} (a b c : Bool) (r : Result A Fault) (f : Fault) →
     cond a (Some fault.WrongMode) (cond b (Some fault.NoSuchCondition) (cond c (Some fault.BadAmount) None))

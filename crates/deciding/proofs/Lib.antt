@@ -3,3 +3,4 @@ pub mod Bounds
 pub mod HoldsFollow
 pub mod InPhase
 pub mod HeldTables
+pub mod NewTables

@@ -4,3 +4,4 @@ pub mod Checks
 pub mod Holds
 pub mod ObjectState
 pub mod Sleep
+pub mod inner

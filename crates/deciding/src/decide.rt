@@ -13,7 +13,8 @@ ghost use Rattle.history.specs.Steps.{acquired, at_least_none, awaits, entry_for
 ghost use Rattle.history.specs.Steps.{signals, tried, tried_fairly};
 ghost use Rattle.history.specs.declared.entry.Entry.{Entry};
 ghost use Rattle.history.specs.declared.entry.Mode.TheVariants.{X};
-ghost use Rattle.deciding.specs.Checks.{in_phase, refused_as};
+ghost use Rattle.deciding.specs.Checks.{refused_as};
+ghost use Rattle.deciding.specs.inner.Checks.{in_phase};
 ghost use Rattle.deciding.specs.ObjectState.{HasHistory, HasSeat};
 
 use crate::checks::{refused_as, waits};

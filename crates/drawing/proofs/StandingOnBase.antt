@@ -15,13 +15,7 @@ use Rattle.drawing.specs.declared.standings.Standings.{Standings}
 use Rattle.drawing.specs.declared.standings.TheConstants.{CONDITIONS}
 use Rattle.history.specs.Marks.{is_placed}
 use Rattle.drawing.specs.Standings.{AreStanding}
-use Rattle.drawing.specs.inner.Tables.{sleeping_seats}
-
--- a new table has the same item everywhere
-pub blank : {X : Type 0} (n i : ℕ) (d : X) → get_or (replicate n d) i d ≡ d
-blank zero i d = refl
-blank (suc n) zero d = refl
-blank (suc n) (suc i) d = blank n i d
+use Rattle.history.specs.inner.BaseSleepers.{sleeping_seats}
 
 sleepers_seated : (b : Base) (c : ℕ) (xs : List Sleeper) → AllByRecursion (SleepsWell b c) xs →
     All (λ i. i < b.header.seats) (map (λ (x : Sleeper). x.seat) xs)

@@ -12,7 +12,8 @@ ghost use Rattle.history.specs.declared.entry.Mode.TheVariants.{X, S};
 ghost use Rattle.history.specs.declared.header.Header.{Header};
 ghost use Rattle.drawing.specs.Levels.{level};
 ghost use Rattle.drawing.specs.Standings.{AreStanding};
-ghost use Rattle.drawing.specs.inner.Tables.{holds_by, line_by, sleeping_seats, table_by};
+ghost use Rattle.drawing.specs.inner.Tables.{holds_by, line_by, table_by};
+ghost use Rattle.history.specs.inner.BaseSleepers.{sleeping_seats};
 
 use crate::kind::Kind;
 use crate::sleepers::Sleepers;

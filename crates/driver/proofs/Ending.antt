@@ -10,7 +10,8 @@ use Rattle.streams.specs.declared.stream_fault.StreamFault.TheVariants.{Text, Re
 use Rattle.streams.specs.Streams.{IsReadNoFurther, IsReadOut, IsReadTo, Streams}
 use Rattle.streams.specs.ReadingOn.{IsOfReading, IsToldFor, IsTooLong}
 use Rattle.driver.specs.Answers.{Writes}
-use Rattle.driver.specs.TextReader.{IsFaultBehind, IsFaultOf, IsPartLeft, Progress, WereRead}
+use Rattle.driver.specs.TextReader.{IsFaultOf, IsPartLeft, Progress, WereRead}
+use Rattle.driver.specs.inner.TextReader.{IsFaultBehind}
 use Rattle.driver.proofs.ReadingAhead.{too_long}
 
 -- ---- after a header

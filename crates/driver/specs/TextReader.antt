@@ -1,5 +1,22 @@
 -- Reading a text from a source, one item at a time.
-use Rattle.std.specs.Prelude.{◌+◌, ◌≤◌, ℕ, List, [], ◌∷◌, ◌++◌, length, Option, Some, None, Result, Ok, Err, IfSome, IsSomeAnd}
+use Rattle.std.specs.Prelude.{
+  ◌+◌,
+  ◌≤◌,
+  ℕ,
+  List,
+  [],
+  ◌∷◌,
+  ◌++◌,
+  length,
+  Option,
+  Some,
+  None,
+  Result,
+  Ok,
+  Err,
+  IfSome,
+  IsSomeAnd,
+}
 use Rattle.std.specs.Io.KnownBytes.{Keeps, prepend_known}
 use Rattle.line_text.specs.Form.{Form}
 use Rattle.line_text.specs.Reading.{IsText, IsReading}
@@ -39,11 +56,6 @@ IsFaultOf form text left (Text fault) = IfSome text (λ t. IsReading form t (Err
 IsFaultOf form text left ReadFailed = Unit {0}
 IsFaultOf form text left Memory = IsReadNoFurther form text left
 IsFaultOf form text left WriteFailed = ⊥
-
--- the faults after a header, whatever the text
-abbrev pub IsFaultBehind : {H I : Type 0} → Form H I → Progress H I → Option (List ℕ) → StreamFault → Type 0
-IsFaultBehind form p left fault =
-    (text : Option (List ℕ)) → WereRead form text p [] → IsFaultOf form text left fault
 
 -- the faults after whatever items were read
 abbrev pub IsFaultOn : {H I : Type 0} → Form H I → Progress H I → Option (List ℕ) → StreamFault → Type 0

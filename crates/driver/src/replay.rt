@@ -14,7 +14,7 @@ ghost use Rattle.driver.specs.Answers.{AreFolded};
 ghost use Rattle.driver.specs.inner.Logged.{IsLogged, IsRemarked, IsStepLogged, IsTrimLogged, gone, logged};
 ghost use Rattle.driver.specs.ReplayStream.{AreAnswersBehind};
 ghost use Rattle.driver.specs.StepReader.{progress};
-ghost use Rattle.driver.specs.TextReader.{IsFaultBehind};
+ghost use Rattle.driver.specs.inner.TextReader.{IsFaultBehind};
 ghost use Rattle.steps.specs.StepsText.{steps_form};
 
 use crate::remark::{Remark, remark_on, remark_on_trim};

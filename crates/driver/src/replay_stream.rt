@@ -7,7 +7,8 @@ ghost use Rattle.driver.specs.inner.ReplayStream.{AreAnswersTo};
 ghost use Rattle.streams.specs.Streams.{IsReadNoFurther, IsReadOut};
 ghost use Rattle.streams.specs.declared.stream_fault.StreamFault.TheVariants.{Memory};
 ghost use Rattle.driver.specs.StepReader.{progress};
-ghost use Rattle.driver.specs.TextReader.{IsFaultBehind, IsFaultOf};
+ghost use Rattle.driver.specs.TextReader.{IsFaultOf};
+ghost use Rattle.driver.specs.inner.TextReader.{IsFaultBehind};
 ghost use Rattle.steps.specs.StepsText.{steps_form};
 
 use crate::answers::Answers;

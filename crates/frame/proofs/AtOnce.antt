@@ -35,7 +35,8 @@ use Rattle.history.specs.Phase.{Idle, phase_by, waits}
 use Rattle.history.specs.Sleepers.{sleepers, sleepers_after, sleeps_below}
 use Rattle.history.specs.Start.{Start}
 use Rattle.history.specs.Steps.{acquired, entry_for, gave, idle_entry, plain, tried, tried_fairly}
-use Rattle.frame.specs.AtOnce.{Gives, IsAlone, IsAtOnce, IsIdle, Takes, moves_nobody}
+use Rattle.frame.specs.AtOnce.{Gives, IsAtOnce}
+use Rattle.frame.specs.inner.AtOnce.{IsAlone, IsIdle, Takes, moves_nobody}
 use Rattle.frame.specs.Core.{CoreView, counts_of, start_of, IsAdded}
 use Rattle.frame.proofs.Stepping.{Names}
 

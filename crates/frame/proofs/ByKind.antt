@@ -21,8 +21,9 @@ use Rattle.history.specs.Phase.{InLine, phase_by}
 use Rattle.history.specs.Sleepers.{sleeps_below}
 use Rattle.history.specs.Start.{Start}
 use Rattle.history.specs.Steps.{back, ended, entry_for, line_entry, queued_entry}
-use Rattle.frame.specs.AtOnce.{IsIdle, Takes, may_acquire, queues}
-use Rattle.frame.specs.Core.{CoreView, counts_of, first_mode_of, ready_of, start_of}
+use Rattle.frame.specs.inner.AtOnce.{IsIdle, Takes, may_acquire, queues}
+use Rattle.frame.specs.Core.{CoreView, counts_of, start_of}
+use Rattle.frame.specs.inner.Core.{first_mode_of, ready_of}
 use Rattle.frame.proofs.AtOnce.{admitted_so, idle_made, made_of}
 
 -- who is idle

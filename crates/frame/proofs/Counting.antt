@@ -24,10 +24,11 @@ use Rattle.history.specs.Steps.{gave, at_least_none, ended, back}
 use Rattle.history.proofs.Changes.{either_way}
 use Rattle.history.proofs.Entering.{Known, KnownBy}
 use Rattle.history.proofs.OneWait.{Waits}
-use Rattle.history.proofs.Owners.{ready_could, most_holds}
+use Rattle.history.proofs.Owners.{ready_could}
 use Rattle.history.proofs.WhoWaits.{comes_back}
 use Rattle.frame.specs.Effects.{counts_after, IsAllowed, IsTakeable}
 use Rattle.frame.specs.Hooks.{IsRestorable, let_go_answer, drain_answer_of, hold_limit}
+use Rattle.history.specs.Ownership.{most_exclusive}
 
 -- the counts behind an entry of a word
 abbrev counts_with : Start → List Entry → Entry → Word → Counts
@@ -151,7 +152,7 @@ drain_allowed (ReadWrite p) k t = cc
 drain_allowed (Semaphore p c) k t = refl
 drain_allowed (Latch c) k t = cc
 
-most_is : (o : Object) → most_holds o ≡ hold_limit o
+most_is : (o : Object) → most_exclusive o ≡ hold_limit o
 most_is (Lock p) = refl
 most_is (ReadWrite p) = refl
 most_is (Semaphore p c) = refl
@@ -174,7 +175,7 @@ granted_allowed s h e a w seat stands is goes =
 -- what a seat saved, and that it holds nothing
 record Saves (s : Start) (h : List Entry) (j : ℕ) : Type 0 where
   some : 1 ≤ (last_sleep s h j).holds
-  most : (last_sleep s h j).holds ≤ most_holds s.header.object
+  most : (last_sleep s h j).holds ≤ most_exclusive s.header.object
   none_held : held s h j X ≡ 0
 
 back_allowed : (s : Start) (h : List Entry) (e : Entry) (a : Arrival) → Waits s h → e.seat < s.header.seats →

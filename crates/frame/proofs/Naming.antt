@@ -26,7 +26,8 @@ use Rattle.history.proofs.SmallHolds.{asks_small}
 use Rattle.history.proofs.Changes.{all_stay}
 use Rattle.history.proofs.Entering.{KnownBy}
 use Rattle.history.proofs.LineLemmas.{line_after}
-use Rattle.frame.specs.Effects.{OpensNobody, asks_before, counts_after, may_name}
+use Rattle.frame.specs.Effects.{OpensNobody, counts_after, may_name}
+use Rattle.frame.specs.inner.Effects.{asks_before}
 use Rattle.deciding.specs.ObjectState.{IsHistory}
 use Rattle.deciding.proofs.Bounds.{first_below}
 use Rattle.frame.proofs.Recording.{names_below}

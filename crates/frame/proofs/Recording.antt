@@ -14,7 +14,23 @@ use Rattle.history.specs.Answers.{answer_by, recorded}
 use Rattle.history.specs.Naming.{named, named_by}
 use Rattle.history.specs.Room.{has_room, was_owed}
 use Rattle.history.specs.Steps.{entry_for}
-use Rattle.frame.specs.Core.{CoreView, made_by, places_behind, start_of, unmarked_at, IsAdded, IsAnswer, IsAnswered, IsRecorded, IsStepped, IsTold, IsOf, KeepsHolds, LacksMemory, NamesBelow}
+use Rattle.frame.specs.Core.{
+  CoreView,
+  made_by,
+  places_behind,
+  start_of,
+  unmarked_at,
+  IsAdded,
+  IsAnswer,
+  IsAnswered,
+  IsRecorded,
+  IsStepped,
+  IsTold,
+  IsOf,
+  KeepsHolds,
+  LacksMemory,
+  NamesBelow,
+}
 use Rattle.frame.specs.Tidied.{HasTidied, WasTidied}
 use Rattle.frame.proofs.Telling.{marks_slept}
 

@@ -1,35 +1,12 @@
 -- What is done at once: entries that move nobody, while the queue is empty.
-use Rattle.std.specs.Prelude.{◌≡◌, ℕ, Bool, true, false, not, ◌&&◌, ◌||◌, is_none, [], None, Ok, Some}
+use Rattle.std.specs.Prelude.{◌≡◌, ℕ, None, Ok, Some}
 use Rattle.deciding.specs.Checks.{refused_as}
 use Rattle.history.specs.declared.entry.Entry.{Entry}
 use Rattle.history.specs.declared.entry.Mode.{Mode}
-use Rattle.history.specs.declared.entry.Word.{Word}
 use Rattle.history.specs.declared.entry.Word.TheVariants as word
 use Rattle.history.specs.declared.step.Step.{Step}
-use Rattle.history.specs.Could.{could, held_back, limit}
-use Rattle.history.specs.Line.{line}
-use Rattle.history.specs.Phase.{Idle, phase}
 use Rattle.history.specs.Steps.{entry_for, gave}
-use Rattle.frame.specs.Core.{CoreView, counts_of, first_mode_of, start_of, IsAdded}
-
--- the words of an acquire or release that doesn't change who waits
-abbrev pub moves_nobody : Word → Bool
-moves_nobody word.Got = true
-moves_nobody word.TryGot = true
-moves_nobody word.Gave = true
-moves_nobody _ = false
-
--- the queue is empty, and the seat is idle
-pub record IsAlone (v : CoreView) (i : ℕ) : Type 0 where
-  pub header : (start_of v).header ≡ v.header
-  pub empty : line (start_of v) v.entries ≡ []
-  pub idle : phase (start_of v) v.entries i ≡ Idle
-
--- the object has such a step, and its seat could acquire
-pub record Takes (v : CoreView) (i : ℕ) (step : Step) (m : Mode) (n : ℕ) : Type 0 where
-  pub admitted : refused_as v.header step ≡ None
-  pub below : limit (counts_of v) i m ≡ false
-  pub could : could (counts_of v) i m n ≡ true
+use Rattle.frame.specs.Core.{CoreView, counts_of, start_of, IsAdded}
 
 -- the object has such a step, and its seat releases
 pub record Gives (v : CoreView) (i : ℕ) (step : Step) (m : Mode) (n : ℕ) : Type 0 where
@@ -40,18 +17,3 @@ pub record Gives (v : CoreView) (i : ℕ) (step : Step) (m : Mode) (n : ℕ) : T
 pub record IsAtOnce (old : CoreView) (i : ℕ) (step : Step) (e : Entry) (new : CoreView) : Type 0 where
   pub made : entry_for (start_of old) old.entries i step ≡ Ok (Some e)
   pub added : IsAdded old e (Ok None) new
-
--- whether the object has such a step, and its seat is below its limit
-abbrev pub may_acquire : CoreView → ℕ → Step → Mode → Bool
-may_acquire v i step m = is_none (refused_as v.header step) && not (limit (counts_of v) i m)
-
--- and whether an acquire joins the queue
-abbrev pub queues : CoreView → ℕ → Step → Mode → ℕ → Bool
-queues v i step m n =
-    may_acquire v i step m
-    && (held_back (counts_of v) (first_mode_of v) i m || not (could (counts_of v) i m n))
-
--- a seat that is idle
-pub record IsIdle (v : CoreView) (i : ℕ) : Type 0 where
-  pub header : (start_of v).header ≡ v.header
-  pub idle : phase (start_of v) v.entries i ≡ Idle

@@ -1,5 +1,32 @@
 -- A core as its callers see it, and how its fields represent that.
-use Rattle.std.specs.Prelude.{◌≡◌, Bool, ◌⊎◌, ◌≤◌, ◌<◌, ℕ, ◌+◌, max, true, false, List, [], ◌∷◌, length, slice_index_or, slice_set, Result, Ok, Err, Option, Some, IfSome, IfOk, IsOk, OnErr, ◌++◌}
+use Rattle.std.specs.Prelude.{
+  ◌≡◌,
+  Bool,
+  ◌⊎◌,
+  ◌≤◌,
+  ◌<◌,
+  ℕ,
+  ◌+◌,
+  max,
+  true,
+  false,
+  List,
+  [],
+  ◌∷◌,
+  length,
+  slice_index_or,
+  slice_set,
+  Result,
+  Ok,
+  Err,
+  Option,
+  Some,
+  IfSome,
+  IfOk,
+  IsOk,
+  OnErr,
+  ◌++◌,
+}
 use Rattle.acquire_queue.specs.Line.{Line}
 use Rattle.condition_queue.specs.Following.{JoinedBy, Keeps}
 use Rattle.condition_queue.specs.Sleepers.{Sleepers}
@@ -21,9 +48,8 @@ use Rattle.history.specs.Entries.{HistoryView, base_on, start_on}
 use Rattle.history.specs.Fold.{MayFold}
 use Rattle.history.specs.GoodBase.{most_folded}
 use Rattle.history.specs.Header.{IsInRange}
-use Rattle.history.specs.Line.{first_mode}
 use Rattle.history.specs.Marks.{AreRight, marks_after}
-use Rattle.history.specs.Naming.{named, ready}
+use Rattle.history.specs.Naming.{named}
 use Rattle.history.specs.Pages.{whole_pages}
 use Rattle.history.specs.Room.{owed, has_room, was_owed}
 use Rattle.history.specs.Start.{Start}
@@ -64,12 +90,6 @@ pub record StandsFor (s : Start) (h : List Entry) (v : CoreView) : Type 0 where
 -- the numbers that the history determines, and the mode that the head of its queue asks for
 abbrev pub counts_of : CoreView → Counts
 counts_of v = counts (start_of v) v.entries
-
-abbrev pub first_mode_of : CoreView → Option Mode
-first_mode_of v = first_mode (start_of v) v.entries
-
-abbrev pub ready_of : CoreView → Option ℕ
-ready_of v = ready (start_of v) v.entries
 
 -- whether a seat is marked
 abbrev pub marks_of : CoreView → ℕ → Bool

@@ -2,7 +2,17 @@
 use Rattle.std.specs.Prelude.{◌≡◌, ◌<◌, ℕ, Bool, true, false, Ok}
 use Rattle.history.specs.declared.entry.Entry.{Entry}
 use Rattle.history.specs.declared.entry.Word.{Word}
-use Rattle.history.specs.declared.entry.Word.TheVariants.{Got, TryGot, Granted, Gave, Counted, Await, Back, Drained, Left}
+use Rattle.history.specs.declared.entry.Word.TheVariants.{
+  Got,
+  TryGot,
+  Granted,
+  Gave,
+  Counted,
+  Await,
+  Back,
+  Drained,
+  Left,
+}
 use Rattle.history.specs.Changes.{took, given, let_go, restored, drained}
 use Rattle.history.specs.Could.{could}
 use Rattle.history.specs.Counts.{Counts}
@@ -55,11 +65,3 @@ may_name Gave = true
 may_name Counted = true
 may_name Await = true
 may_name _ = false
-
--- The words for which it matters who was ready before. Before a grant it is the seat that is granted.
-abbrev pub asks_before : Word → Bool
-asks_before Left = true
-asks_before Gave = true
-asks_before Counted = true
-asks_before Await = true
-asks_before _ = false

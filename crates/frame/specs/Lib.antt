@@ -7,3 +7,4 @@ pub mod Owners
 pub mod Runs
 pub mod Acts
 pub mod Tidied
+pub mod inner

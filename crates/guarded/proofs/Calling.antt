@@ -15,7 +15,7 @@ use Rattle.monitor_fronts.proofs.Counting.{of_lock}
 use Rattle.monitor_fronts.proofs.MakingRoom.{acquires_gain, awaits_keep, tries_gain}
 use Rattle.guarded.specs.declared.asking.Asked.{Asked}
 use Rattle.guarded.specs.declared.asking.Asked.TheVariants as asked
-use Rattle.guarded.specs.Asking.{call_of, gained_by}
+use Rattle.guarded.specs.inner.Asking.{call_of, gained_by}
 use Rattle.guarded.specs.declared.slot.Slot.{Slot}
 use Rattle.guarded.specs.declared.slot.Slot.TheVariants.{Empty, Full}
 use Rattle.guarded.specs.Stowed.{Carries, IsFull, IsOfLock, MutexView, mutex_view}

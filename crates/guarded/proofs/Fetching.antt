@@ -1,7 +1,7 @@
 -- What the calls of a pool leave of the free permits, and so of the items that one has.
 use Rattle.std.proofs.Common.{◌≡◌, ◌⊎◌, inl, inr, ℕ, Bool, true, false, cond, List, [], ◌∷◌, length, Option, Some}
 use Rattle.std.proofs.Common.{None, IfErr, Result, Ok, Err, refl, sym, ap, ◌∙◌, subst, arith}
-use Rattle.std.specs.Prelude.{ℤ, pos, ◌+ℤ◌, int_lt}
+use Rattle.std.specs.Prelude.{ℤ, pos, ◌+ℤ◌, ◌-ℤ◌, int_lt}
 use Rattle.std.proofs.lemmas.Int.{ints}
 use Rattle.history.specs.declared.limits.TheConstants.{MOST_AMOUNT}
 use Rattle.history.specs.declared.entry.End.TheVariants as end
@@ -43,10 +43,20 @@ use Rattle.guarded.specs.declared.asking.PoolCall.{PoolCall}
 use Rattle.guarded.specs.declared.asking.PoolCall.TheVariants as asks
 use Rattle.guarded.specs.declared.shelf.Shelf.{Shelf}
 use Rattle.guarded.specs.Asking.{yes_if_some}
-use Rattle.guarded.specs.Pooling.{Answers, asked_by, brought_by, free_after_call, free_if, has_after, is_done}
-use Rattle.guarded.specs.Pooling.{pool_call}
+use Rattle.guarded.specs.Pooling.{Answers}
+use Rattle.guarded.specs.inner.Pooling.{asked_by, brought_by, has_after, is_done, pool_call}
 use Rattle.guarded.specs.Shelved.{IsOfSemaphore}
 use Rattle.guarded.specs.Stowed.{MutexView, mutex_view}
+
+-- the free permits that the pass's own entries leave after a call
+abbrev pub free_if : Bool → PoolCall → ℤ → ℤ
+free_if true (asks.Acquire n how) f = f -ℤ pos n
+free_if true (asks.Try n) f = f -ℤ pos n
+free_if true (asks.Release n) f = f +ℤ pos n
+free_if false asked f = f
+
+abbrev pub free_after_call : PoolCall → Result Bool Fault → ℤ → ℤ
+free_after_call asked returned f = free_if (is_done returned) asked f
 
 -- an entry that leaves the free permits as the answer to its call says
 record Frees (asked : PoolCall) (e : Entry) : Type 0 where

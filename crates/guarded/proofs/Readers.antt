@@ -26,7 +26,8 @@ use Rattle.monitor_fronts.proofs.Exactly.{acquire_gains, gave_is, give_takes, tr
 use Rattle.monitor_fronts.proofs.MakingRoom.{in_room}
 use Rattle.guarded.specs.declared.asking.Reading.{Reading}
 use Rattle.guarded.specs.declared.asking.Reading.TheVariants as asks
-use Rattle.guarded.specs.Reading.{GainsReads, Saw, Sees, reading_of, reads}
+use Rattle.guarded.specs.Reading.{GainsReads, Saw, reads}
+use Rattle.guarded.specs.inner.Reading.{Sees, reading_of}
 use Rattle.guarded.specs.Stowed.{Rests}
 use Rattle.guarded.specs.declared.slot.Slot.{Slot}
 use Rattle.guarded.specs.declared.slot.Slot.TheVariants.{Empty, Full}

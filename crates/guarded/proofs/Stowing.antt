@@ -7,7 +7,8 @@ use Rattle.history.specs.Object.{is_lock}
 use Rattle.monitor.specs.Load.{IsTurn}
 use Rattle.guarded.specs.declared.slot.Slot.{Slot}
 use Rattle.guarded.specs.declared.slot.Slot.TheVariants.{Empty, Full}
-use Rattle.guarded.specs.Stowed.{IsStowed, Carries, Rests, differ, crosses}
+use Rattle.guarded.specs.Stowed.{IsStowed, Carries, Rests}
+use Rattle.guarded.specs.inner.Stowed.{differ, crosses}
 
 some_left : (n : ℕ) → eqb n 0 ≡ false → 0 < n
 some_left n q =

@@ -11,11 +11,8 @@ use Rattle.monitor.specs.Stepping.{IsEntered}
 use Rattle.monitor.specs.declared.how.How.{How}
 use Rattle.monitor.specs.declared.machine.Request.TheVariants.{Acquire, AwaitOn}
 use Rattle.monitor.specs.declared.room.WhenFull.{WhenFull}
-use Rattle.monitor_fronts.specs.Holding.{gained}
 use Rattle.monitor_fronts.specs.Returned.{done_of, whether_of}
 use Rattle.permit.specs.Deed.{Deed}
-use Rattle.guarded.specs.declared.asking.Asked.{Asked}
-use Rattle.guarded.specs.declared.asking.Asked.TheVariants as asked
 use Rattle.guarded.specs.Full.{Call}
 
 -- the calls of the monitor
@@ -35,22 +32,6 @@ signal_step false condition = Signal condition
 
 abbrev pub signals : (Deed → Type 0) → Bool → ℕ → Call
 signals did all condition w old reply new = IsEnteredIn w did old (signal_step all condition) reply new
-
-abbrev pub call_of : (Deed → Type 0) → Asked → Call
-call_of did (asked.Acquire how) = acquires did how
-call_of did (asked.Try) = tries did
-call_of did (asked.Await condition how) = awaits did condition how
-
--- the calls of a pass that doesn't hold the lock
-abbrev pub IsTake : Asked → Type 0
-IsTake (asked.Await condition how) = ⊥
-IsTake _ = Unit {0}
-
--- the holds that such a call adds
-abbrev pub gained_by : Asked → Result Entry Fault → ℕ
-gained_by (asked.Acquire how) reply = gained (whether_of reply)
-gained_by (asked.Try) reply = gained (whether_of reply)
-gained_by (asked.Await condition how) reply = 0
 
 -- the call had a reply, and this is what is returned for it
 abbrev pub CallReturns : WhenFull → Call → Shown → Shown → Result Bool Fault → Type 0

@@ -2,8 +2,8 @@ pub mod Stowed
 pub mod Guarding
 pub mod Full
 pub mod Asking
-pub mod Lending
 pub mod GuardLending
 pub mod Reading
 pub mod Shelved
 pub mod Pooling
+pub mod inner

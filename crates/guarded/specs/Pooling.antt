@@ -1,5 +1,5 @@
 -- What the calls of a pool ask of its monitor, and what becomes of the items.
-use Rattle.std.specs.Prelude.{if◌then◌else◌, ◌≡◌, ◌⊎◌, ℕ, ℤ, pos, ◌+ℤ◌, ◌-ℤ◌}
+use Rattle.std.specs.Prelude.{◌≡◌, ◌⊎◌, ℕ, ℤ, pos, ◌+ℤ◌, ◌-ℤ◌}
 use Rattle.std.specs.Prelude.{Bool, true, false, Result, Ok, Err}
 use Rattle.history.specs.declared.entry.Mode.TheVariants.{S}
 use Rattle.history.specs.declared.fault.Fault.{Fault}
@@ -26,41 +26,6 @@ tries_fetch did n w old reply new = IsEnteredIn w did old (Try S n) reply new
 
 abbrev pub gives_back : (Deed → Type 0) → ℕ → Call
 gives_back did n w old reply new = IsEnteredIn w did old (Give S n) reply new
-
-abbrev pub pool_call : (Deed → Type 0) → PoolCall → Call
-pool_call did (asks.Acquire n how) = fetches did n how
-pool_call did (asks.Try n) = tries_fetch did n
-pool_call did (asks.Release n) = gives_back did n
-
--- how many items a call brings
-abbrev pub brought_by : PoolCall → ℕ
-brought_by (asks.Release n) = n
-brought_by _ = 0
-
--- how many items it asks for
-abbrev pub asked_by : PoolCall → ℕ
-asked_by (asks.Acquire n how) = n
-asked_by (asks.Try n) = n
-asked_by (asks.Release n) = 0
-
--- the call had what it asked for
-abbrev pub is_done : Result Bool Fault → Bool
-is_done (Ok b) = b
-is_done (Err f) = false
-
--- how many items the caller has after a call, by what it returned
-abbrev pub has_after : PoolCall → Result Bool Fault → ℕ
-has_after asked returned = if is_done returned then asked_by asked else brought_by asked
-
--- the free permits that the pass's own entries leave after a call
-abbrev pub free_if : Bool → PoolCall → ℤ → ℤ
-free_if true (asks.Acquire n how) f = f -ℤ pos n
-free_if true (asks.Try n) f = f -ℤ pos n
-free_if true (asks.Release n) f = f +ℤ pos n
-free_if false asked f = f
-
-abbrev pub free_after_call : PoolCall → Result Bool Fault → ℤ → ℤ
-free_after_call asked returned f = free_if (is_done returned) asked f
 
 -- an acquire without time and a release have no answer 'no'
 abbrev pub MayMiss : PoolCall → Type 0

@@ -15,9 +15,6 @@ use Rattle.monitor.specs.declared.machine.Request.TheVariants.{Acquire}
 use Rattle.monitor_fronts.specs.Holding.{gained, holds}
 use Rattle.monitor_fronts.specs.Returned.{done_of}
 use Rattle.permit.specs.Deed.{Deed}
-use Rattle.guarded.specs.declared.asking.Reading.{Reading}
-use Rattle.guarded.specs.declared.asking.Reading.TheVariants as asks
-use Rattle.guarded.specs.declared.slot.Slot.{Slot}
 use Rattle.guarded.specs.declared.slot.Slot.TheVariants.{Full}
 use Rattle.guarded.specs.Full.{Call}
 use Rattle.guarded.specs.Stowed.{Rests}
@@ -33,10 +30,6 @@ reads_by did how w old reply new = IsCallIn w did old (Acquire S 1) how reply ne
 abbrev pub tries_read : (Deed → Type 0) → Call
 tries_read did w old reply new = IsEnteredIn w did old (Try S 1) reply new
 
-abbrev pub reading_of : (Deed → Type 0) → Reading → Call
-reading_of did (asks.Acquire how) = reads_by did how
-reading_of did (asks.Try) = tries_read did
-
 -- a read hold was given back, or the step was refused, and this is what is returned for it
 abbrev pub GivesRead : (Deed → Type 0) → Shown → Result (Unit {0}) Fault → Shown → Type 0
 GivesRead did old returned new =
@@ -51,7 +44,3 @@ pub record GainsReads (old : Shown) (returned : Result Bool Fault) (new : Shown)
 abbrev pub Saw : {T A : Type 0} → (T → A → Type 0) → Shown → A → Type 0
 Saw {T} returns p answer =
     (value : T) × Rests (Full value) (counts (start_at p.seen) p.seen.entries) × returns value answer
-
--- an answer was given at the value of a slot
-abbrev pub Sees : {T A : Type 0} → (T → A → Type 0) → Slot T → A → Type 0
-Sees {T} returns slot answer = (value : T) × (slot ≡ Full value) × returns value answer

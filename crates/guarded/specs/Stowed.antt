@@ -1,5 +1,5 @@
 -- Where the value of a guarded lock is: under the lock, or with the one owner.
-use Rattle.std.specs.Prelude.{◌≡◌, ◌<◌, ◌==◌, ℕ, Bool, true, false, not, Option, Some, None}
+use Rattle.std.specs.Prelude.{◌≡◌, ◌<◌, ℕ, true, Option, Some, None}
 use Rattle.std.proofs.Common.{◌∙◌, sym, subst}
 use Rattle.history.specs.declared.entry.Mode.TheVariants.{X}
 use Rattle.history.specs.Counts.{Counts}
@@ -24,15 +24,6 @@ pub record Rests {T : Type 0} (value : Slot T) (k : Counts) : Type 0 where
 abbrev pub Carries : {T : Type 0} → ℕ → Slot T → Type 0
 Carries n Empty = n ≡ 0
 Carries n (Full x) = 0 < n
-
--- whether just one of the two is so
-abbrev pub differ : Bool → Bool → Bool
-differ true y = not y
-differ false y = y
-
--- the first hold came, or the last one went
-abbrev pub crosses : ℕ → ℕ → Bool
-crosses before after = differ (before == 0) (after == 0)
 
 stowed_alike : {T : Type 0} (v : Slot T) (f g : ℕ → ℕ) → ((i : ℕ) → g i ≡ f i) → IsStowed f v → IsStowed g v
 stowed_alike Empty f g same s = (s.0, subst (λ (n : ℕ). 0 < n) (sym (same s.0)) s.1)

@@ -18,8 +18,9 @@ ghost use Rattle.monitor.specs.Stepping.{IsSame};
 ghost use Rattle.monitor_fronts.specs.Returned.{whether_of};
 ghost use Rattle.guarded.specs.Asking.{CallReturns, yes_if_some};
 ghost use Rattle.monitor_fronts.specs.Holding.{with_yes};
-ghost use Rattle.guarded.specs.Pooling.{Answers, asked_by, brought_by, fetches, has_after};
-ghost use Rattle.guarded.specs.Pooling.{is_done, pool_call};
+ghost use Rattle.guarded.specs.Pooling.{Answers, fetches};
+ghost use Rattle.guarded.specs.inner.Pooling.{asked_by, brought_by, has_after};
+ghost use Rattle.guarded.specs.inner.Pooling.{is_done, pool_call};
 ghost use Rattle.guarded.specs.Shelved.{Lies};
 ghost use Rattle.word_lock.specs.Point.{Before};
 

@@ -1,7 +1,8 @@
 //! The place of the value of a lock: in the lock while no thread holds it, with the owner while one does.
 ghost use Rattle.std.specs.Prelude.{◌≡◌, if◌then◌else◌};
 ghost use Rattle.std.specs.Borrow.{sem};
-ghost use Rattle.guarded.specs.Stowed.{IsFull, crosses, slot_of};
+ghost use Rattle.guarded.specs.Stowed.{IsFull, slot_of};
+ghost use Rattle.guarded.specs.inner.Stowed.{crosses};
 ghost use Rattle.guarded.specs.declared.slot.Slot.TheVariants.{Full};
 
 use monitor::{Holds, Load};
@@ -17,7 +18,7 @@ pub enum Slot<T> {
 }
 
 impl<T: Drop> Slot<T> {
-    ghost use Rattle.guarded.specs.Lending.{LendsSlot};
+    ghost use Rattle.guarded.specs.inner.Lending.{LendsSlot};
 
     pub(crate) fn value(&self) -> &T
         requires { IsFull self.now }

@@ -11,7 +11,7 @@ use Rattle.history.specs.declared.entry.Word.TheVariants as word
 use Rattle.history.specs.declared.fault.Fault.{Fault}
 use Rattle.history.specs.declared.step.Step.{Step}
 use Rattle.history.specs.declared.step.Step.TheVariants.{Look, Expire, Interrupt}
-use Rattle.history.specs.Awaiting.{SleepsAs, ReturnsAs, AwaitsAs, AwaitMakes, sleeps_on, comes_back, lapses, LapsesBy, signalled, lapsed, back_from, lapse_from}
+use Rattle.history.specs.Awaiting.{SleepsAs, ReturnsAs, AwaitsAs, signalled, lapsed, back_from, lapse_from}
 use Rattle.history.specs.Could.{is_seat}
 use Rattle.history.specs.Entry.{ends_arrival}
 use Rattle.history.specs.Line.{line, arrivals_by, place_of, coming_back}
@@ -25,6 +25,21 @@ use Rattle.history.proofs.Entering.{KnownBy, known}
 use Rattle.history.proofs.SleepLemmas.{last_sleep_other, sleepers_here, sleepers_other, sleeps_there, idle_parts}
 use Rattle.history.proofs.Staying.{stays_in_line, arrives_by, arrives_itself}
 use Rattle.history.proofs.Times.{times-append, times-take_drop, times-without_other, has_once, has_not, once_has}
+
+-- a wait on a condition lapses by a timeout or by an interrupt
+abbrev pub LapsesBy : Step → End → Type 0
+LapsesBy Expire how = how ≡ end.Timeout
+LapsesBy Interrupt how = how ≡ end.Interrupt
+LapsesBy _ how = ⊥
+
+-- What a step of a seat within an await makes: nothing, the end of its await, or its lapse. After a lapse the
+-- seat is on its way back.
+pub data AwaitMakes (s : Start) (h : List Entry) (i : ℕ) (w : Sleep) (step : Step) (made : Option Entry)
+    : Type 0 where
+  sleeps_on : made ≡ None → AwaitMakes s h i w step made
+  comes_back : ReturnsAs s h i w → made ≡ Some (back_from i w) → AwaitMakes s h i w step made
+  lapses : (how : End) → LapsesBy step how → made ≡ Some (lapse_from i w how) → SleepsAs s h i w →
+      ReturnsAs s (lapse_from i w how ∷ h) i (lapsed w how) → AwaitMakes s h i w step made
 
 -- one of a list of those who come back is on its way back, and another is not among them
 comes : (i : ℕ) (xs : List ℕ) → has i xs ≡ true → place_of i (map coming_back xs) ≡ Some (coming_back i)

@@ -13,7 +13,16 @@ use Rattle.history.specs.declared.fault.Fault.{Fault}
 use Rattle.history.specs.declared.fault.Fault.TheVariants as fault
 use Rattle.history.specs.Fault.{fault_name, IsRecorded}
 use Rattle.history.specs.Text.{line_of, words_of}
-use Rattle.history.specs.EntryWords.{mode_word, end_word, spelt, entry_words, GaveUp, CameBack, HasWords, IsWritten}
+use Rattle.history.specs.EntryWords.{
+  mode_word,
+  end_word,
+  spelt,
+  entry_words,
+  GaveUp,
+  CameBack,
+  HasWords,
+  IsWritten,
+}
 use Rattle.history.specs.EntryReading.{given_up_at, come_back_at, recorded_at, asked_at, condition_at, sleepers_at, left_at, refused_at, lapse_at, back_at, shared_at, named_entry_at, entry_at}
 use Rattle.history.specs.Reading.{Words}
 use Rattle.history.proofs.Numbers.{number_at_again}

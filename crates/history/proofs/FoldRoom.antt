@@ -7,7 +7,7 @@ use Rattle.history.specs.declared.base.SeatBase.{SeatBase}
 use Rattle.history.specs.declared.entry.Entry.{Entry}
 use Rattle.history.specs.declared.entry.Word.TheVariants as word
 use Rattle.history.specs.Base.{Base, based, folded, seat_of, sleepers_of, standing_after}
-use Rattle.history.specs.BasePlaces.{HasPlaces}
+use Rattle.history.specs.inner.BasePlaces.{HasPlaces}
 use Rattle.history.specs.GoodBase.{IsGood, IsModest}
 use Rattle.history.specs.Header.{IsInRange}
 use Rattle.history.specs.Line.{line}

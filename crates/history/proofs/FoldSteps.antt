@@ -7,12 +7,12 @@ use Rattle.history.specs.declared.limits.TheConstants.{MOST_FOLDED}
 use Rattle.history.specs.declared.entry.Entry.{Entry}
 use Rattle.history.specs.declared.header.Header.{Header}
 use Rattle.history.specs.Base.{Base, based, folded, opening_base}
-use Rattle.history.specs.BasePlaces.{HasPlaces}
+use Rattle.history.specs.inner.BasePlaces.{HasPlaces}
 use Rattle.history.specs.Fold.{MayFold}
 use Rattle.history.specs.Header.{IsInRange}
 use Rattle.history.specs.Legal.{AreSeated}
 use Rattle.history.specs.NextBase.{next_base}
-use Rattle.history.specs.Paged.{in_pages}
+use Rattle.history.specs.inner.Paged.{in_pages}
 use Rattle.history.proofs.FoldRoom.{fold_places}
 use Rattle.history.proofs.Folding.{folds_on, legal_goes_on}
 use Rattle.history.proofs.GoodFolds.{fold_modest}

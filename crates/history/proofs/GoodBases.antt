@@ -14,14 +14,12 @@ use Rattle.history.specs.Counts.{held, total}
 use Rattle.history.specs.GoodBase.{AreHeld, GaveUp, IsGood, SleepsWell, StandsWell}
 use Rattle.history.specs.Line.{line}
 use Rattle.history.specs.Object.{is_lock}
-use Rattle.history.specs.Ownership.{IsOwned}
+use Rattle.history.specs.Ownership.{IsOwned, most_exclusive}
 use Rattle.history.specs.Sleepers.{has, last_sleep, sleepers}
 use Rattle.history.specs.Start.{Sleep}
 use Rattle.history.specs.Waiting.{seats_of, times}
 use Rattle.history.proofs.LineLemmas.{line_at_first}
-use Rattle.history.proofs.OneOwner.{same_limit}
 use Rattle.history.proofs.OneWait.{Saved, SavedIfBack, Sleeps, Waits}
-use Rattle.history.proofs.Owners.{most_holds}
 use Rattle.history.proofs.SleepLemmas.{times-waiting}
 use Rattle.history.proofs.Times.{has_once, never_has, once_same, total_part}
 
@@ -168,8 +166,7 @@ module _ (b : Base) (good : IsGood b) where
         seat = gave.seat;
         condition = subst (λ (x : Sleep). x.condition < b.header.conditions) e gave.condition;
         some = subst (λ (x : Sleep). 1 ≤ x.holds) e gave.some;
-        most = subst (λ (x : Sleep). x.holds ≤ most_holds b.header.object) e
-            (subst (λ n. w.holds ≤ n) (sym (same_limit b.header.object)) gave.most);
+        most = subst (λ (x : Sleep). x.holds ≤ most_exclusive b.header.object) e gave.most;
         nothing = gave.nothing;
       }
 
@@ -263,6 +260,5 @@ module _ (b : Base) (good : IsGood b) where
         sleepers = sleeps_well;
         line = subst (AllByRecursion (SavedIfBack (based b) [])) (sym line_is)
             (each_comes_well b.line good.line (λ i t. t));
-        holds = λ i l lock. subst (λ n. held (based b) [] i X ≤ n) (sym (same_limit b.header.object))
-            ((good_owned lock).exclusive i);
+        holds = λ i l lock. (good_owned lock).exclusive i;
       }

@@ -39,7 +39,7 @@ use Rattle.history.proofs.Folding.{fold_alike, get_or-each, length-each, none_be
 use Rattle.history.proofs.GoodBases.{good_owned, good_waits}
 use Rattle.history.proofs.LineLemmas.{line_after, line_at_first}
 use Rattle.history.proofs.Lists.{calls-ended, ended_calls_le}
-use Rattle.history.proofs.OneOwner.{Owned, cases_below, is_owned, owned_on, same_limit}
+use Rattle.history.proofs.OneOwner.{Owned, cases_below, is_owned, owned_on}
 use Rattle.history.proofs.OneWait.{Saved, SavedIfBack, Sleeps, Waits, acts, line_stays, placed, waits_from}
 use Rattle.history.proofs.Permits.{IsLow, created_fits, free_fits_on, held_grows, low_on, no_exclusive, unheld_grows, unheld_none, fits_at_most}
 use Rattle.history.proofs.Queueing.{joining_owns_nothing}
@@ -340,7 +340,7 @@ module _ (b : Base) (g : List Entry) (range : IsInRange b.header) (can : CanFold
         seat = w.seat;
         condition = w.condition;
         some = w.some;
-        most = subst (λ n. (last_sleep (based b) g i).holds ≤ n) (same_limit b.header.object) w.most;
+        most = w.most;
         nothing = λ m. held_at i m ∙ w.nothing m;
       }
 

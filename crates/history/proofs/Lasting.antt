@@ -16,7 +16,7 @@ use Rattle.history.specs.declared.header.Header.{Header}
 use Rattle.history.specs.declared.point.Point.{Point}
 use Rattle.history.specs.declared.step.Step.{Step}
 use Rattle.history.specs.declared.step.Step.TheVariants.{Expire, Interrupt}
-use Rattle.history.specs.Awaiting.{AwaitMakes, AwaitsAs, LapsesBy, ReturnsAs, SleepsAs, comes_back, lapse_from, lapsed, lapses, sleeps_on}
+use Rattle.history.specs.Awaiting.{AwaitsAs, ReturnsAs, SleepsAs, lapse_from, lapsed}
 use Rattle.history.specs.Base.{based, folded, seat_of}
 use Rattle.history.specs.Entries.{ended_calls}
 use Rattle.history.specs.Entry.{ends_arrival, ends_call}
@@ -29,7 +29,16 @@ use Rattle.history.specs.Sleepers.{has, last_sleep, sleeps_below}
 use Rattle.history.specs.Start.{Sleep, Start, opening}
 use Rattle.history.specs.Steps.{entry_for}
 use Rattle.history.proofs.Alike.{Alike, ReturnAlike, away_alike, on}
-use Rattle.history.proofs.Awaiting.{AwaitTurn, await_turn, awaits_other}
+use Rattle.history.proofs.Awaiting.{
+  AwaitMakes,
+  AwaitTurn,
+  LapsesBy,
+  await_turn,
+  awaits_other,
+  comes_back,
+  lapses,
+  sleeps_on,
+}
 use Rattle.history.proofs.Entering.{admitted, known}
 use Rattle.history.proofs.Folding.{goes_on}
 use Rattle.history.proofs.GoodBases.{good_waits}

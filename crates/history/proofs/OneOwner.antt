@@ -23,7 +23,7 @@ use Rattle.history.specs.Sleepers.{last_sleep, sleeps_below}
 use Rattle.history.specs.Start.{Start, opening}
 use Rattle.history.proofs.Entering.{Known, KnownBy, known, seat_is}
 use Rattle.history.proofs.OneWait.{Saved, SavedIfBack, Waits, opening_waits, placed, waits, waits_from}
-use Rattle.history.proofs.Owners.{most_holds, nobody_holds, owner_holds, ready_could, semaphore_no_lock}
+use Rattle.history.proofs.Owners.{nobody_holds, owner_holds, ready_could, semaphore_no_lock}
 use Rattle.history.proofs.SleepLemmas.{held_other, sleeps_at}
 use Rattle.history.proofs.Sums.{total_change, total_nothing, total_same}
 use Rattle.history.proofs.Times.{place_once, total_part}
@@ -322,12 +322,6 @@ owned_from k h lock legal seats =
     })
     legal seats
 
-pub same_limit : (o : Object) → most_holds o ≡ most_exclusive o
-same_limit (Lock p) = refl
-same_limit (ReadWrite p) = refl
-same_limit (Semaphore p c) = refl
-same_limit (Latch c) = refl
-
 -- a lock or read-write lock has one owner at most, nobody else reads beside it, and holds have their limits
 pub is_owned : (s : Start) (h : List Entry) → is_lock s.header.object ≡ true → Waits s h → Owned s h →
     IsOwned s h
@@ -336,7 +330,7 @@ is_owned s h lock waits v =
       one = v.one;
       alone = v.alone;
       exclusive = λ i. ⊎_elim
-          (λ l. subst (λ n. held s h i X ≤ n) (same_limit s.header.object) (waits.holds i l lock))
+          (λ l. waits.holds i l lock)
           (λ l. let z = v.seats i X l in omega (arith, z)) (cases_below i s.header.seats);
       shared = v.shared;
     }
@@ -357,7 +351,7 @@ saved_from s h v i t =
         record {
           nothing = r.nothing;
           some = r.some;
-          most = subst (λ n. (last_sleep s h i).holds ≤ n) (same_limit s.header.object) r.most;
+          most = r.most;
         }
 
     by : (o : Option Arrival) (b : Bool) → place_of i (line s h) ≡ o →

@@ -25,9 +25,10 @@ use Rattle.history.specs.Steps.{lapse}
 use Rattle.history.specs.Waiting.{times, seats_of, asleep, waiting, IsOneWait}
 use Rattle.history.proofs.Entering.{Known, KnownBy, known}
 use Rattle.history.proofs.LineLemmas.{line_after, stays}
-use Rattle.history.proofs.Owners.{owner_holds, most_holds, within_limit, ready_could}
+use Rattle.history.proofs.Owners.{owner_holds, within_limit, ready_could}
 use Rattle.history.proofs.SleepLemmas.{last_sleep_other, held_other, sleepers_here, slept_before, sleeps_at, awake_nowhere, idle_parts, sleeping_parts, times-waiting, times-line_after, total_moved, total_kept, leaves_sleepers}
 use Rattle.history.proofs.Times.{each-append, one_if, once_same, times-append, times-take_drop, times-without_same, times-without_other, has_once, once_has, place_once, place_never, seats-coming_back, total_part}
+use Rattle.history.specs.Ownership.{most_exclusive}
 
 -- What is known of a seat that gave up its holds to sleep, and hasn't come back: it holds nothing, and saved
 -- what it held.
@@ -36,7 +37,7 @@ pub record Saved (s : Start) (h : List Entry) (i : ℕ) : Type 0 where
   pub seat : i < s.header.seats
   pub condition : (last_sleep s h i).condition < s.header.conditions
   pub some : 1 ≤ (last_sleep s h i).holds
-  pub most : (last_sleep s h i).holds ≤ most_holds s.header.object
+  pub most : (last_sleep s h i).holds ≤ most_exclusive s.header.object
   pub nothing : (m : Mode) → held s h i m ≡ 0
 
 -- What is known of a seat that sleeps on a condition.
@@ -61,7 +62,7 @@ pub record Waits (s : Start) (h : List Entry) : Type 0 where
   pub sleepers : (c i : ℕ) → has i (sleepers s h c) ≡ true → Sleeps s h c i
   pub line : AllByRecursion (SavedIfBack s h) (line s h)
   pub holds : (i : ℕ) → i < s.header.seats → is_lock s.header.object ≡ true →
-      held s h i X ≤ most_holds s.header.object
+      held s h i X ≤ most_exclusive s.header.object
 
 -- Whose entry it is: an idle seat's, one's that leaves the line, or a sleeper's that lapses.
 pub data Acts (s : Start) (h : List Entry) (e : Entry) : Type 0 where
@@ -158,7 +159,7 @@ saved_other s e h i ne v =
       seat = v.seat;
       condition = subst (λ (w : Sleep). w.condition < s.header.conditions) l v.condition;
       some = subst (λ (w : Sleep). 1 ≤ w.holds) l v.some;
-      most = subst (λ (w : Sleep). w.holds ≤ most_holds s.header.object) l v.most;
+      most = subst (λ (w : Sleep). w.holds ≤ most_exclusive s.header.object) l v.most;
       nothing = λ m. held_other s e h i m ne ∙ v.nothing m;
     }
 
@@ -410,14 +411,14 @@ placed P i (b ∷ q) a all p = by (eqb b.seat i) p (λ r. placed P i q a all.1 r
 
 -- nobody holds more than the limit
 holds_next : (s : Start) (h : List Entry) (e : Entry) → Waits s h → Known s h e → (i : ℕ) →
-    i < s.header.seats → is_lock s.header.object ≡ true → held s (e ∷ h) i X ≤ most_holds s.header.object
+    i < s.header.seats → is_lock s.header.object ≡ true → held s (e ∷ h) i X ≤ most_exclusive s.header.object
 holds_next s h e v k i l lock = by (eqb e.seat i && same_mode e.mode X) refl
   where
     had : ℕ
     had = held s h i X
 
     most : ℕ
-    most = most_holds s.header.object
+    most = most_exclusive s.header.object
 
     old : had ≤ most
     old = v.holds i l lock

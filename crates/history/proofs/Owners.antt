@@ -51,16 +51,9 @@ pub no_owner : (o : Option ℕ) (i : ℕ) → is_seat o i ≡ false → is_none_
 no_owner None i f t = refl
 no_owner (Some j) i f t = cc
 
--- the greatest number of exclusive holds of one seat
-abbrev pub most_holds : Object → ℕ
-most_holds (Lock policy) = MOST_HOLDS
-most_holds (ReadWrite policy) = MOST_READ_WRITE_HOLDS
-most_holds (Semaphore policy permits) = 0
-most_holds (Latch opening) = 0
-
 -- whoever could take exclusively is within the limit when it has
 pub within_limit : (k : Counts) (i n : ℕ) → i < k.seats → could k i X n ≡ true →
-    k.held i X + in_holds k.object n ≤ most_holds k.object
+    k.held i X + in_holds k.object n ≤ most_exclusive k.object
 within_limit k i n l t = by k.object t
   where
     writes : (b : Bool) → is_seat (owner k) i ≡ b →
@@ -72,7 +65,7 @@ within_limit k i n l t = by k.object t
         let z : k.held i X ≡ 0 = nobody_holds k i (no_owner (owner k) i s parts.0) l in
         omega (arith, z)
 
-    by : (o : Object) → could_of o k i X n ≡ true → k.held i X + in_holds o n ≤ most_holds o
+    by : (o : Object) → could_of o k i X n ≡ true → k.held i X + in_holds o n ≤ most_exclusive o
     by (Lock policy) u =
         let parts = and_parts (is_none_or (owner k) i) (ltb (k.held i X) MOST_HOLDS) u in
         let m = ltb-true (k.held i X) MOST_HOLDS parts.1 in

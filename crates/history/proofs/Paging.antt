@@ -6,7 +6,7 @@ use Rattle.std.proofs.lemmas.List.{length-append, length-map, append_assoc, appe
 use Rattle.std.proofs.lemmas.Option.{slice_get_past}
 use Rattle.std.proofs.Math.Seq.{take-append_seam}
 use Rattle.history.specs.declared.entry.Entry.{Entry}
-use Rattle.history.specs.Paged.{AreFull, AreKept, in_pages}
+use Rattle.history.specs.inner.Paged.{AreFull, AreKept, in_pages}
 
 -- as many pages written over a list as it has
 pub all_written : {X : Type 0} (ys zs : List X) (n : ℕ) → n ≡ length ys → take n (ys ++ zs) ≡ ys

@@ -14,7 +14,7 @@ use Rattle.history.specs.declared.header.Policy.TheVariants.{Fair, NonFair, Stri
 use Rattle.history.specs.Header.{IsInRange, IsOpening}
 use Rattle.history.specs.Text.{line_of, words_of}
 use Rattle.history.specs.Spelling.{policy_word, object_words, part_words, part_of}
-use Rattle.history.specs.HeaderReading.{policy_at, permits_from, lock_at, semaphore_at, latch_at, header_at}
+use Rattle.history.specs.inner.HeaderReading.{policy_at, permits_from, lock_at, semaphore_at, latch_at, header_at}
 use Rattle.history.specs.Reading.{Words}
 use Rattle.history.proofs.Numbers.{number_again, number_at_again, digits_alone}
 use Rattle.history.proofs.Plain.{is_plain, ArePlain, words_again, decimal_plain, signed_plain}

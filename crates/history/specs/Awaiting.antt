@@ -1,12 +1,10 @@
 -- A seat within an await: it waits on its condition, or in the queue on its way back.
-use Rattle.std.specs.Prelude.{◌≡◌, ◌⊎◌, ℕ, ◌<◌, true, List, ◌∷◌, Option, Some, None}
+use Rattle.std.specs.Prelude.{◌≡◌, ◌⊎◌, ℕ, ◌<◌, true, List, Some, None}
 use Rattle.history.specs.declared.entry.End.{End}
 use Rattle.history.specs.declared.entry.End.TheVariants as end
 use Rattle.history.specs.declared.entry.Entry.{Entry}
 use Rattle.history.specs.declared.entry.Mode.TheVariants.{X}
 use Rattle.history.specs.declared.entry.Word.TheVariants as word
-use Rattle.history.specs.declared.step.Step.{Step}
-use Rattle.history.specs.declared.step.Step.TheVariants.{Expire, Interrupt}
 use Rattle.history.specs.Line.{line, place_of, coming_back}
 use Rattle.history.specs.Sleepers.{sleepers, last_sleep, has}
 use Rattle.history.specs.Start.{Start, Sleep}
@@ -39,18 +37,3 @@ back_from i w = record { seat = i; word = word.Back; mode = X; n = w.holds; at =
 
 abbrev pub lapse_from : ℕ → Sleep → End → Entry
 lapse_from i w how = record { seat = i; word = word.Lapse; mode = X; n = 0; at = w.condition; end = how }
-
--- a wait on a condition lapses by a timeout or by an interrupt
-abbrev pub LapsesBy : Step → End → Type 0
-LapsesBy Expire how = how ≡ end.Timeout
-LapsesBy Interrupt how = how ≡ end.Interrupt
-LapsesBy _ how = ⊥
-
--- What a step of a seat within an await makes: nothing, the end of its await, or its lapse. After a lapse the
--- seat is on its way back.
-pub data AwaitMakes (s : Start) (h : List Entry) (i : ℕ) (w : Sleep) (step : Step) (made : Option Entry)
-    : Type 0 where
-  sleeps_on : made ≡ None → AwaitMakes s h i w step made
-  comes_back : ReturnsAs s h i w → made ≡ Some (back_from i w) → AwaitMakes s h i w step made
-  lapses : (how : End) → LapsesBy step how → made ≡ Some (lapse_from i w how) → SleepsAs s h i w →
-      ReturnsAs s (lapse_from i w how ∷ h) i (lapsed w how) → AwaitMakes s h i w step made

@@ -38,25 +38,6 @@ spelt word.Back m n at e = codes "back" ∷ decimal at ∷ decimal n ∷ end_wor
 spelt word.Counted m n at e = codes "counted" ∷ mode_word m ∷ decimal n ∷ []
 spelt word.Drained m n at e = codes "drained" ∷ mode_word m ∷ decimal n ∷ []
 
--- the words with a mode and an amount, and nothing else
-abbrev pub IsAsked : Word → Type 0
-IsAsked word.Got = Unit {0}
-IsAsked word.TryGot = Unit {0}
-IsAsked word.Queued = Unit {0}
-IsAsked word.Granted = Unit {0}
-IsAsked word.Missed = Unit {0}
-IsAsked word.Gave = Unit {0}
-IsAsked _ = ⊥
-
--- the words with a condition and an amount
-abbrev pub IsOfCondition : Word → Type 0
-IsOfCondition word.Await = Unit {0}
-IsOfCondition word.Lapse = Unit {0}
-IsOfCondition word.Signal = Unit {0}
-IsOfCondition word.SignalAll = Unit {0}
-IsOfCondition word.Back = Unit {0}
-IsOfCondition _ = ⊥
-
 abbrev pub entry_words : Entry → List (List ℕ)
 entry_words e = spelt e.word e.mode e.n e.at e.end
 

@@ -34,7 +34,4 @@ pub mod Fold
 pub mod Numbering
 pub mod Awaiting
 pub mod Marks
--- Only private contracts cite these.
-pub mod HeaderReading
-pub mod Paged
-pub mod BasePlaces
+pub mod inner

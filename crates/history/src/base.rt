@@ -4,7 +4,7 @@ ghost use Rattle.std.specs.Prelude.{◌≡◌, ◌+◌, ◌≤◌, ◌↔◌, []
 ghost use Rattle.history.specs.declared.limits.TheConstants.{MOST_FOLDED};
 ghost use Rattle.history.specs.declared.fault.Fault.TheVariants.{OutOfMemory};
 ghost use Rattle.history.specs.Base.{based, each_below, nothing, opening_base, sleepers_of};
-ghost use Rattle.history.specs.BasePlaces.{HasPlaces};
+ghost use Rattle.history.specs.inner.BasePlaces.{HasPlaces};
 ghost use Rattle.history.specs.Counts.{total};
 ghost use Rattle.history.specs.Fold.{MayFold};
 ghost use Rattle.history.specs.Header.{IsInRange};

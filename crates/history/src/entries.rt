@@ -42,7 +42,7 @@ pub struct History {
 impl Model for History {
     ghost use Rattle.std.specs.Prelude.{reverse};
     ghost use Rattle.history.specs.Entries.{HistoryView};
-    ghost use Rattle.history.specs.Paged.{HasRoomOwed};
+    ghost use Rattle.history.specs.inner.Paged.{HasRoomOwed};
 
     ghost Value = { HistoryView };
 

@@ -7,7 +7,16 @@ ghost use Rattle.history.specs.declared.entry.Mode.{Mode};
 ghost use Rattle.history.specs.declared.entry.Mode.TheVariants.{X, S};
 ghost use Rattle.history.specs.declared.limits.TheConstants.{LAST_CONDITION, MOST_AMOUNT};
 ghost use Rattle.history.specs.EntryReading.{given_up_at, come_back_at, recorded_at, asked_at, condition_at, sleepers_at, left_at, refused_at, lapse_at, back_at, shared_at, named_entry_at, entry_at, in_mode, on_condition, asking, waking};
-ghost use Rattle.history.specs.EntryWords.{mode_word, end_word, entry_words, spelt, GaveUp, CameBack, HasWords, IsWritten};
+ghost use Rattle.history.specs.EntryWords.{
+  mode_word,
+  end_word,
+  entry_words,
+  spelt,
+  GaveUp,
+  CameBack,
+  HasWords,
+  IsWritten,
+};
 ghost use Rattle.history.specs.Fault.{fault_name, IsRecorded};
 ghost use Rattle.history.specs.Reading.{Words, with_rest};
 

@@ -79,7 +79,8 @@ impl End {
 impl Entry {
     ghost use Rattle.std.specs.Prelude.{◌≡◌, ◌+◌, ◌≤◌, ◌++◌, ◌↔◌, IsTrue, OnOk, OnErr, IsOkUnless, take, drop, length};
     ghost use Rattle.history.specs.Text.{line_of};
-    ghost use Rattle.history.specs.EntryWords.{entry_words, IsAsked, IsOfCondition, IsSpelt, IsWritten};
+    ghost use Rattle.history.specs.EntryWords.{entry_words, IsSpelt, IsWritten};
+    ghost use Rattle.history.specs.inner.EntryWords.{IsAsked, IsOfCondition};
 
     /// Returns whether the words of an entry spell it: each field that they leave out has the value that a
     /// reader gives it.

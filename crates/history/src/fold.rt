@@ -5,7 +5,7 @@ ghost use Rattle.std.specs.Option.{option_map};
 ghost use Rattle.history.specs.declared.limits.TheConstants.{MOST_FOLDED};
 ghost use Rattle.history.specs.Base.{folded};
 ghost use Rattle.history.specs.Fold.{MayFold};
-ghost use Rattle.history.specs.Paged.{in_pages};
+ghost use Rattle.history.specs.inner.Paged.{in_pages};
 
 use crate::base::Base;
 use crate::entry::Entry;

@@ -5,7 +5,7 @@ ghost use Rattle.std.specs.Fmt.{signed_decimal};
 ghost use Rattle.history.specs.Text.{line_of};
 ghost use Rattle.history.specs.Header.{IsInRange};
 ghost use Rattle.history.specs.Spelling.{policy_word, part_words};
-ghost use Rattle.history.specs.HeaderReading.{lock_at, semaphore_at, latch_at, header_at};
+ghost use Rattle.history.specs.inner.HeaderReading.{lock_at, semaphore_at, latch_at, header_at};
 ghost use Rattle.history.specs.Reading.{with_rest};
 ghost use Rattle.history.specs.declared.header.Header.{Header};
 ghost use Rattle.history.specs.declared.header.Object.TheVariants.{Lock, ReadWrite};
@@ -20,7 +20,7 @@ use std::alloc::AllocError;
 const LARGEST_CAP: u64 = 4_294_967_295;
 
 /// Reads the rest of a lock's or read-write lock's header.
-#[tactic(auto, unfolding(crate::specs::HeaderReading::lock_at))]
+#[tactic(auto, unfolding(crate::specs::inner::HeaderReading::lock_at))]
 fn lock(words: &mut Words<'_>, read_write: bool) -> Option<Header>
     ensures is { with_rest result words.new ≡ lock_at (if read_write then ReadWrite else Lock) words.old }
     ensures found { IfSome result (λ h. IsInRange h
@@ -43,7 +43,7 @@ fn lock(words: &mut Words<'_>, read_write: bool) -> Option<Header>
     })
 }
 
-#[tactic(auto, unfolding(crate::specs::HeaderReading::semaphore_at))]
+#[tactic(auto, unfolding(crate::specs::inner::HeaderReading::semaphore_at))]
 fn semaphore(words: &mut Words<'_>) -> Option<Header>
     ensures is { with_rest result words.new ≡ semaphore_at words.old }
     ensures found { IfSome result (λ h. IsInRange h
@@ -62,7 +62,7 @@ fn semaphore(words: &mut Words<'_>) -> Option<Header>
     })
 }
 
-#[tactic(auto, unfolding(crate::specs::HeaderReading::latch_at))]
+#[tactic(auto, unfolding(crate::specs::inner::HeaderReading::latch_at))]
 fn latch(words: &mut Words<'_>) -> Option<Header>
     ensures is { with_rest result words.new ≡ latch_at words.old }
     ensures found { IfSome result (λ h. IsInRange h ×
@@ -79,7 +79,7 @@ fn latch(words: &mut Words<'_>) -> Option<Header>
     })
 }
 
-#[tactic(auto, unfolding(crate::specs::HeaderReading::header_at))]
+#[tactic(auto, unfolding(crate::specs::inner::HeaderReading::header_at))]
 fn header(words: &mut Words<'_>) -> Option<Header>
     ensures is { with_rest result words.new ≡ header_at words.old }
     ensures found { IfSome result (λ h. IsInRange h × (words.old ≡ part_words h ++ words.new)) }

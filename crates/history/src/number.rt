@@ -1,6 +1,6 @@
 //! Numbers in decimal. Each number has one spelling.
 
-ghost use Rattle.history.specs.HeaderReading.{permits_from};
+ghost use Rattle.history.specs.inner.HeaderReading.{permits_from};
 ghost use Rattle.history.specs.Reading.{number_from, wide_from};
 ghost use Rattle.std.specs.Int.{w32};
 ghost use Rattle.std.specs.Fmt.{signed_decimal};
@@ -52,7 +52,7 @@ pub fn number_of(bytes: &[u8]) -> Option<u64>
 }
 
 /// Returns the number of 32 bits that the bytes spell, with a minus sign if it is negative.
-#[tactic(auto, unfolding(crate::specs::HeaderReading::permits_from))]
+#[tactic(auto, unfolding(crate::specs::inner::HeaderReading::permits_from))]
 pub(crate) fn permits_of(bytes: &[u8]) -> Option<i32>
     ensures is { result ≡ permits_from bytes.now }
     ensures found { IfSome result (λ z. (bytes.now ≡ signed_decimal z) × FitsSigned w32 z) }

@@ -2,7 +2,7 @@
 
 ghost use Rattle.std.specs.Prelude.{◌≡◌, ◌+◌, ◌*◌, ◌^◌, ◌<◌, ◌≤◌, ◌++◌, max, [], ◌∷◌, length, set, get_or, slice_get, IsFalse, IsOk, IsTrue, OnOk, OnErr, vec_capacity};
 ghost use Rattle.history.specs.Pages.{whole_pages};
-ghost use Rattle.history.specs.Paged.{AreKept, in_pages};
+ghost use Rattle.history.specs.inner.Paged.{AreKept, in_pages};
 
 use crate::entry::Entry;
 use crate::page::{PLACES, Page, clear_pages, reserve_pages};
@@ -29,7 +29,7 @@ pub(crate) struct Pages {
 
 impl Model for Pages {
     ghost use Rattle.std.specs.Prelude.{◌≡◌, ◌+◌, ◌*◌, ◌++◌, length, vec_capacity};
-    ghost use Rattle.history.specs.Paged.{AreKept, PagesView, in_pages};
+    ghost use Rattle.history.specs.inner.Paged.{AreKept, PagesView, in_pages};
 
     ghost Value = { PagesView };
 

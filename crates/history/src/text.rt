@@ -8,7 +8,7 @@ use memchr::memchr;
 /// Returns the first position of the byte. It is meant for short texts, as a word; for long ones use
 /// `memchr`.
 #[inline(always)]
-pub fn place_of(byte: u8, bytes: &[u8]) -> Option<usize>
+pub fn position_of(byte: u8, bytes: &[u8]) -> Option<usize>
     ensures { result ≡ position (λ b. b == byte) bytes.now }
 {
     bytes.iter().position(|b| *b == byte)

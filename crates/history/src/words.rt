@@ -6,13 +6,13 @@ ghost use Rattle.std.specs.Fmt.{signed_decimal};
 ghost use Rattle.history.specs.Text.{words_of};
 ghost use Rattle.history.specs.Spelling.{policy_word};
 ghost use Rattle.history.specs.EntryWords.{mode_word};
-ghost use Rattle.history.specs.HeaderReading.{policy_at, permits_at};
+ghost use Rattle.history.specs.inner.HeaderReading.{policy_at, permits_at};
 ghost use Rattle.history.specs.Reading.{with_rest, word_at, keyword_at, number_from, number_at, wide_at, mode_at, named_at};
 
 use crate::entry::Mode;
 use crate::header::Policy;
 use crate::number::{number_of, permits_of, wide_of};
-use crate::text::place_of;
+use crate::text::position_of;
 use std::marker::Model;
 
 /// The words of a line that are still to be read.
@@ -48,7 +48,7 @@ impl<'a> Words<'a> {
             (λ word. self.old ≡ word.now ∷ self.new) }
     {
         let rest = self.rest?;
-        match place_of(b' ', rest) {
+        match position_of(b' ', rest) {
             Some(at) => {
                 self.rest = Some(&rest[at + 1..]);
                 Some(&rest[..at])

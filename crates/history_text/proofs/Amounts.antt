@@ -34,11 +34,11 @@ use Rattle.history.proofs.GoodBases.{good_waits}
 use Rattle.history.proofs.GoodFolds.{free_fits_base, line_seated_on}
 use Rattle.history.proofs.OneWait.{Saved, Waits, waits_from, placed, lapsing}
 use Rattle.history.proofs.OpeningBase.{opening_good}
-use Rattle.history.proofs.Owners.{most_holds}
 use Rattle.history.proofs.SmallHolds.{stand_few}
 use Rattle.history.proofs.WhoWaits.{comes_back, few_wait}
 use Rattle.history_text.specs.EntryLines.{HasLine}
 use Rattle.history_text.proofs.Spelt.{all_spelt_on}
+use Rattle.history.specs.Ownership.{most_exclusive}
 
 -- no more sleep on one condition than on all
 asleep_part : (s : Start) (h : List Entry) (c n : ℕ) → c < n → length (sleepers s h c) ≤ length (asleep n s h)
@@ -55,7 +55,7 @@ asleep_part s h c (suc n) l = ⊎_elim same (other (λ below. asleep_part s h c 
         length (sleepers s h c) ≤ length (asleep (suc n) s h)
     other before ne = let p = before (omega (arith, l, ne)) in let a = all in omega (arith, p, a)
 
-most_few : (o : Object) → most_holds o ≤ MOST_AMOUNT
+most_few : (o : Object) → most_exclusive o ≤ MOST_AMOUNT
 most_few (Lock p) = omega arith
 most_few (ReadWrite p) = omega arith
 most_few (Semaphore p c) = omega arith

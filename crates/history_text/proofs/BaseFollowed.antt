@@ -6,7 +6,8 @@ use Rattle.history.specs.declared.base.Sleeper.{Sleeper}
 use Rattle.history.specs.Base.{Base}
 use Rattle.history_text.specs.declared.base_line.BaseLine.{BaseLine}
 use Rattle.history_text.specs.declared.base_line.BaseLine.TheVariants.{Sleeps, Stands}
-use Rattle.history_text.specs.BaseFollowing.{AllFollow, HaveFollowed, after_told}
+use Rattle.history_text.specs.BaseFollowing.{after_told}
+use Rattle.history_text.specs.inner.BaseFollowing.{AllFollow, HaveFollowed}
 use Rattle.history_text.specs.BaseLines.{base_lines, first_line, seat_lines, sleeper_lines}
 use Rattle.history_text.specs.BaseRules.{BaseSums, with_sums, no_sums}
 use Rattle.history_text.proofs.BaseWhole.{told-append}

@@ -7,7 +7,7 @@ use Rattle.std.proofs.lemmas.List.Elements.{All-get_or, All-map, recursion_from_
 use Rattle.history.specs.declared.header.Header.{Header}
 use Rattle.history.specs.Base.{Base, each_below, nothing, opening_base}
 use Rattle.history.proofs.Folding.{get_or-each, length-each}
-use Rattle.history_text.specs.BaseFollowing.{IsUnused}
+use Rattle.history_text.specs.inner.BaseFollowing.{IsUnused}
 
 -- a list of so many of the same
 all_same : {A : Type 0} (n : ℕ) (x : A) → All (λ y. y ≡ x) (each_below n (λ i. x))

@@ -31,7 +31,7 @@ use Rattle.history.proofs.Sums.{total_change, total_nothing, total_same}
 use Rattle.history.proofs.Times.{once_same, times-append, total_part}
 use Rattle.history_text.specs.declared.base_line.BaseLine.{BaseLine}
 use Rattle.history_text.specs.declared.base_line.BaseLine.TheVariants.{Stands, Sleeps}
-use Rattle.history_text.specs.BaseFollowing.{IsCountedFor}
+use Rattle.history_text.specs.inner.BaseFollowing.{IsCountedFor}
 use Rattle.history_text.specs.BaseTelling.{Follow, base_by, sums_of}
 use Rattle.history_text.specs.ToldBases.{IsToldBase}
 use Rattle.history_text.specs.BaseLines.{base_lines, first_line}

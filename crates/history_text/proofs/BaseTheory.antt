@@ -9,23 +9,21 @@ use Rattle.history.specs.Header.{IsInRange}
 use Rattle.history_text.specs.declared.base_line.BaseLine.{BaseLine}
 use Rattle.history_text.specs.declared.base_line.BaseLine.TheVariants.{Folded, Released, CountedDown}
 use Rattle.history_text.specs.declared.base_line.BaseLine.TheVariants.{Seat, Stands, Sleeps}
-use Rattle.history_text.specs.BaseFollowing.{AllFollow, AllRead, HasShape, after_told, with_lines}
+use Rattle.history_text.specs.BaseFollowing.{AllRead, after_told, with_lines}
+use Rattle.history_text.specs.inner.BaseFollowing.{AllFollow, HasShape}
 use Rattle.history_text.specs.BaseLines.{base_lines, first_line}
 use Rattle.history_text.specs.BaseRules.{AllSeated, MayFollow, BaseSums, with_sums, no_sums, with_line}
 use Rattle.history_text.specs.ToldBases.{IsToldBase}
 use Rattle.history_text.proofs.BaseRetold.{good_told}
 use Rattle.history_text.proofs.BaseTold.{gave_moved, header_after, header_kept, stands_moved, whole_told}
 use Rattle.history_text.proofs.BaseWalk.{IsTold, base_told}
+use Rattle.history_text.specs.BaseTelling.{base_by}
 
 -- a good base of some entries, with a header in range
 pub record IsGoodOf (b : Base) : Type 0 where
   pub range : IsInRange b.header
   pub some : 1 ≤ b.entries
   pub good : IsGood b
-
--- the base that lines say
-abbrev pub said : Header → List BaseLine → Base
-said k xs = with_lines (opening_base k) xs
 
 of_header : (k : Header) (b : Base) → IsInRange k → IsToldBase k b → IsGoodOf b
 of_header k b range is =
@@ -89,7 +87,7 @@ pub good_reads : (b : Base) → IsGoodOf b → AllRead (opening_base b.header) n
 good_reads b of = (good_told b of.range of.good of.some).follow
 
 -- a good base is read as it is told
-pub good_again : (b : Base) → IsGoodOf b → said b.header (base_lines b) ≡ b
+pub good_again : (b : Base) → IsGoodOf b → base_by b.header (base_lines b) ≡ b
 good_again b of = (good_told b of.range of.good of.some).same
 
 pub good_follows : (b : Base) → IsGoodOf b → AllFollow b no_sums (base_lines b)
@@ -99,10 +97,10 @@ good_follows b of =
 -- lines that may follow each other, and tell all seats, are those of a good base, the one that they say
 pub reads_good : (k : Header) (xs : List BaseLine) → IsInRange k → AllRead (opening_base k) no_sums xs →
     AllSeated k (after_told no_sums xs)
-    → IsGoodOf (said k xs) × (base_lines (said k xs) ≡ xs)
+    → IsGoodOf (base_by k xs) × (base_lines (base_by k xs) ≡ xs)
 reads_good k xs range read all =
     let whole = whole_told k xs range read all in
-    (of_header k (said k xs) range whole.1, sym whole.0)
+    (of_header k (base_by k xs) range whole.1, sym whole.0)
 
 -- a base that has the shape of its object, and each of whose lines may follow those before it, is good
 first_read : (b : Base) (o : Object) → MayFollow no_sums b (first_line o b) →

@@ -20,7 +20,8 @@ use Rattle.history.specs.Object.{opening_count}
 use Rattle.history.proofs.Times.{once_same, one_if}
 use Rattle.history_text.specs.declared.base_line.BaseLine.{BaseLine}
 use Rattle.history_text.specs.declared.base_line.BaseLine.TheVariants.{Seat, Stands, Sleeps}
-use Rattle.history_text.specs.BaseFollowing.{IsCountedFor, AllRead, with_lines, after_told}
+use Rattle.history_text.specs.BaseFollowing.{AllRead, with_lines, after_told}
+use Rattle.history_text.specs.inner.BaseFollowing.{IsCountedFor}
 use Rattle.history_text.specs.BaseTelling.{Follow, base_by, sums_of}
 use Rattle.history_text.specs.BaseLines.{base_lines, first_line, seat_lines, sleeper_lines}
 use Rattle.history_text.specs.BaseRules.{AllSeated, IsFree, MayFollow, BaseSums, with_sums, no_sums, with_line}

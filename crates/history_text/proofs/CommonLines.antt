@@ -6,11 +6,13 @@ use Rattle.history.specs.declared.entry.End.TheVariants as end
 use Rattle.history.specs.declared.entry.Mode.{Mode}
 use Rattle.history.specs.declared.entry.Word.{Word}
 use Rattle.history.specs.declared.entry.Word.TheVariants as word
-use Rattle.history.specs.EntryWords.{HasWords, IsAsked, IsWritten}
+use Rattle.history.specs.EntryWords.{HasWords, IsWritten}
+use Rattle.history.specs.inner.EntryWords.{IsAsked}
 use Rattle.history.specs.Text.{ended}
 use Rattle.line_text.specs.Once.{AsksOnce}
 use Rattle.line_text.proofs.AskingOnce.{asked_behind}
-use Rattle.history_text.specs.CommonEntry.{BeginsWith, asked_name, once}
+use Rattle.history_text.specs.CommonEntry.{once}
+use Rattle.history_text.specs.inner.CommonEntry.{BeginsWith, asked_name}
 
 pub written_once : (seat : ℕ) (w : Word) (m : Mode) (how : End) → HasWords w m 1 0 how →
     IsWritten (once seat w m how)

@@ -17,7 +17,7 @@ use Rattle.history.specs.Text.{ended}
 use Rattle.history_text.specs.declared.base_line.BaseLine.{BaseLine}
 use Rattle.history_text.specs.declared.base_line.BaseLine.TheVariants.{Folded, Released, CountedDown}
 use Rattle.history_text.specs.declared.base_line.BaseLine.TheVariants.{Seat, Stands, Sleeps}
-use Rattle.history_text.specs.BaseFollowing.{AllFollow}
+use Rattle.history_text.specs.inner.BaseFollowing.{AllFollow}
 use Rattle.history_text.specs.BaseLineLimits.{IsBaseLine}
 use Rattle.history_text.specs.BaseLines.{base_lines}
 use Rattle.history_text.specs.BaseRules.{MayFollow, BaseSums, with_sums, no_sums}

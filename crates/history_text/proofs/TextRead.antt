@@ -19,7 +19,8 @@ use Rattle.history_text.specs.declared.place.Place.{Place}
 use Rattle.history_text.specs.HistoryLines.{head_line}
 use Rattle.history_text.specs.TextLines.{lines_on}
 use Rattle.history_text.specs.HistoryText.{Reads, history_form}
-use Rattle.history_text.specs.NextLine.{AreAllRead, AreEntriesRead, IsBaseAhead}
+use Rattle.history_text.specs.NextLine.{AreEntriesRead, IsBaseAhead}
+use Rattle.history_text.specs.inner.NextLine.{AreAllRead}
 
 module _ (text ahead : List ℕ) (h : Head) (begun : Begins history_form text h [] ahead) where
   -- the base has a fault, and so has the text

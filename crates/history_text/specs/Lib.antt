@@ -18,3 +18,4 @@ pub mod BaseTelling
 pub mod BaseUnderWay
 pub mod CommonEntry
 pub mod EntryReading
+pub mod inner

@@ -1,9 +1,31 @@
 -- What the next line of a history text spells.
-use Rattle.std.specs.Prelude.{◌≡◌, ◌≢◌, ℕ, ◌+◌, ◌≤◌, ◌<◌, ◌^◌, true, if◌then◌else◌, List, [], ◌∷◌, ◌++◌, length, map, Option, Some, None, Result, Ok, Err}
+use Rattle.std.specs.Prelude.{
+  ◌≡◌,
+  ◌≢◌,
+  ℕ,
+  ◌+◌,
+  ◌≤◌,
+  ◌<◌,
+  ◌^◌,
+  true,
+  if◌then◌else◌,
+  List,
+  [],
+  ◌∷◌,
+  ◌++◌,
+  length,
+  map,
+  Option,
+  Some,
+  None,
+  Result,
+  Ok,
+  Err,
+}
 use Rattle.history.specs.declared.entry.Entry.{Entry}
 use Rattle.history.specs.declared.header.Header.{Header}
 use Rattle.history.specs.Base.{Base}
-use Rattle.history.specs.Entries.{HistoryView, or_opening}
+use Rattle.history.specs.Entries.{or_opening}
 use Rattle.history.specs.Entry.{ends_call}
 use Rattle.history.specs.declared.limits.TheConstants.{MOST_FOLDED}
 use Rattle.history.specs.Text.{HasNoBreak, ended}
@@ -21,7 +43,7 @@ use Rattle.history_text.specs.EntryLines.{HasLine, counts_line, entry_line}
 use Rattle.history_text.specs.HistoryLines.{lines_told}
 use Rattle.history_text.specs.ToldBases.{GoodBeginsSo, GoodHas}
 use Rattle.history_text.specs.TextLines.{Based, IsHistoryOf, calls_told, lines_on, sum_of}
-use Rattle.history_text.specs.HistoryText.{IsRead, history_form}
+use Rattle.history_text.specs.HistoryText.{history_form}
 
 -- the bytes begin with a line, and this many bytes follow it
 abbrev pub LineAhead : List ℕ → List ℕ → ℕ → Type 0
@@ -115,9 +137,3 @@ pub record IsEarly (p : Place) : Type 0 where
   pub folded : p.folded ≤ MOST_FOLDED
   pub count : p.count ≡ 0
   pub calls : p.calls ≤ MOST_FOLDED
-
--- what a text spells that continues in this way after the lines of its base
-abbrev pub AreAllRead : Head → Option Base → List ℕ → Place → Result HistoryView ReadFault → Type 0
-AreAllRead h base ahead place result =
-    (text : List ℕ) → AreEntriesRead text h (or_opening h.header base) [] place ahead →
-    reading.Reads history_form (λ kept. IsRead text h.header kept) text result

@@ -4,7 +4,13 @@ ghost use Rattle.std.specs.Prelude.{◌≡◌, ◌≤◌, ◌↔◌, [], ◌∷�
 ghost use Rattle.history.specs.Base.{nothing, opening_base};
 ghost use Rattle.history.specs.GoodBase.{IsGood};
 ghost use Rattle.history.specs.Header.{IsInRange};
-ghost use Rattle.history_text.specs.BaseFollowing.{AllFollow, HasShape, HaveFollowed, IsCountedFor, IsUnused};
+ghost use Rattle.history_text.specs.inner.BaseFollowing.{
+  AllFollow,
+  HasShape,
+  HaveFollowed,
+  IsCountedFor,
+  IsUnused,
+};
 ghost use Rattle.history_text.specs.BaseLines.{base_lines, seat_lines, sleeper_lines};
 ghost use Rattle.history_text.specs.BaseRules.{no_sums};
 ghost use Rattle.history_text.specs.declared.base_line.BaseLine.TheVariants.{Stands, Sleeps};

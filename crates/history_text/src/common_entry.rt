@@ -1,8 +1,9 @@
 //! Reading the most frequent lines of entries without cutting them into words.
 
 ghost use Rattle.std.specs.Prelude.{◌≡◌, ◌≤◌, ◌∷◌, ◌++◌, drop, length, IfSome, decimal};
-ghost use Rattle.history.specs.EntryWords.{IsAsked};
-ghost use Rattle.history_text.specs.CommonEntry.{BeginsWith, IsLineAhead, asked_name, once};
+ghost use Rattle.history.specs.inner.EntryWords.{IsAsked};
+ghost use Rattle.history_text.specs.CommonEntry.{IsLineAhead, once};
+ghost use Rattle.history_text.specs.inner.CommonEntry.{BeginsWith, asked_name};
 
 use history::entry::{End, Entry, Mode, Word};
 use history::fault::Fault;

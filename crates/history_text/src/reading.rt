@@ -4,7 +4,8 @@ ghost use Rattle.std.specs.Prelude.{◌≡◌, [], None};
 ghost use Rattle.history.specs.Entries.{or_opening};
 ghost use Rattle.history.specs.Header.{IsInRange};
 ghost use Rattle.history_text.specs.HistoryText.{Reads};
-ghost use Rattle.history_text.specs.NextLine.{AreAllRead, IsEarly};
+ghost use Rattle.history_text.specs.NextLine.{IsEarly};
+ghost use Rattle.history_text.specs.inner.NextLine.{AreAllRead};
 
 use crate::base_text::base_behind;
 use crate::next_entry::{head_of, next_entry};

@@ -5,7 +5,7 @@ use Rattle.std.proofs.lemmas.Bool.{ltb-true, eqb-false, not-true, and_parts}
 use Rattle.history.specs.declared.header.Header.{Header}
 use Rattle.history.specs.Header.{IsInRange}
 use Rattle.history.specs.Spelling.{part_words, part_of}
-use Rattle.history.specs.HeaderReading.{header_at}
+use Rattle.history.specs.inner.HeaderReading.{header_at}
 use Rattle.history.specs.Text.{line_of}
 use Rattle.history.proofs.Plain.{is_plain, ArePlain}
 use Rattle.history.proofs.PartLemmas.{part_again, plain_part}

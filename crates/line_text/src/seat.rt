@@ -3,7 +3,7 @@
 ghost use Rattle.std.specs.Prelude.{◌≡◌, ◌≢◌, ◌+◌, ◌*◌, ◌<◌, ◌≤◌, ◌^◌, ◌∷◌, [], ◌++◌, List, ℕ, drop, length, IfSome, IfNone, decimal};
 
 use history::number::number_of;
-use history::text::place_of;
+use history::text::position_of;
 
 /// Returns the value of a digit, or None for another byte.
 #[inline(always)]
@@ -74,6 +74,6 @@ pub fn seat_of(text: &[u8]) -> Option<(u64, usize)>
     if let Some((first, second)) = two_bytes(text) {
         return Some((number_of_two(first, second)?, 3));
     }
-    let at = place_of(b' ', text)?;
+    let at = position_of(b' ', text)?;
     Some((number_of(&text[..at])?, at + 1))
 }

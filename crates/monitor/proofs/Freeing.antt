@@ -37,11 +37,12 @@ use Rattle.frame.specs.Effects.{IsAllowed}
 use Rattle.frame.specs.Hooks.{drain_answer_of}
 use Rattle.frame.proofs.Counting.{allowed}
 use Rattle.word_lock.specs.Ticket.{LockId, Ticket, first_entries}
-use Rattle.monitor.specs.Lawful.{IsLawfulCore, beside_of, point_of, start_at}
+use Rattle.monitor.specs.Lawful.{IsLawfulCore, point_of, start_at}
 use Rattle.monitor.specs.Load.{Brings, IsFreeAfter, Moves, given_by}
 use Rattle.monitor.proofs.Acquiring.{idle_made}
 use Rattle.monitor.proofs.InLine.{records}
 use Rattle.monitor.proofs.Sections.{Left, Section, answered_shown, left, mine_grown, sectioned}
+use Rattle.monitor.proofs.Beside.{beside_of}
 
 -- the words of the entries that take permits, and of those that give them back
 abbrev takes : Word → Bool

@@ -1,3 +1,4 @@
+pub mod Beside
 pub mod Sections
 pub mod InLine
 pub mod Taking

@@ -35,13 +35,19 @@ use Rattle.history.proofs.SleepLemmas.{held_other}
 use Rattle.frame.specs.Core.{CoreView, IsAnswered, IsTrimmed, counts_of, start_of, made_by}
 use Rattle.frame.specs.Hooks.{AreAlike}
 use Rattle.word_lock.specs.Point.{header_of, Agrees}
-use Rattle.monitor.specs.Lawful.{IsLawfulCore, IsLawful, beside_of, point_of, start_at}
-use Rattle.monitor.specs.Load.{IsFree, IsOneOwner, IsTurn, holds_at, holds_by, holds_of, is_signal, opened_counts}
+use Rattle.monitor.specs.Lawful.{IsLawfulCore, IsLawful, point_of, start_at}
+use Rattle.monitor.specs.Load.{IsFree, IsOneOwner, IsTurn, holds_by, holds_of, opened_counts}
+use Rattle.monitor.specs.inner.Load.{is_signal}
 use Rattle.monitor.specs.Shown.{Shown, IsSound}
 use Rattle.monitor.proofs.Acquiring.{idle_made}
 use Rattle.monitor.proofs.Freeing.{turn_frees}
 use Rattle.monitor.proofs.InLine.{records}
 use Rattle.monitor.proofs.Sections.{Left, answered_shown, left}
+use Rattle.monitor.proofs.Beside.{beside_of}
+
+-- the holds of a seat at a point
+abbrev pub holds_at : Point → ℕ → Mode → ℕ
+holds_at p i m = held (start_at p) p.entries i m
 
 held_others : (s : Start) (es h : List Entry) (i j : ℕ) (m : Mode) → j ≢ i → AllByRecursion (λ e. e.seat ≡ i) es →
     held s (es ++ h) j m ≡ held s h j m

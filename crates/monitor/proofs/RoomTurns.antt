@@ -13,10 +13,12 @@ use Rattle.word_lock.specs.Point.{Before}
 use Rattle.word_lock.proofs.PointLaws.{before_refl, before_trans}
 use Rattle.monitor.specs.Acquire.{WasInterrupted, WasNotInterrupted}
 use Rattle.monitor.specs.Interrupts.{tells_interrupt}
-use Rattle.monitor.specs.Machine.{IsBegun, IsCall, WasShown, begins_wait, begun, first_turn, next_by, step_by}
-use Rattle.monitor.specs.Room.{InRoom, IsBegunIn, IsCallIn, IsEnteredIn, IsStepIn, IsTooMany, at_point, fold_of}
+use Rattle.monitor.specs.Machine.{IsBegun, IsCall, begins_wait, begun, first_turn, next_by, step_by}
+use Rattle.monitor.specs.inner.Machine.{WasShown}
+use Rattle.monitor.specs.Room.{InRoom, IsBegunIn, IsCallIn, IsEnteredIn, IsStepIn, IsTooMany, at_point}
 use Rattle.monitor.specs.Shown.{Shown, IsSound}
-use Rattle.monitor.specs.Stepping.{IsEntered, IsSame, IsStep, IsUnparked, named_in}
+use Rattle.monitor.specs.Stepping.{IsEntered, IsSame, IsStep, IsUnparked}
+use Rattle.monitor.specs.inner.Stepping.{named_in}
 use Rattle.monitor.specs.inner.Waits.{IsReply}
 use Rattle.monitor.specs.declared.how.How.{How}
 use Rattle.monitor.specs.declared.machine.Next.TheVariants.{Ends, Waits}
@@ -27,6 +29,7 @@ use Rattle.monitor.specs.declared.room.WhenFull.{WhenFull}
 use Rattle.monitor.specs.declared.room.WhenFull.TheVariants.{Refuse, Trim}
 use Rattle.monitor.proofs.InLine.{named_place, no_sleep}
 use Rattle.monitor.proofs.TurnByTurn.{begun_ends, begun_refused, begun_waits, named_first, never_waits, step_idle, waited_ends}
+use Rattle.word_lock.specs.Point.{fold_of}
 
 -- what a call makes of its first step
 pub map_room : {A B : Type 0} (w : WhenFull) (asks more : Step → Type 0)

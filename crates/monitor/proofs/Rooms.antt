@@ -19,9 +19,9 @@ use Rattle.word_lock.specs.Rule.{AllAgree}
 use Rattle.word_lock.specs.Ticket.{LockId, Ticket, first_entries, first_seat, after_lock, after_unlock}
 use Rattle.word_lock.proofs.PointLaws.{added_behind, before_header, before_refl, before_trans, follows_before, follows_behind, follows_fold, follows_own}
 use Rattle.word_lock.proofs.Sections.{IsSection, follows_taken, section}
-use Rattle.monitor.specs.Lawful.{beside_of, point_of, start_at, view_of, IsLawfulCore, IsLawful}
+use Rattle.monitor.specs.Lawful.{point_of, start_at, view_of, IsLawfulCore, IsLawful}
 use Rattle.monitor.specs.Load.{Moves, holds_in}
-use Rattle.monitor.specs.Room.{IsFold, IsStepIn, IsTooMany, at_point, fold_of}
+use Rattle.monitor.specs.Room.{IsFold, IsStepIn, IsTooMany, at_point}
 use Rattle.monitor.specs.inner.CoreSteps.{IsCoreFold, IsCoreStep, IsCoreStepIn, is_full}
 use Rattle.monitor.specs.declared.room.WhenFull.TheVariants.{Trim}
 use Rattle.monitor.specs.Shown.{IsPass, IsSound, shown}
@@ -29,6 +29,8 @@ use Rattle.monitor.specs.Stepping.{IsStep}
 use Rattle.monitor.proofs.Freeing.{both_free, moves_own, section_frees, stays}
 use Rattle.monitor.proofs.Loads.{counts_folded}
 use Rattle.monitor.proofs.Sections.{Left, Section, added_step, answered_shown, calls_more, follows_step, left, owed_shown, own_entries, passed, section_step, true_pass}
+use Rattle.monitor.proofs.Beside.{beside_of}
+use Rattle.word_lock.specs.Point.{fold_of}
 
 -- which answers say that there was no room
 pub full_is : (r : Result Answer Fault) → is_full r ≡ true → r ≡ Err HistoryFull

@@ -27,14 +27,24 @@ use Rattle.history.specs.declared.point.Point.{Point}
 use Rattle.word_lock.specs.declared.view.SeatLog.{SeatLog}
 use Rattle.word_lock.specs.Point.{header_of, Before, Follows, added, Agrees}
 use Rattle.word_lock.specs.Rule.{AllAgree}
-use Rattle.word_lock.specs.Ticket.{LockId, Ticket, first_seat, first_entries, after_lock, after_unlock, after_meet}
+use Rattle.word_lock.specs.Ticket.{
+  LockId,
+  Ticket,
+  first_seat,
+  first_entries,
+  after_lock,
+  after_unlock,
+  after_meet,
+}
 use Rattle.word_lock.proofs.PointLaws.{before_header, follows_more, added_more}
 use Rattle.word_lock.proofs.Sections.{IsSection, section}
 use Rattle.word_lock.proofs.Tokens.{one_log}
-use Rattle.monitor.specs.Lawful.{point_of, start_at, view_of, beside_of, Beside, IsLawfulCore, IsLawful}
+use Rattle.monitor.specs.Lawful.{point_of, start_at, view_of, Beside, IsLawfulCore, IsLawful}
 use Rattle.monitor.specs.Shown.{Shown, shown, IsPass, IsSound}
-use Rattle.monitor.specs.Stepping.{now_of, IsStep, IsStepNow}
+use Rattle.monitor.specs.Stepping.{IsStep, IsStepNow}
+use Rattle.monitor.specs.inner.Stepping.{now_of}
 use Rattle.monitor.specs.declared.step.Now.{Now}
+use Rattle.monitor.proofs.Beside.{beside_of}
 
 -- an answer's history is what was, with the entry that it recorded, which is of the seat
 pub record Grows (i : ℕ) (h : List Entry) (given : Result Answer Fault × List Entry) : Type 0 where

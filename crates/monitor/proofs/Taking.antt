@@ -11,11 +11,12 @@ use Rattle.word_lock.specs.Point.{header_of, Before, Follows}
 use Rattle.word_lock.specs.Rule.{AllAgree}
 use Rattle.word_lock.specs.Ticket.{LockId, Ticket, after_lock, after_unlock, first_entries, first_seat}
 use Rattle.word_lock.proofs.Sections.{follows_taken}
-use Rattle.monitor.specs.Lawful.{beside_of, point_of, IsLawfulCore}
-use Rattle.monitor.specs.Load.{holds_at, holds_of}
+use Rattle.monitor.specs.Lawful.{point_of, IsLawfulCore}
+use Rattle.monitor.specs.Load.{holds_of}
 use Rattle.monitor.specs.Shown.{Shown, shown, IsPass, IsSound}
-use Rattle.monitor.proofs.Loads.{own_holds, true_holds}
+use Rattle.monitor.proofs.Loads.{holds_at, own_holds, true_holds}
 use Rattle.monitor.proofs.Sections.{Section, answered_shown, follows_step, own_entries, seat_below, share_few}
+use Rattle.monitor.proofs.Beside.{beside_of}
 
 -- the share has room for one call more
 pub share_fits : (t : Ticket) (seat share : ℕ) → IsPass t seat share → share < 2 ^ 63

@@ -9,10 +9,11 @@ use Rattle.word_lock.specs.Rule.{AllAgree}
 use Rattle.word_lock.specs.Ticket.{Ticket, first_entries, first_seat, after_lock, after_unlock}
 use Rattle.word_lock.proofs.PointLaws.{added_more, follows_fold, follows_more}
 use Rattle.word_lock.proofs.Sections.{IsSection, follows_taken, section}
-use Rattle.monitor.specs.Lawful.{point_of, view_of, beside_of, Beside, IsLawfulCore, IsLawful}
+use Rattle.monitor.specs.Lawful.{point_of, view_of, Beside, IsLawfulCore, IsLawful}
 use Rattle.monitor.specs.Shown.{shown, IsPass, IsSound}
 use Rattle.monitor.specs.Stepping.{IsTrim}
 use Rattle.monitor.proofs.Sections.{core_shown, mine_stays, own_entries, passed, true_pass}
+use Rattle.monitor.proofs.Beside.{beside_of}
 
 pub trimmed_shown : (v w : CoreView) (r : Result ℕ Fault) → IsLawfulCore v → IsLawfulCore w → IsTrimmed v r w →
     IsTrimmed (view_of (point_of v) (beside_of v)) r (view_of (point_of w) (beside_of w))

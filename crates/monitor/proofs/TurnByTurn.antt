@@ -25,9 +25,29 @@ use Rattle.word_lock.proofs.PointLaws.{before_trans}
 use Rattle.monitor.specs.Acquire.{LimitsFor, WasInterrupted, WasNotInterrupted, first_step}
 use Rattle.monitor.specs.Interrupts.{tells_interrupt}
 use Rattle.monitor.specs.Load.{free_of, given_by}
-use Rattle.monitor.specs.Machine.{IsBegun, IsCall, IsGoneOn, WasShown, at_stage, begins_wait, begun, first_turn, later_turn, limits_at, limits_from, next_behind, next_by, stage_for, step_at, step_by, step_of_waiting, step_within}
+use Rattle.monitor.specs.Machine.{
+  IsBegun,
+  IsCall,
+  IsGoneOn,
+  at_stage,
+  begins_wait,
+  begun,
+  first_turn,
+  later_turn,
+  limits_at,
+  limits_from,
+  next_behind,
+  next_by,
+  stage_for,
+  step_at,
+  step_by,
+  step_of_waiting,
+  step_within,
+}
+use Rattle.monitor.specs.inner.Machine.{WasShown}
 use Rattle.monitor.specs.Shown.{Shown, IsSound}
-use Rattle.monitor.specs.Stepping.{IsSame, IsStep, IsStepNow, IsUnparked, answer_of, named_in}
+use Rattle.monitor.specs.Stepping.{IsSame, IsStep, IsStepNow, IsUnparked, answer_of}
+use Rattle.monitor.specs.inner.Stepping.{named_in}
 use Rattle.monitor.specs.declared.step.Now.{Now}
 use Rattle.monitor.specs.declared.step.Now.TheVariants.{Done, Busy}
 use Rattle.monitor.specs.Waits.{AfterPark, Cause, ComesOf, IsNotLost, WaitsAs, in_line, is_lapse, no_limits, on_condition, stage_asleep, asking}

@@ -20,12 +20,13 @@ use Rattle.frame.specs.Core.{CoreView}
 use Rattle.history.specs.declared.point.Point.{Point}
 use Rattle.word_lock.specs.Point.{Before, Agrees}
 use Rattle.word_lock.proofs.PointLaws.{before_refl, before_trans}
-use Rattle.history.specs.Awaiting.{ReturnsAs, AwaitMakes, sleeps_on, comes_back, lapses, LapsesBy, lapsed, back_from, lapse_from}
+use Rattle.history.specs.Awaiting.{ReturnsAs, lapsed, back_from, lapse_from}
 use Rattle.history.proofs.Awaiting.{await_turn}
 use Rattle.history.proofs.Lasting.{still_awaits_there, still_returns_there, still_stands}
 use Rattle.monitor.specs.Lawful.{view_of, IsLawful}
 use Rattle.monitor.specs.Shown.{Shown, IsSound}
-use Rattle.monitor.specs.Stepping.{IsSame, IsStep, IsUnparked, named_in}
+use Rattle.monitor.specs.Stepping.{IsSame, IsStep, IsUnparked}
+use Rattle.monitor.specs.inner.Stepping.{named_in}
 use Rattle.monitor.specs.declared.waiting.Limits.{Limits}
 use Rattle.monitor.specs.declared.waiting.Stage.{Stage}
 use Rattle.monitor.specs.declared.waiting.Stage.TheVariants.{Expires, Parks, Looks, GivenUp}
@@ -35,6 +36,7 @@ use Rattle.monitor.specs.inner.Waits.{MayBegin, IsEnd, EndsBy, MayLapse, HasLaps
 use Rattle.monitor.proofs.StillWaiting.{IsStage, IsBehindLapse, SoFar, StillWaits, AllStillWait, unless_lapse, ending_of, stage_behind}
 use Rattle.monitor.proofs.InLine.{queued_made, ends_by, looks_by, owed_by, IsEndBy, outcome, Outcome, made_in, same_self}
 use Rattle.monitor.proofs.Sections.{left}
+use Rattle.history.proofs.Awaiting.{AwaitMakes, sleeps_on, comes_back, lapses, LapsesBy}
 
 -- who waits does so while no entry of its seat comes
 pub still_waiting : (p q : Point) (i : ℕ) (es : List Entry) (k : Cause) → IsLawful p → IsLawful q →

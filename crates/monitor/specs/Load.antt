@@ -4,14 +4,12 @@ use Rattle.history.specs.declared.entry.Mode.{Mode}
 use Rattle.history.specs.declared.entry.Mode.TheVariants.{X, S}
 use Rattle.history.specs.declared.header.Header.{Header}
 use Rattle.history.specs.declared.step.Step.{Step}
-use Rattle.history.specs.declared.step.Step.TheVariants.{Give, Signal, SignalAll}
+use Rattle.history.specs.declared.step.Step.TheVariants.{Give}
 use Rattle.history.specs.Counts.{Counts, counts, free, held}
 use Rattle.history.specs.Object.{is_lock, is_semaphore}
 use Rattle.history.specs.Start.{opening}
 use Rattle.frame.specs.Core.{CoreView, start_of}
 use Rattle.history.specs.declared.entry.Entry.{Entry}
-use Rattle.history.specs.declared.point.Point.{Point}
-use Rattle.monitor.specs.Lawful.{start_at}
 use Rattle.monitor.specs.Shown.{Shown}
 use Rattle.monitor.specs.declared.load.Holds.{Holds}
 
@@ -19,12 +17,9 @@ use Rattle.monitor.specs.declared.load.Holds.{Holds}
 abbrev pub holds_of : Shown → Mode → ℕ
 holds_of p m = held (opening p.lock.header) p.mine p.seat m
 
--- the holds of a seat by these entries of its own, and at a point
+-- the holds of a seat by these entries of its own
 abbrev pub holds_by : Header → ℕ → List Entry → Mode → ℕ
 holds_by k i es m = held (opening k) es i m
-
-abbrev pub holds_at : Point → ℕ → Mode → ℕ
-holds_at p i m = held (start_at p) p.entries i m
 
 -- the holds of a seat of a core
 abbrev pub holds_in : CoreView → ℕ → Mode → ℕ
@@ -82,9 +77,3 @@ Brings false has n = Unit {0}
 abbrev pub Moves : {A : Type 0} → Bool → (A → ℕ) → A → ℤ → A → ℤ → Type 0
 Moves true amount x f y g = (pos (amount y) +ℤ g ≡ pos (amount x) +ℤ f) × (g ≡ f → y ≡ x)
 Moves false amount x f y g = Unit {0}
-
--- the steps that change nobody's holds
-abbrev pub is_signal : Step → Bool
-is_signal (Signal c) = true
-is_signal (SignalAll c) = true
-is_signal _ = false

@@ -1,5 +1,22 @@
 -- A call that may wait, turn by turn.
-use Rattle.std.specs.Prelude.{◌≡◌, ◌&&◌, ◌||◌, not, ℕ, Bool, true, false, Option, Some, None, is_some, if◌then◌else◌, Result, Ok, Err}
+use Rattle.std.specs.Prelude.{
+  ◌≡◌,
+  ◌&&◌,
+  ◌||◌,
+  not,
+  ℕ,
+  Bool,
+  true,
+  false,
+  Option,
+  Some,
+  None,
+  is_some,
+  if◌then◌else◌,
+  Result,
+  Ok,
+  Err,
+}
 use Rattle.history.specs.declared.entry.Entry.{Entry}
 use Rattle.history.specs.declared.entry.Mode.TheVariants.{X}
 use Rattle.history.specs.declared.entry.Word.{Word}
@@ -10,7 +27,7 @@ use Rattle.history.specs.declared.step.Answer.{Answer}
 use Rattle.history.specs.declared.step.Answer.TheVariants.{Recorded, Sleep}
 use Rattle.history.specs.declared.step.Step.{Step}
 use Rattle.history.specs.declared.step.Step.TheVariants as step
-use Rattle.permit.specs.Deed.{Deed, showed}
+use Rattle.permit.specs.Deed.{Deed}
 use Rattle.permit.specs.declared.parking.Woke.{Woke}
 use Rattle.permit.specs.declared.parking.Woke.TheVariants.{Permit, Deadline, Interrupted}
 use Rattle.monitor.specs.Acquire.{IsAcquire, first_step, is_interruptible, moment_after}
@@ -56,11 +73,6 @@ until_from moment _ = None
 
 abbrev pub limits_from : ℕ → How → Limits
 limits_from moment how = record { until = until_from moment how; interruptible = is_interruptible how }
-
--- the clock showed the moment, if the call is timed
-abbrev pub WasShown : (Deed → Type 0) → How → ℕ → Type 0
-WasShown did (Timed ms) moment = did (showed moment)
-WasShown did _ moment = Unit {0}
 
 abbrev pub stage_for : Request → How → Stage
 stage_for (Acquire m n) how = Parks

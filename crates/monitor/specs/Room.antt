@@ -18,10 +18,7 @@ use Rattle.monitor.specs.declared.machine.Request.{Request}
 use Rattle.monitor.specs.declared.machine.Turn.{Turn}
 use Rattle.monitor.specs.declared.room.WhenFull.{WhenFull}
 use Rattle.monitor.specs.declared.room.WhenFull.TheVariants.{Refuse, Trim}
-
--- all entries of a point folded
-abbrev pub fold_of : Point → Point
-fold_of p = record { base = folded p.base p.entries; entries = [] }
+use Rattle.word_lock.specs.Point.{fold_of}
 
 -- a pass that has seen this, and has done nothing more
 abbrev pub at_point : Shown → Point → Shown

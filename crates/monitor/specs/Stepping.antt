@@ -3,7 +3,7 @@ use Rattle.std.specs.Prelude.{◌≡◌, ℕ, ◌++◌, Option, Some, None, Resu
 use Rattle.history.specs.declared.entry.Entry.{Entry}
 use Rattle.history.specs.declared.fault.Fault.{Fault}
 use Rattle.history.specs.declared.step.Answer.{Answer}
-use Rattle.history.specs.declared.step.Answer.TheVariants.{Recorded, Sleep}
+use Rattle.history.specs.declared.step.Answer.TheVariants.{Recorded}
 use Rattle.history.specs.declared.step.Step.{Step}
 use Rattle.frame.specs.Core.{IsAnswered, IsTold, IsTrimmed, MakesOwed, made_by}
 use Rattle.history.specs.declared.point.Point.{Point}
@@ -34,10 +34,6 @@ pub record IsStep (old : Shown) (step : Step) (r : Result Answer Fault) (new : S
   pub after : Before old.seen new.seen
   pub mine : new.mine ≡ made_by r ++ old.mine
 
-abbrev pub now_of : Result Answer Fault → Result Now Fault
-now_of (Ok answer) = Ok (Done answer)
-now_of (Err fault) = Err fault
-
 abbrev pub answer_of : Result Now Fault → Option (Result Answer Fault)
 answer_of (Ok (Done answer)) = Some (Ok answer)
 answer_of (Ok Busy) = None
@@ -48,12 +44,6 @@ abbrev pub IsStepNow : Shown → Step → Result Now Fault → Shown → Type 0
 IsStepNow old step (Ok (Done answer)) new = IsStep old step (Ok answer) new
 IsStepNow old step (Ok Busy) new = new ≡ old
 IsStepNow old step (Err fault) new = IsStep old step (Err fault) new
-
--- the seat that an answer names, if it names one
-abbrev pub named_in : Result Answer Fault → Option ℕ
-named_in (Ok (Recorded e named)) = named
-named_in (Ok Sleep) = None
-named_in (Err fault) = None
 
 -- Here and in what follows, `did deed` says that this was done at the place where the seats park, or shown by
 -- its clock.

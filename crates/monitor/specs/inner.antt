@@ -1,3 +1,6 @@
 -- What only contracts of private functions cite: no promise of the crate rests on it.
 pub mod CoreSteps
 pub mod Waits
+pub mod Load
+pub mod Machine
+pub mod Stepping

@@ -1,7 +1,8 @@
 //! How long a call waits.
 ghost use Rattle.std.specs.Prelude.{◌≡◌};
 ghost use Rattle.monitor.specs.Acquire.{is_interruptible, moment_after};
-ghost use Rattle.monitor.specs.Machine.{WasShown, limits_from};
+ghost use Rattle.monitor.specs.Machine.{limits_from};
+ghost use Rattle.monitor.specs.inner.Machine.{WasShown};
 
 use crate::waiting::Limits;
 use permit::Parking;

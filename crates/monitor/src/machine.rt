@@ -11,7 +11,22 @@
 ghost use Rattle.std.specs.Prelude.{◌≡◌, ◌≢◌, IfNone, IfSome, IsOk};
 ghost use Rattle.history.specs.declared.step.Answer.TheVariants.{Sleep};
 ghost use Rattle.monitor.specs.Load.{Brings, Moves, free_of, holds_of};
-ghost use Rattle.monitor.specs.Machine.{IsBegun, IsGoneOn, at_stage, begins_wait, begun, first_turn, is_interrupt, later_turn, limits_at, next_behind, stage_for, step_by, step_of_waiting, step_within};
+ghost use Rattle.monitor.specs.Machine.{
+  IsBegun,
+  IsGoneOn,
+  at_stage,
+  begins_wait,
+  begun,
+  first_turn,
+  is_interrupt,
+  later_turn,
+  limits_at,
+  next_behind,
+  stage_for,
+  step_by,
+  step_of_waiting,
+  step_within,
+};
 ghost use Rattle.monitor.specs.Room.{IsBegunIn};
 ghost use Rattle.monitor.specs.Shown.{IsSound};
 ghost use Rattle.monitor.specs.Stepping.{IsSame, answer_of};

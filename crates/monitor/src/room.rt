@@ -6,7 +6,8 @@
 //! and if there was no room it folds and steps from there. Then it returns `HistoryFull` only if a history
 //! without entries has no room.
 ghost use Rattle.std.specs.Prelude.{◌≡◌, true};
-ghost use Rattle.monitor.specs.Load.{Brings, Moves, free_of, given_by, holds_of, is_signal};
+ghost use Rattle.monitor.specs.Load.{Brings, Moves, free_of, given_by, holds_of};
+ghost use Rattle.monitor.specs.inner.Load.{is_signal};
 ghost use Rattle.monitor.specs.Room.{IsStepIn};
 ghost use Rattle.monitor.specs.inner.CoreSteps.{is_full};
 ghost use Rattle.monitor.specs.Shown.{IsSound};

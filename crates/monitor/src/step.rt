@@ -1,10 +1,12 @@
 //! One step of a seat.
 ghost use Rattle.std.specs.Prelude.{◌≡◌, ◌<◌, ◌≤◌, false, true, IfSome};
 ghost use Rattle.history.specs.Phase.{waits};
-ghost use Rattle.monitor.specs.Load.{Brings, Moves, free_of, given_by, holds_of, is_signal};
+ghost use Rattle.monitor.specs.Load.{Brings, Moves, free_of, given_by, holds_of};
+ghost use Rattle.monitor.specs.inner.Load.{is_signal};
 ghost use Rattle.monitor.specs.Room.{IsEnteredIn, IsStepIn};
 ghost use Rattle.monitor.specs.Shown.{IsSound};
-ghost use Rattle.monitor.specs.Stepping.{IsSame, IsStep, IsStepNow, IsEntered, IsUnparked, named_in, now_of};
+ghost use Rattle.monitor.specs.Stepping.{IsSame, IsStep, IsStepNow, IsEntered, IsUnparked};
+ghost use Rattle.monitor.specs.inner.Stepping.{named_in, now_of};
 ghost use Rattle.word_lock.specs.Woken.{WasWoken};
 
 use crate::load::{Empty, Load};

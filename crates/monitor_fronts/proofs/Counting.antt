@@ -34,7 +34,8 @@ use Rattle.history.specs.Sleepers.{sleepers}
 use Rattle.monitor.specs.Lawful.{start_at, view_of}
 use Rattle.history.specs.declared.point.Point.{Point}
 use Rattle.monitor.specs.Shown.{Shown, IsSound, opening_pass, opening_passes}
-use Rattle.monitor.specs.Load.{holds_of, is_signal}
+use Rattle.monitor.specs.Load.{holds_of}
+use Rattle.monitor.specs.inner.Load.{is_signal}
 use Rattle.monitor.specs.Stepping.{IsEntered, IsSame, IsStep}
 use Rattle.monitor.specs.declared.how.How.{How}
 use Rattle.monitor.proofs.Acquiring.{idle_made}

@@ -12,8 +12,8 @@ use Rattle.permit.specs.Deed.{Deed}
 use Rattle.word_lock.specs.Point.{Before}
 use Rattle.word_lock.proofs.PointLaws.{before_trans}
 use Rattle.monitor.specs.Acquire.{is_timed}
-use Rattle.monitor.specs.Load.{is_signal}
-use Rattle.monitor.specs.Room.{InRoom, at_point, fold_of}
+use Rattle.monitor.specs.inner.Load.{is_signal}
+use Rattle.monitor.specs.Room.{InRoom, at_point}
 use Rattle.monitor.specs.Shown.{Shown}
 use Rattle.monitor.specs.Stepping.{IsEntered, IsSame}
 use Rattle.monitor.specs.declared.how.How.{How}
@@ -24,6 +24,7 @@ use Rattle.monitor_fronts.specs.Holding.{Gains, gained, holds, with_yes}
 use Rattle.monitor_fronts.specs.Returned.{done_of, whether_of, without}
 use Rattle.monitor_fronts.proofs.Counting.{await_holds, of_lock, signal_keeps}
 use Rattle.monitor_fronts.proofs.Exactly.{acquire_gains, try_gains, waits_to_the_end}
+use Rattle.word_lock.specs.Point.{fold_of}
 
 -- what such a call sees comes after all that was seen
 room_begins : {A : Type 0} (w : WhenFull) (asks : Step → Type 0)

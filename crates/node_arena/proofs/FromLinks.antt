@@ -7,7 +7,8 @@ use Rattle.std.proofs.lemmas.List.Sums.{sum_by-set, sum_by-append}
 use Rattle.std.proofs.lemmas.List.Folds.{sum_by-replicate}
 use Rattle.std.proofs.lemmas.Option.{none-some, same_Some}
 use Rattle.node_arena.specs.declared.linked_lists.Link.{Link}
-use Rattle.node_arena.specs.LinkedLists.{items, list_count, one_before, without, IsIn, IsApart, IsEmpty, SameLists}
+use Rattle.node_arena.specs.LinkedLists.{items, list_count, one_before, without, IsIn, IsApart, IsEmpty}
+use Rattle.node_arena.specs.inner.LinkedLists.{SameLists}
 use Rattle.node_arena.specs.Links.{no_link, next_of, prev_of, Skips, Splices, is_list, walk, IsChain, IsRing, keys_of, lists_of, IsSound}
 use Rattle.node_arena.proofs.Rings.{length-without, length-walk, IsOn, walk_chain, prev_end_on, prev_on, next_on, IsRing-kept, IsRing-skip, IsRing-push, rings_apart, free_not_on}
 

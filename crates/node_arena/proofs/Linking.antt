@@ -9,7 +9,16 @@ use Rattle.node_arena.specs.declared.node.NodeNo.{NodeNo}
 use Rattle.node_arena.specs.declared.node.NumberedNode.{NumberedNode}
 use Rattle.node_arena.specs.declared.arena.Slot.{Slot}
 use Rattle.node_arena.specs.Arena.{Places, slot_at, taken, standing_by, standing_in, of_generation, find, Changes}
-use Rattle.node_arena.specs.LinkedLists.{LinkedLists, items, list_of, one_before, without, IsIn, IsApart, Moves}
+use Rattle.node_arena.specs.LinkedLists.{
+  LinkedLists,
+  items,
+  list_of,
+  one_before,
+  without,
+  IsIn,
+  IsApart,
+  Moves,
+}
 use Rattle.node_arena.specs.NodeList.{standing_at, is_at, at_place, of_number, under, without_place, cancelled, cancel_at, StandApart, standing_before, list_by, nodes_of, IsLinked}
 use Rattle.node_arena.proofs.Rings.{without_head, without_past, IsIn-without, IsIn-without_kept, IsApart-without, IsIn-push, IsIn-push_kept, IsIn-push_last, IsApart-push, length-without}
 

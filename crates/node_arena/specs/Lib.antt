@@ -2,3 +2,4 @@ pub mod Arena
 pub mod LinkedLists
 pub mod Links
 pub mod NodeList
+pub mod inner

@@ -1,5 +1,24 @@
 -- `LinkedLists` as contracts see it.
-use Rattle.std.specs.Prelude.{◌≡◌, ◌≢◌, ◌⊎◌, ℕ, List, [], ◌∷◌, length, Option, Some, None, not, ◌==◌, filter, slice_index_or, slice_get, zero, suc}
+use Rattle.std.specs.Prelude.{
+  ◌≡◌,
+  ◌≢◌,
+  ◌⊎◌,
+  ℕ,
+  List,
+  [],
+  ◌∷◌,
+  length,
+  Option,
+  Some,
+  None,
+  not,
+  ◌==◌,
+  filter,
+  slice_index_or,
+  slice_get,
+  zero,
+  suc,
+}
 
 -- the keys of each list from first to last, and the list of each key that has room
 pub record LinkedLists : Type 0 where
@@ -44,12 +63,6 @@ IsApart (first ∷ rest) = (¬ IsIn first rest) × IsApart rest
 -- no key is in the list
 abbrev pub IsEmpty : LinkedLists → ℕ → Type 0
 IsEmpty s list = (key : ℕ) → list_of s key ≢ Some list
-
--- each list and each key is as it was
-pub record SameLists (old new : LinkedLists) : Type 0 where
-  pub count : list_count new ≡ list_count old
-  pub lists : (list : ℕ) → items new list ≡ items old list
-  pub keys : (key : ℕ) → list_of new key ≡ list_of old key
 
 -- the key is now in this list or in none, and every other key is where it was
 pub record Moves (old new : LinkedLists) (key : ℕ) (list : Option ℕ) : Type 0 where

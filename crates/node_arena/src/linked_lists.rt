@@ -3,7 +3,19 @@
 //! The links and their proof are those of `util::linked_list` in the kit's `futures`. That one doesn't return
 //! a key's neighbours.
 ghost use Rattle.std.specs.Prelude.{◌≡◌, ◌≢◌, ℕ, ◌+◌, ◌^◌, ◌<◌, ◌≤◌, [], ◌∷◌, ◌++◌, length, IfSome, IfNone, IfOk, OnOk, IsOk, slice_get, IsSome, vec_len};
-ghost use Rattle.node_arena.specs.LinkedLists.{items, list_of, list_count, key_limit, one_before, without, IsIn, IsApart, IsEmpty, SameLists, Moves};
+ghost use Rattle.node_arena.specs.LinkedLists.{
+  items,
+  list_of,
+  list_count,
+  key_limit,
+  one_before,
+  without,
+  IsIn,
+  IsApart,
+  IsEmpty,
+  Moves,
+};
+ghost use Rattle.node_arena.specs.inner.LinkedLists.{SameLists};
 ghost use Rattle.node_arena.specs.Links.{next_of, prev_of, Skips, Splices};
 
 use std::alloc::{AllocError, Global};

@@ -1,3 +1,3 @@
 pub mod Deed
 pub mod Script
-pub mod Signal
+pub mod inner

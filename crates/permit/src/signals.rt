@@ -17,7 +17,7 @@
 //! **A thread looks before it sleeps.** To sleep and to be woken takes two system calls, and each of them longer
 //! than most holders keep a lock.
 ghost use Rattle.std.specs.Prelude.{◌≡◌, ◌+◌, ◌-◌, ◌^◌, ◌↔◌, true};
-ghost use Rattle.permit.specs.Signal.{IsAwaited, IsSet, bit_of, woke_by};
+ghost use Rattle.permit.specs.inner.Signal.{IsAwaited, IsSet, bit_of, woke_by};
 
 use crate::parking::Woke;
 use std::hint::spin_loop;

@@ -13,7 +13,16 @@ use Rattle.history.specs.Header.{IsInRange}
 use Rattle.steps.specs.declared.header.Format.{Format}
 use Rattle.steps.specs.declared.header.Format.TheVariants.{One, Two}
 use Rattle.steps.specs.declared.header.StepsHeader.{StepsHeader}
-use Rattle.steps.specs.StepLines.{HasAmounts, IsAct, IsStep, act_line, end_line, name_of, step_line, step_words}
+use Rattle.steps.specs.StepLines.{
+  HasAmounts,
+  IsAct,
+  IsStep,
+  act_line,
+  end_line,
+  name_of,
+  step_line,
+  step_words,
+}
 use Rattle.steps.specs.StepsText.{steps_form}
 
 words_short : (s : Step) → HasAmounts s → AreShort (step_words s) × (length (step_words s) ≤ 3)

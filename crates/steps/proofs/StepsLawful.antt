@@ -17,7 +17,16 @@ use Rattle.frame.specs.declared.acts.Act.TheVariants.{Do, Trim}
 use Rattle.steps.specs.declared.header.Format.{Format}
 use Rattle.steps.specs.declared.header.Format.TheVariants.{One, Two}
 use Rattle.steps.specs.declared.header.StepsHeader.{StepsHeader}
-use Rattle.steps.specs.StepLines.{step_words, step_line, act_line, end_line, header_line, name_of, IsAct, IsStep}
+use Rattle.steps.specs.StepLines.{
+  step_words,
+  step_line,
+  act_line,
+  end_line,
+  header_line,
+  name_of,
+  IsAct,
+  IsStep,
+}
 use Rattle.steps.specs.StepReading.{line_at}
 use Rattle.steps.specs.StepsText.{steps_form}
 use Rattle.steps.proofs.StepLemmas.{line_plain, whole_line}

@@ -1,3 +1,4 @@
 pub mod StepLines
 pub mod StepReading
 pub mod StepsText
+pub mod inner

@@ -1,12 +1,25 @@
 -- The lines of a steps text.
-use Rattle.std.specs.Prelude.{◌≡◌, ℕ, ◌<◌, ◌^◌, List, [], ◌∷◌, ◌++◌, length, codes, decimal}
+use Rattle.std.specs.Prelude.{◌≡◌, ℕ, ◌<◌, ◌^◌, List, [], ◌∷◌, ◌++◌, codes, decimal}
 use Rattle.frame.specs.declared.acts.Act.{Act}
 use Rattle.frame.specs.declared.acts.Act.TheVariants.{Do, Trim}
 use Rattle.history.specs.declared.step.Step.{Step}
-use Rattle.history.specs.declared.step.Step.TheVariants.{Acquire, Try, TryFair, EntryInterrupt, Give, Look, Expire, Interrupt, Await, Signal, SignalAll, Drain}
+use Rattle.history.specs.declared.step.Step.TheVariants.{
+  Acquire,
+  Try,
+  TryFair,
+  EntryInterrupt,
+  Give,
+  Look,
+  Expire,
+  Interrupt,
+  Await,
+  Signal,
+  SignalAll,
+  Drain,
+}
 use Rattle.history.specs.EntryWords.{mode_word}
 use Rattle.history.specs.Spelling.{part_of}
-use Rattle.history.specs.Text.{ended, line_of}
+use Rattle.history.specs.Text.{line_of}
 use Rattle.steps.specs.declared.header.Format.{Format}
 use Rattle.steps.specs.declared.header.Format.TheVariants.{One, Two}
 use Rattle.steps.specs.declared.header.StepsHeader.{StepsHeader}
@@ -43,12 +56,6 @@ HasAmounts Drain = Unit {0}
 -- a step of one of the seats
 abbrev pub IsStep : ℕ → ℕ × Step → Type 0
 IsStep seats s = (s.0 < seats) × HasAmounts s.1
-
--- the words of a step and a line break begin the text, and this many bytes follow
-abbrev pub BeginsWith : List ℕ → Step × ℕ → Type 0
-BeginsWith text found =
-    HasAmounts found.0 × ((rest : List ℕ) × (text ≡ ended (line_of (step_words found.0)) ++ rest)
-    × (length rest ≡ found.1))
 
 -- the seat, a space and the step
 abbrev pub step_line : ℕ × Step → List ℕ

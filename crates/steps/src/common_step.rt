@@ -2,7 +2,8 @@
 
 ghost use Rattle.std.specs.Prelude.{◌≡◌, ◌++◌, length, List, ℕ, IfSome};
 ghost use Rattle.history.specs.Text.{ended};
-ghost use Rattle.steps.specs.StepLines.{BeginsWith, IsStep, step_line};
+ghost use Rattle.steps.specs.StepLines.{IsStep, step_line};
+ghost use Rattle.steps.specs.inner.StepLines.{BeginsWith};
 
 use history::entry::Mode;
 use history::step::Step;

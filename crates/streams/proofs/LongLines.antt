@@ -7,7 +7,8 @@ use Rattle.std.proofs.lemmas.List.{length-append, length-take-le, take-append-le
 use Rattle.std.proofs.lemmas.List.Elements.{All-append}
 use Rattle.std.proofs.Math.Seq.{drop-append_seam}
 use Rattle.history.specs.Text.{HasNoBreak}
-use Rattle.streams.specs.Window.{Grows, IsFrontAhead, StaysAhead}
+use Rattle.streams.specs.Window.{Grows, StaysAhead}
+use Rattle.streams.specs.inner.Window.{IsFrontAhead}
 
 -- the first bytes of a line and of more of it
 first_of : (n : ℕ) (line more : List ℕ) → take n (take n line ++ more) ≡ take n (line ++ more)

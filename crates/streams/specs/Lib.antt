@@ -5,3 +5,4 @@ pub mod Streams
 pub mod Turns
 pub mod Writing
 pub mod Window
+pub mod inner

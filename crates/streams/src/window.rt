@@ -5,7 +5,8 @@ ghost use Rattle.std.specs.Io.KnownBytes.{IsAtEnd, Keeps};
 ghost use Rattle.history.specs.Text.{HasNoBreak};
 ghost use Rattle.line_text.specs.declared.limits.TheConstants.{LINE_BYTES};
 ghost use Rattle.streams.specs.ReadingOn.{IsOfReading, IsTooLong};
-ghost use Rattle.streams.specs.Window.{Grows, IsFrontAhead, IsShorter, StaysAhead, room};
+ghost use Rattle.streams.specs.Window.{Grows, StaysAhead, room};
+ghost use Rattle.streams.specs.inner.Window.{IsFrontAhead, IsShorter};
 ghost use Rattle.streams.specs.declared.stream_fault.StreamFault.TheVariants.{Memory, ReadFailed};
 
 use crate::limits::ROOM;

@@ -2,7 +2,7 @@
 
 use crate::played::{Play, perform};
 use crate::streamed::{Stream, through};
-use crate::texts::{HISTORY, ON_COUNT, ON_READER, ON_SLEEPER};
+use crate::texts::{HISTORY, ON_COUNT, ON_READER, ON_SLEEPER, put_history_of_sleepers};
 use std::process::Abort;
 use std::time::Clock;
 use streams::stream_fault::StreamFault;
@@ -28,6 +28,14 @@ fn change_each(rt: &(impl Abort + AllocGlobal + Clock), text: &mut Vec<u8>, out:
             assert!(rt; good, "byte {at}, {step} more");
         }
     }
+}
+
+#[test]
+fn a_base_whose_256_seats_sleep_is_read_and_written_again(rt: HostRuntime) {
+    let (mut text, mut out) = (String::new(rt.alloc()), Vec::new(rt.alloc()));
+    assert!(rt; put_history_of_sleepers(&mut text).is_ok());
+    let is_whole = is_whole_or_refused(&rt, text.as_bytes(), &mut out);
+    assert!(rt; is_whole && out.len() == text.len());
 }
 
 #[test]

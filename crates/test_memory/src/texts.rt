@@ -116,6 +116,20 @@ pub fn put_history_of_pairs(out: &mut String, pairs: u32) -> Result<(), AllocErr
     write!(out, "end {entries} {entries}\n")
 }
 
+/// Appends a history on a base in which each of 256 seats sleeps, on one of 16 conditions.
+pub fn put_history_of_sleepers(out: &mut String) -> Result<(), AllocError> {
+    out.push_str("aqs-history 2 lock nonfair seats 256 conditions 16 cap 64\nbase 512\n")?;
+    for seat in 0..256 {
+        write!(out, "seat {seat} calls 1 x 0 s 0\n")?;
+    }
+    for place in 0..256 {
+        let condition = place / 16;
+        let seat = place % 16 * 16 + condition;
+        write!(out, "sleeper {condition} {seat} 1\n")?;
+    }
+    out.push_str("end 512 256\n")
+}
+
 /// Appends a script of 256 threads, with 16 calls each.
 pub fn put_wide_script(out: &mut String) -> Result<(), AllocError> {
     out.push_str(r#"{"objects":[["a","lock nonfair seats 256 conditions 0 cap 16"]],"threads":["#)?;

@@ -10,6 +10,7 @@ use Rattle.history.specs.Base.{Base, folded, opening_base}
 use Rattle.history.specs.Point.{CanFold}
 use Rattle.history.proofs.Points.{agrees_folded, agrees_grown, agrees_opened, all_of, further_point, none_of_other, same_point}
 use Rattle.word_lock.specs.Point.{header_of, Before, Agrees, added, AllOfSeat, Follows}
+use Rattle.word_lock.specs.Point.{fold_of}
 
 -- what stands in front of an old list, where so many entries were folded before
 front_is : {A : Type 0} (n : ℕ) (old new more : List A) → new ≡ more ++ old →
@@ -38,10 +39,6 @@ unfolding Follows Before
 follows_before seat p q (inl grown) = inl (sym grown.0, (added p q, grown.1))
 follows_before seat p q (inr folds) = inr (record { more = []; can = folds.0; base = folds.1 })
 
--- all entries folded
-abbrev fold_point : Point → Point
-fold_point p = record { base = folded p.base p.entries; entries = [] }
-
 -- what was added, and what the seat had, is what the seat has
 pub follows_own : (seat : ℕ) (p q : Point) (es : List Entry) → Follows seat p q → Agrees p seat es →
     Agrees q seat (added p q ++ es)
@@ -49,9 +46,9 @@ unfolding Agrees Follows AllOfSeat
 follows_own seat p q es (inl grown) a =
     agrees_grown p q seat (added p q) (added p q) es grown.0 grown.1 (all_of seat (added p q) grown.2) a
 follows_own seat p q es (inr folds) a =
-    agrees_grown (fold_point p) q seat (added p q) (added p q) es folds.1 (folds.2 ∙ sym (append-nil (added p q)))
+    agrees_grown (fold_of p) q seat (added p q) (added p q) es folds.1 (folds.2 ∙ sym (append-nil (added p q)))
     (all_of seat (added p q) folds.3)
-    (agrees_folded p (fold_point p) seat es folds.0 refl refl a)
+    (agrees_folded p (fold_of p) seat es folds.0 refl refl a)
 
 -- what another seat had is what it has
 pub follows_other : (seat other : ℕ) (p q : Point) (es : List Entry) → Follows seat p q → other ≢ seat →
@@ -61,9 +58,9 @@ follows_other seat other p q es (inl grown) apart a =
     agrees_grown p q other (added p q) [] es grown.0 grown.1
     (none_of_other seat other (added p q) (λ is. apart (sym is)) grown.2) a
 follows_other seat other p q es (inr folds) apart a =
-    agrees_grown (fold_point p) q other (added p q) [] es folds.1 (folds.2 ∙ sym (append-nil (added p q)))
+    agrees_grown (fold_of p) q other (added p q) [] es folds.1 (folds.2 ∙ sym (append-nil (added p q)))
     (none_of_other seat other (added p q) (λ is. apart (sym is)) folds.3)
-    (agrees_folded p (fold_point p) other es folds.0 refl refl a)
+    (agrees_folded p (fold_of p) other es folds.0 refl refl a)
 
 -- a point as it is opened has no entry of any seat
 pub agrees_empty : (k : Header) (seat : ℕ) (p : Point) → p.base ≡ opening_base k → p.entries ≡ [] →

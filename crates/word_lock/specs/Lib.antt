@@ -5,3 +5,4 @@ pub mod Held
 pub mod Ready
 pub mod Woken
 pub mod Sleeping
+pub mod inner

@@ -48,3 +48,7 @@ blank_point =
       base = opening_base (record { object = Latch 0; seats = 0; conditions = 0; cap = 0 });
       entries = [];
     }
+
+-- all entries of a point folded
+abbrev pub fold_of : Point → Point
+fold_of p = record { base = folded p.base p.entries; entries = [] }

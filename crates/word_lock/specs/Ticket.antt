@@ -44,17 +44,6 @@ pub record IsTokenInside (views : List View) (free : Bool) : Type 0 where
   pub live : (view_of_badge views).live ≡ free
   pub joined : (view_of_badge views).joined ≡ []
 
--- a view that holds nothing and has looked since it was joined
-abbrev pub IsIdle : View → Type 0
-IsIdle v = (v.holds ≡ false) × (v.live ≡ true) × (v.joined ≡ [])
-
--- the view, on this table, is that of the token
-pub record IsSeatOf (table : TableId) (v : View) (t : Ticket) : Type 0 where
-  pub table_is : table ≡ t.lock.table
-  pub header_is : header_of v.seen ≡ t.lock.header
-  pub logs_are : v.logs ≡ t.logs
-  pub seen_is : v.seen ≡ t.seen
-
 -- the seat of the first log, the only log of a token unless another was joined to it
 abbrev pub first_seat : List SeatLog → ℕ
 first_seat [] = 0

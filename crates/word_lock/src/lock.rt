@@ -2,7 +2,8 @@
 ghost use Rattle.std.specs.Prelude.{◌≡◌, ℕ, true, false, List, [], ◌∷◌, ◌++◌, ◌<◌, length, Some, None, IfSome, IfNone, IfOk, IfErr};
 ghost use Rattle.word_lock.specs.Point.{header_of, Agrees, Before, Follows};
 ghost use Rattle.word_lock.specs.Rule.{view_after_take, view_after_give, AllAgree, AreDistinct, IsFound};
-ghost use Rattle.word_lock.specs.Ticket.{opening_tickets, after_lock, after_unlock, after_meet, first_seat, IsIdle};
+ghost use Rattle.word_lock.specs.Ticket.{opening_tickets, after_lock, after_unlock, after_meet, first_seat};
+ghost use Rattle.word_lock.specs.inner.Ticket.{IsIdle};
 ghost use Rattle.word_lock.specs.Held.{held_ticket};
 ghost use Rattle.word_lock.specs.Woken.{WasWoken};
 

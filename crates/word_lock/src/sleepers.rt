@@ -19,7 +19,8 @@
 //! in between.
 
 ghost use Rattle.std.specs.Prelude.{◌≡◌, ◌↔◌, ◌+◌, ◌%◌, ◌^◌, IfSome, IsNone};
-ghost use Rattle.word_lock.specs.Sleeping.{IsDue, enlisted, on_the_way, wakes};
+ghost use Rattle.word_lock.specs.Sleeping.{wakes};
+ghost use Rattle.word_lock.specs.inner.Sleeping.{IsDue, enlisted, on_the_way};
 
 use std::sync::Wait;
 use std::sync::atomic::{AtomicU64, Ordering};

@@ -1,6 +1,7 @@
 //! Tokens, with which the lock is taken.
 ghost use Rattle.std.specs.Prelude.{◌≡◌, true, false, []};
-ghost use Rattle.word_lock.specs.Ticket.{ticket, IsIdle, IsSeatOf};
+ghost use Rattle.word_lock.specs.Ticket.{ticket};
+ghost use Rattle.word_lock.specs.inner.Ticket.{IsIdle, IsSeatOf};
 
 use crate::view::View;
 use atomic_table::{Badge, Seat};

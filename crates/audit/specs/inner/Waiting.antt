@@ -15,6 +15,7 @@ use Rattle.condition_queue.specs.Sleepers.{Sleepers, asleep_on, sleeper_of}
 use Rattle.deciding.specs.declared.sleep.LastSleep.{LastSleep}
 use Rattle.audit.specs.declared.waiting.Waiting.{Waiting}
 use Rattle.audit.specs.Waiting.{never_slept}
+use Rattle.history.specs.inner.BaseSleepers.{sleeping_seats}
 
 -- what a seat saves at an await
 abbrev pub sleep_by : Entry → LastSleep
@@ -34,10 +35,6 @@ saved_by _ e table = table
 abbrev pub or_kept : Option Sleep → Sleep → Sleep
 or_kept None was = was
 or_kept (Some found) was = found
-
--- the seats that wait on a condition of a base
-abbrev pub sleeping_seats : Base → ℕ → List ℕ
-sleeping_seats b c = map (λ x. x.seat) (sleepers_of b c)
 
 -- none of these seats waits on a condition
 abbrev pub AreAwake : List ℕ → Sleepers → Type 0

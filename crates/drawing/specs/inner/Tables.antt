@@ -25,10 +25,6 @@ line_by Left i table = slice_set table i false
 line_by Back i table = slice_set table i false
 line_by _ i table = table
 
--- the seats that wait on a condition of a base
-abbrev pub sleeping_seats : Base → ℕ → List ℕ
-sleeping_seats b c = map (λ x. x.seat) (sleepers_of b c)
-
 -- the waiters of its condition that an entry moves to the queue
 abbrev pub woken : Word → ℕ → List ℕ → List ℕ
 woken Signal n seats = take n seats

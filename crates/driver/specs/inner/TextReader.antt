@@ -4,6 +4,10 @@ use Rattle.std.specs.Io.KnownBytes.{IsAtEnd}
 use Rattle.line_text.specs.declared.fault.TextFault.TheVariants.{BadLine}
 use Rattle.streams.specs.declared.stream_fault.StreamFault.{StreamFault}
 use Rattle.streams.specs.declared.stream_fault.StreamFault.TheVariants.{Text, ReadFailed, WriteFailed, Memory}
+use Rattle.std.specs.Prelude.{ℕ, List, [], Option}
+use Rattle.line_text.specs.Form.{Form}
+use Rattle.streams.specs.declared.stream_fault.StreamFault.{StreamFault}
+use Rattle.driver.specs.TextReader.{IsFaultOf, Progress, WereRead}
 
 -- what follows the end line after `count` items: nothing, or what makes the next line a bad one
 abbrev pub IsAfterEnd : {I : Type 0} → ℕ → Option (List ℕ) → Result (Option I) StreamFault → Type 0
@@ -13,3 +17,8 @@ IsAfterEnd count left (Err (Text fault)) = (fault ≡ BadLine (count + 3)) × If
 IsAfterEnd count left (Err ReadFailed) = Unit {0}
 IsAfterEnd count left (Err Memory) = ⊥
 IsAfterEnd count left (Err WriteFailed) = ⊥
+
+-- the faults after a header, whatever the text
+abbrev pub IsFaultBehind : {H I : Type 0} → Form H I → Progress H I → Option (List ℕ) → StreamFault → Type 0
+IsFaultBehind form p left fault =
+    (text : Option (List ℕ)) → WereRead form text p [] → IsFaultOf form text left fault

@@ -8,7 +8,8 @@ ghost use Rattle.deciding.specs.Balance.{available};
 ghost use Rattle.deciding.specs.Checks.{refused_as};
 ghost use Rattle.history.specs.Faults.{max_amount};
 ghost use Rattle.history.specs.Line.{line};
-ghost use Rattle.frame.specs.AtOnce.{Gives, IsAlone, IsAtOnce, Takes, moves_nobody};
+ghost use Rattle.frame.specs.AtOnce.{Gives, IsAtOnce};
+ghost use Rattle.frame.specs.inner.AtOnce.{IsAlone, Takes, moves_nobody};
 ghost use Rattle.frame.specs.Core.{start_of, IsAdded, IsNext};
 
 use super::Core;

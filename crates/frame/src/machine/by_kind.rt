@@ -8,8 +8,9 @@ ghost use Rattle.history.specs.declared.step.Step.TheVariants.{Acquire, Give, Lo
 ghost use Rattle.history.specs.Could.{could, held_back, is_seat};
 ghost use Rattle.history.specs.Line.{first_of, line};
 ghost use Rattle.history.specs.Steps.{ended};
-ghost use Rattle.frame.specs.AtOnce.{IsIdle, may_acquire, queues};
-ghost use Rattle.frame.specs.Core.{counts_of, first_mode_of, ready_of, start_of, IsStepped};
+ghost use Rattle.frame.specs.inner.AtOnce.{IsIdle, may_acquire, queues};
+ghost use Rattle.frame.specs.Core.{counts_of, start_of, IsStepped};
+ghost use Rattle.frame.specs.inner.Core.{first_mode_of, ready_of};
 
 use super::Core;
 use crate::hooks::Hooks;

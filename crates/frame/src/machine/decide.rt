@@ -2,7 +2,8 @@
 
 ghost use Rattle.std.specs.Prelude.{◌≡◌, ◌<◌, IfOk, IfSome};
 ghost use Rattle.history.specs.Steps.{entry_for};
-ghost use Rattle.frame.specs.Core.{start_of, first_mode_of, ready_of, IsNext};
+ghost use Rattle.frame.specs.Core.{start_of, IsNext};
+ghost use Rattle.frame.specs.inner.Core.{first_mode_of, ready_of};
 ghost use Rattle.frame.specs.Hooks.{line_mode};
 
 use super::Core;

@@ -1,9 +1,10 @@
 //! Recording the entry of a step.
 
 ghost use Rattle.std.specs.Prelude.{◌≡◌, ◌++◌, ◌<◌, true, if◌then◌else◌, None, IsOk, IfOk, IfSome, OnErr};
-ghost use Rattle.frame.specs.Core.{made_by, places_behind, ready_of};
+ghost use Rattle.frame.specs.Core.{made_by, places_behind};
+ghost use Rattle.frame.specs.inner.Core.{ready_of};
 ghost use Rattle.frame.specs.Core.{IsAdded, IsNext, IsOf, IsRecorded, IsTold, KeepsHolds, NamesBelow};
-ghost use Rattle.frame.specs.Effects.{asks_before};
+ghost use Rattle.frame.specs.inner.Effects.{asks_before};
 ghost use Rattle.frame.specs.Tidied.{HasTidied};
 ghost use Rattle.history.specs.Room.{was_owed};
 

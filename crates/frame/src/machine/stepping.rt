@@ -2,7 +2,8 @@
 
 ghost use Rattle.std.specs.Prelude.{◌≡◌, ◌≢◌, ◌<◌, ◌^◌, ◌++◌, IsOk, IfOk, OnErr, Some};
 ghost use Rattle.acquire_queue.specs.Line.{IsTidy};
-ghost use Rattle.frame.specs.Core.{made_by, places_behind, ready_of, unmarked_at};
+ghost use Rattle.frame.specs.Core.{made_by, places_behind, unmarked_at};
+ghost use Rattle.frame.specs.inner.Core.{ready_of};
 ghost use Rattle.frame.specs.Core.{IsAnswered, IsOf, IsTold, KeepsHolds, MakesOwed, NamesBelow};
 ghost use Rattle.frame.specs.Tidied.{HasTidied, WasTidied};
 

@@ -1,8 +1,8 @@
 use Rattle.std.proofs.Common.{◌≡◌, ◌<◌, ◌≤◌, ℕ, false, [], None}
 use Rattle.condition_queue.specs.Sleepers.{asleep_on, sleeper_of}
 use Rattle.history.specs.Sleepers.{has}
-use Rattle.audit.specs.inner.Waiting.{sleeping_seats}
 use Rattle.audit.proofs.waiting_base.lay_down.Given as goal
+use Rattle.history.specs.inner.BaseSleepers.{sleeping_seats}
 
 -- the sleepers of the conditions passed sleep, and nobody else
 abbrev pub invariant-loop-condition : goal.invariant-loop-condition

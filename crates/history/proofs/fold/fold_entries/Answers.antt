@@ -4,7 +4,7 @@ use Rattle.history.specs.declared.entry.Entry.{Entry}
 use Rattle.history.specs.declared.entry.Mode.TheVariants.{X}
 use Rattle.history.specs.declared.entry.Word.TheVariants as word
 use Rattle.history.specs.Base.{Base}
-use Rattle.history.specs.BasePlaces.{HasPlaces}
+use Rattle.history.specs.inner.BasePlaces.{HasPlaces}
 use Rattle.history.specs.NextBase.{next_base}
 use Rattle.history.proofs.Folding.{folds_nothing}
 use Rattle.history.proofs.FoldSteps.{entry_folded, entry_places}

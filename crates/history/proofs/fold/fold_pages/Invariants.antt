@@ -1,6 +1,6 @@
 use Rattle.std.proofs.Common.{◌≡◌, reverse, take}
 use Rattle.history.specs.Base.{folded}
-use Rattle.history.specs.Paged.{in_pages}
+use Rattle.history.specs.inner.Paged.{in_pages}
 use Rattle.history.proofs.fold.fold_pages.Given as goal
 
 abbrev pub invariant-loop-page : goal.invariant-loop-page

@@ -1,4 +1,4 @@
-use Rattle.history.specs.HeaderReading.{header_at}
+use Rattle.history.specs.inner.HeaderReading.{header_at}
 use Rattle.history.specs.Spelling.{part_of}
 use Rattle.history.proofs.PartLemmas.{part_again}
 use Rattle.history.proofs.Readers.{same_value}

@@ -1,6 +1,6 @@
 use Rattle.std.proofs.Common.{arith, ◌≡◌, ◌+◌, ◌++◌, length, set, ap, subst, sym, ◌∙◌}
 use Rattle.std.specs.Prelude.{vec_capacity}
-use Rattle.history.specs.Paged.{AreKept, in_pages}
+use Rattle.history.specs.inner.Paged.{AreKept, in_pages}
 use Rattle.history.proofs.Paging.{at_hand, entries_turn, hand_small, kept_full, kept_turn, next_empty, next_within}
 use Rattle.history.proofs.pages.find_place.Goals as goal
 

@@ -2,7 +2,7 @@ use Rattle.std.proofs.Common.{true, false, List, map, refl, ap, subst, ◌∙◌
 use Rattle.history.specs.declared.base.LinePlace.{LinePlace}
 use Rattle.history.specs.Base.{Base}
 use Rattle.history_text.specs.declared.base_line.BaseLine.TheVariants.{Stands}
-use Rattle.history_text.specs.BaseFollowing.{HaveFollowed}
+use Rattle.history_text.specs.inner.BaseFollowing.{HaveFollowed}
 use Rattle.history_text.specs.BaseLines.{base_lines, seat_lines, sleeper_lines}
 use Rattle.history_text.specs.BaseRules.{no_sums}
 use Rattle.history_text.proofs.BaseFollowed.{behind_first, behind_seats, first_taken}

@@ -1,8 +1,8 @@
 use Rattle.std.proofs.Common.{◌≡◌, length, get_or, replicate, refl, ap, ◌∙◌, sym, rules}
 use Rattle.std.proofs.lemmas.List.{length-replicate}
 use Rattle.audit.proofs.HoldsFollow.{stands_opened}
-use Rattle.audit.proofs.HoldsLemmas.{blank}
 use Rattle.audit.proofs.holds.Holds.open.Goals as goal
+use Rattle.deciding.proofs.NewTables.{blank}
 
 pub returns-clause-stand : goal.returns-clause-stand
 returns-clause-stand c k seats =

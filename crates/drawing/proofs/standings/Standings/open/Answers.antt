@@ -2,8 +2,8 @@ use Rattle.std.proofs.Common.{◌≡◌, ℕ, false, List, [], length, get_or, r
 use Rattle.std.proofs.lemmas.List.{length-replicate, get_or-replicate}
 use Rattle.std.proofs.lemmas.List.Elements.{All-nil}
 use Rattle.drawing.specs.declared.standings.TheConstants.{CONDITIONS}
-use Rattle.drawing.proofs.StandingOnBase.{blank}
 use Rattle.drawing.proofs.standings.Standings.open.Goals as goal
+use Rattle.deciding.proofs.NewTables.{blank}
 
 pub returns : goal.returns
 returns c k seats =

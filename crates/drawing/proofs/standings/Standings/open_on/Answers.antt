@@ -6,8 +6,9 @@ use Rattle.history.specs.Base.{Base}
 use Rattle.history.specs.Line.{place_of}
 use Rattle.deciding.proofs.HeldTables.{table_length, tabled}
 use Rattle.history.specs.Marks.{is_placed}
-use Rattle.drawing.proofs.StandingOnBase.{blank, stands_on}
+use Rattle.drawing.proofs.StandingOnBase.{stands_on}
 use Rattle.drawing.proofs.standings.Standings.open_on.Goals as goal
+use Rattle.deciding.proofs.NewTables.{blank}
 
 pub returns : goal.returns
 returns c =

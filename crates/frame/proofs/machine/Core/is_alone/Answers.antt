@@ -2,7 +2,7 @@ use Rattle.std.proofs.Common.{◌∙◌, ap, not, sym, subst}
 use Rattle.history.specs.Entries.{start_on}
 use Rattle.deciding.proofs.Bounds.{waits_by}
 use Rattle.condition_queue.proofs.Movable.{sleeps_is}
-use Rattle.frame.specs.AtOnce.{IsAlone}
+use Rattle.frame.specs.inner.AtOnce.{IsAlone}
 use Rattle.frame.specs.Core.{CoreView, with_history}
 use Rattle.frame.specs.Seat.{told_in}
 use Rattle.frame.proofs.AtOnce.{alone}

@@ -3,7 +3,7 @@ use Rattle.history.specs.Entries.{start_on}
 use Rattle.history.specs.Line.{place_of}
 use Rattle.deciding.proofs.Bounds.{waits_by}
 use Rattle.condition_queue.proofs.Movable.{sleeps_is}
-use Rattle.frame.specs.AtOnce.{IsIdle}
+use Rattle.frame.specs.inner.AtOnce.{IsIdle}
 use Rattle.frame.specs.Core.{CoreView, with_history}
 use Rattle.frame.specs.Seat.{told_in}
 use Rattle.frame.proofs.ByKind.{idle}

@@ -5,7 +5,8 @@ use Rattle.history.specs.Counts.{counts}
 use Rattle.history.specs.Entries.{start_on}
 use Rattle.history.specs.Line.{first_of, line}
 use Rattle.history.specs.Naming.{ready_by}
-use Rattle.frame.specs.Core.{CoreView, ready_of, start_of}
+use Rattle.frame.specs.Core.{CoreView, start_of}
+use Rattle.frame.specs.inner.Core.{ready_of}
 use Rattle.frame.proofs.ByKind.{ready_is}
 use Rattle.frame.proofs.machine.Core.is_ready.Goals as goal
 

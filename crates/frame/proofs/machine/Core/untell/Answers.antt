@@ -1,5 +1,6 @@
 use Rattle.std.proofs.Common.{◌≡◌, ◌<◌, ◌∙◌, Some, ap, sym, subst}
-use Rattle.frame.specs.Core.{CoreView, ready_of, unmarked_at, with_history}
+use Rattle.frame.specs.Core.{CoreView, unmarked_at, with_history}
+use Rattle.frame.specs.inner.Core.{ready_of}
 use Rattle.frame.specs.Seat.{told_in}
 use Rattle.frame.proofs.Stepping.{stands_untold}
 use Rattle.frame.proofs.Telling.{view_untold}

@@ -7,8 +7,10 @@ use Rattle.history.specs.Entries.{base_on, start_on}
 use Rattle.history.specs.Naming.{named, ready}
 use Rattle.history.specs.Room.{releases, reserves}
 use Rattle.condition_queue.specs.Following.{Keeps}
-use Rattle.frame.specs.Core.{CoreView, IsAdded, ready_of, with_history}
-use Rattle.frame.specs.Effects.{asks_before, counts_after}
+use Rattle.frame.specs.Core.{CoreView, IsAdded, with_history}
+use Rattle.frame.specs.inner.Core.{ready_of}
+use Rattle.frame.specs.Effects.{counts_after}
+use Rattle.frame.specs.inner.Effects.{asks_before}
 use Rattle.frame.specs.Seat.{seat_behind, telling, told_in}
 use Rattle.condition_queue.proofs.Movable.{joined_next, movable, keeps_next}
 use Rattle.frame.proofs.Telling.{table_behind}

@@ -3,7 +3,7 @@ use Rattle.history.specs.declared.entry.Mode.TheVariants.{S}
 use Rattle.history.specs.declared.step.Step.TheVariants.{Give, Try}
 use Rattle.monitor_fronts.specs.Returned.{whether_of}
 use Rattle.monitor_fronts.proofs.MakingRoom.{steps_begin}
-use Rattle.guarded.specs.Pooling.{brought_by}
+use Rattle.guarded.specs.inner.Pooling.{brought_by}
 use Rattle.guarded.proofs.Fetching.{Ends, call_ends, is_of_semaphore}
 use Rattle.guarded.proofs.pool.Pool.call.Goals as goal
 

@@ -1,6 +1,7 @@
 use Rattle.std.proofs.Common.{rules, ◌≡◌, ◌∙◌, Bool, true, false, Ok, Result, length, sym, ap, subst}
 use Rattle.history.specs.declared.fault.Fault.{Fault}
-use Rattle.guarded.specs.Pooling.{Answers, has_after}
+use Rattle.guarded.specs.Pooling.{Answers}
+use Rattle.guarded.specs.inner.Pooling.{has_after}
 use Rattle.guarded.proofs.pool.Pool.take.Goals as goal
 
 pub call-reply-requires-clause-brings : goal.call-reply-requires-clause-brings

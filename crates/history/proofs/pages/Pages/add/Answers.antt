@@ -1,7 +1,7 @@
 use Rattle.std.proofs.Common.{arith, [], ◌∷◌, ◌++◌, length, ap, subst, sym, ◌∙◌}
 use Rattle.std.proofs.lemmas.List.{length-append}
 use Rattle.std.specs.Prelude.{vec_capacity}
-use Rattle.history.specs.Paged.{AreKept}
+use Rattle.history.specs.inner.Paged.{AreKept}
 use Rattle.history.proofs.Paging.{kept_add, kept_full, kept_length, page_there}
 use Rattle.history.proofs.pages.Pages.add.Goals as goal
 

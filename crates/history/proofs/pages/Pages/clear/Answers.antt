@@ -1,6 +1,6 @@
 use Rattle.std.proofs.Common.{arith, [], ◌++◌, length, ap, subst, sym, ◌∙◌}
 use Rattle.std.specs.Prelude.{vec_capacity}
-use Rattle.history.specs.Paged.{AreKept, PagesView, in_pages}
+use Rattle.history.specs.inner.Paged.{AreKept, PagesView, in_pages}
 use Rattle.history.proofs.Paging.{all_written, cleared, kept_none, length-cleared, none_cleared}
 use Rattle.history.proofs.pages.Pages.clear.Goals as goal
 

@@ -2,7 +2,7 @@ use Rattle.std.proofs.Common.{◌≡◌, ◌/◌, ◌%◌, None, ap, ◌∙◌, 
 use Rattle.std.proofs.lemmas.Grind.{common_steps}
 use Rattle.std.proofs.lemmas.Option.{gets}
 use Rattle.std.specs.Prelude.{slice_get, Some, vec_capacity}
-use Rattle.history.specs.Paged.{PagesView}
+use Rattle.history.specs.inner.Paged.{PagesView}
 use Rattle.history.proofs.Paging.{at_place, get_hand, get_other}
 use Rattle.history.proofs.pages.Pages.get.Goals as goal
 

@@ -1,6 +1,6 @@
 use Rattle.std.proofs.Common.{arith, ◌≡◌, ◌≤◌, length, subst}
 use Rattle.std.specs.Prelude.{vec_capacity}
-use Rattle.history.specs.Paged.{PagesView}
+use Rattle.history.specs.inner.Paged.{PagesView}
 use Rattle.history.proofs.Paging.{kept_length, kept_within}
 use Rattle.history.proofs.pages.Pages.len.Goals as goal
 

@@ -2,7 +2,7 @@ use Rattle.std.proofs.Common.{arith, ◌≡◌, ◌+◌, ◌-◌, ◌*◌, ◌/�
 use Rattle.std.proofs.lemmas.List.{length-append, length-replicate}
 use Rattle.std.specs.Prelude.{vec_capacity}
 use Rattle.history.specs.declared.entry.Entry.{Entry}
-use Rattle.history.specs.Paged.{AreFull, AreKept, PagesView, in_pages}
+use Rattle.history.specs.inner.Paged.{AreFull, AreKept, PagesView, in_pages}
 use Rattle.history.proofs.Paging.{entries_first, full_more, in_pages_more, kept_first, kept_more, none_kept}
 use Rattle.history.proofs.pages.Pages.reserve.Goals as goal
 

@@ -1,7 +1,7 @@
 use Rattle.std.proofs.Common.{rules, tests, ◌==◌}
 use Rattle.std.proofs.lemmas.Iterator.{YieldsList-from_slice}
 use Rattle.std.proofs.lemmas.Iterator.Search.{position_from_yields_List}
-use Rattle.history.proofs.text.place_of.Goals as goal
+use Rattle.history.proofs.text.position_of.Goals as goal
 
 pub returns : goal.returns
 returns c =

@@ -1,0 +1,34 @@
+-- What the calls of a pool ask of its monitor, and what becomes of the items.
+use Rattle.std.specs.Prelude.{if◌then◌else◌, ℕ}
+use Rattle.std.specs.Prelude.{Bool, false, Result, Ok, Err}
+use Rattle.history.specs.declared.fault.Fault.{Fault}
+use Rattle.permit.specs.Deed.{Deed}
+use Rattle.guarded.specs.declared.asking.PoolCall.{PoolCall}
+use Rattle.guarded.specs.declared.asking.PoolCall.TheVariants as asks
+use Rattle.guarded.specs.Full.{Call}
+use Rattle.guarded.specs.Pooling.{fetches, gives_back, tries_fetch}
+
+abbrev pub pool_call : (Deed → Type 0) → PoolCall → Call
+pool_call did (asks.Acquire n how) = fetches did n how
+pool_call did (asks.Try n) = tries_fetch did n
+pool_call did (asks.Release n) = gives_back did n
+
+-- how many items a call brings
+abbrev pub brought_by : PoolCall → ℕ
+brought_by (asks.Release n) = n
+brought_by _ = 0
+
+-- how many items it asks for
+abbrev pub asked_by : PoolCall → ℕ
+asked_by (asks.Acquire n how) = n
+asked_by (asks.Try n) = n
+asked_by (asks.Release n) = 0
+
+-- the call had what it asked for
+abbrev pub is_done : Result Bool Fault → Bool
+is_done (Ok b) = b
+is_done (Err f) = false
+
+-- how many items the caller has after a call, by what it returned
+abbrev pub has_after : PoolCall → Result Bool Fault → ℕ
+has_after asked returned = if is_done returned then asked_by asked else brought_by asked

@@ -1,0 +1,4 @@
+-- What only contracts of private functions cite: no promise of the crate rests on it.
+pub mod BaseFollowing
+pub mod CommonEntry
+pub mod NextLine

@@ -1,0 +1,17 @@
+-- What a step of a pass leaves.
+use Rattle.std.specs.Prelude.{ℕ, Option, None, Result, Ok, Err}
+use Rattle.history.specs.declared.fault.Fault.{Fault}
+use Rattle.history.specs.declared.step.Answer.{Answer}
+use Rattle.history.specs.declared.step.Answer.TheVariants.{Recorded, Sleep}
+use Rattle.monitor.specs.declared.step.Now.{Now}
+use Rattle.monitor.specs.declared.step.Now.TheVariants.{Done}
+
+abbrev pub now_of : Result Answer Fault → Result Now Fault
+now_of (Ok answer) = Ok (Done answer)
+now_of (Err fault) = Err fault
+
+-- the seat that an answer names, if it names one
+abbrev pub named_in : Result Answer Fault → Option ℕ
+named_in (Ok (Recorded e named)) = named
+named_in (Ok Sleep) = None
+named_in (Err fault) = None
