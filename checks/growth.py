@@ -6,8 +6,9 @@ memory that docs/PERFORMANCE.md says of each entry and answer, and no more. Then
 of 2 seats and in one of 256, in which the others are idle, wait in line or sleep: that may take half as long again at
 most. At last threads wait for a second by the clock, and may take a part of it at most, since a thread that waits
 sleeps. All other times are those of the processor, the least of three runs. A case that takes too long is measured
-twice more, since other work on the machine slows it. A run that takes longer than a minute fails. The last line is 'N
-passed, M failed'.
+twice more, since other work on the machine slows it. A run that takes longer than a minute fails. If the example
+program `example_locks` was built beside PROGRAM, it prints a history of a lock, which goes through `fits` and
+`write_text`. The last line is 'N passed, M failed'.
 """
 
 import json
@@ -38,7 +39,8 @@ AWAKE = 0.3  # seconds that they may take meanwhile
 
 @dataclass
 class Case:
-    """A command whose text is made of so many rounds, and the bytes that it and each round may take."""
+    """A command whose text is made of so many rounds, and the bytes that it and each round may take. A word {} of it
+    stands for the number of rounds."""
 
     name: str
     words: list
@@ -46,6 +48,7 @@ class Case:
     text: callable
     bytes: float
     itself: int = ITSELF
+    program: str = ""  # in place of the one that is measured
 
 
 def steps(object, first, round, count, last="", form=1):
@@ -56,6 +59,7 @@ def steps(object, first, round, count, last="", form=1):
 
 PAIR = "0 acquire x 1\n0 give x 1\n"
 LOCK = "lock fair seats {} conditions 1 cap 4294967295"
+LOCKS = "../../example_locks/out/example_locks"  # from the folder of the program
 
 
 def pairs(count):
@@ -106,6 +110,10 @@ def growing(program):
     yield Case("draw all", ["draw", "--from", "0"], 20_000, lambda count: history(program, pairs(count)), 4096)
     yield Case("run", ["run"], 100_000, lambda count: script(call, count), 2 * ENTRY, STACKS)
     yield Case("run with trims", ["run"], 100_000, lambda count: script([*call, "a trim"], count), 0, STACKS)
+    locks = os.path.normpath(f"{os.path.dirname(program)}/{LOCKS}")
+    if os.path.exists(locks):
+        words = ["history_in_parts", "{}", "4000000"]
+        yield Case("a history of a lock", words, 10_000, lambda _: b"", 4096, program=locks)
 
 
 def crowded(program):
@@ -156,7 +164,8 @@ def grows(program, case):
     seconds = []
     for rounds in case.rounds, LONGER * case.rounds:
         size = case.itself + int(rounds * case.bytes)
-        seconds.append(measured(program, case.words, case.text(rounds), size))
+        words = [it.format(rounds) for it in case.words]
+        seconds.append(measured(case.program or program, words, case.text(rounds), size))
         if seconds[-1] is None:
             return False, f"{rounds} rounds failed in {size} bytes, or took more than a minute"
     short, long = seconds

@@ -10,10 +10,11 @@ void *__real_realloc(void *old, size_t size);
 void *__real_aligned_alloc(size_t alignment, size_t size);
 void __real_free(void *block);
 
-/* How many allocations still succeed, and how many blocks are held. */
-static long left = LONG_MAX, held;
+/* How many allocations still succeed, how many were asked for, and how many blocks are held. */
+static long left = LONG_MAX, asked, held;
 
 static bool fails(void) {
+    asked++;
     if (left == 0) return true;
     left--;
     return false;
@@ -59,7 +60,7 @@ static void close_semaphore(void *object) { aqs_sem_close(object); }
 static void close_latch(void *object) { aqs_latch_close(object); }
 
 /* Opens with room for no allocation, for one, and so on until that is enough. Each time before, nothing
-   stays. */
+   stays. A close asks for no memory. */
 static void opens(open_t open, void (*close)(void *)) {
     const aqs_options_t options = {.threads = 3, .history = 100};
     aqs_status_t status = AQS_OUT_OF_MEMORY;
@@ -70,7 +71,9 @@ static void opens(open_t open, void (*close)(void *)) {
         status = open(&object, &options);
         left = LONG_MAX;
         if (status == AQS_OK) {
+            long before_close = asked;
             close(object);
+            CHECK(asked == before_close);
         } else {
             IS(status, AQS_OUT_OF_MEMORY);
             CHECK(!object);
@@ -104,6 +107,25 @@ static void unlocks(void) {
     aqs_lock_close(lock);
 }
 
+static void lock_and_unlock(aqs_lock_t *lock, long times) {
+    for (long i = 0; i < times; i++) {
+        IS(aqs_lock_lock(lock), AQS_OK);
+        IS(aqs_lock_unlock(lock), AQS_OK);
+    }
+}
+
+/* A lock that folds its history whenever it is full asks for no memory once its history was full. */
+static void folds(void) {
+    const aqs_options_t options = {.threads = 2, .history = 100};
+    aqs_lock_t *lock;
+    IS(aqs_lock_open(&lock, &options), AQS_OK);
+    lock_and_unlock(lock, 100);
+    long before = asked;
+    lock_and_unlock(lock, 1000);
+    CHECK(asked == before);
+    aqs_lock_close(lock);
+}
+
 /* A history that is written without memory leaves no block behind. */
 static void histories(void) {
     aqs_sem_t *semaphore;
@@ -130,6 +152,7 @@ int main(void) {
     opens(open_semaphore, close_semaphore);
     opens(open_latch, close_latch);
     unlocks();
+    folds();
     histories();
     CHECK(held == 0);
     puts("memory: good");

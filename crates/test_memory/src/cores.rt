@@ -269,7 +269,7 @@ fn each_number_of_seats_and_conditions_is_opened(rt: HostRuntime) {
 }
 
 /// How many pairs of an acquire and a release are made, by one seat after another.
-const PAIRS: u32 = 600_000;
+const PAIRS: u32 = 1_600_000;
 
 const LONG: Header = Header {
     object: Object::Lock(Policy::NonFair),
