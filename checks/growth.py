@@ -34,7 +34,7 @@ ITSELF = 3 << 20  # bytes that the program takes with a short text
 STACKS = 16 << 20  # and with a thread
 START = 0.01  # seconds that a start may take, whatever it does
 NAP = 1000  # milliseconds for which threads wait
-AWAKE = 0.3  # seconds that they may take meanwhile
+AWAKE = 0.1  # seconds that they may take meanwhile
 
 
 @dataclass
@@ -82,10 +82,11 @@ def script(calls, count):
 
 def napping():
     """A script in which one thread waits on a condition of an object, while it holds another that a second thread asks
-    for."""
-    objects = [[name, LOCK.format(2)] for name in "ab"]
-    nap = ["a acquire x 1", "b acquire x 1", f"b await-timed 0 {NAP}", "b give x 1", "a give x 1"]
-    threads = [{"repeat": 1, "calls": calls} for calls in (nap, ["a acquire x 1", "a give x 1"])]
+    for. The second asks only then, and has an interrupt pending that its wait doesn't heed."""
+    objects = [[name, LOCK.format(2)] for name in "ab"] + [["c", "latch seats 2 count 1 cap 64"]]
+    nap = ["a acquire x 1", "b acquire x 1", "c give s 1", f"b await-timed 0 {NAP}", "b give x 1", "a give x 1"]
+    asks = ["interrupt 1", "c acquire s 1", "a acquire x 1", "a give x 1"]
+    threads = [{"repeat": 1, "calls": calls} for calls in (nap, asks)]
     return json.dumps({"objects": objects, "threads": threads}).encode()
 
 

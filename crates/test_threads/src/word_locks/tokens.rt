@@ -207,20 +207,48 @@ const COMES_LATER: Turns = Turns {
     within: 0,
 };
 
-/// The most processor time that the two threads use, in milliseconds.
+/// Several times. The second thread sleeps again after wakes were sent.
+const HOLDS_OFTEN: Turns = Turns {
+    count: 3,
+    before: 0,
+    within: 200,
+};
+
+const COMES_OFTEN: Turns = Turns {
+    count: 3,
+    before: 50,
+    within: 0,
+};
+
+/// The most processor time that threads use, in milliseconds. A thread that spins would use the processor
+/// all the while.
 const USED: u64 = 60;
 
-// The second thread sleeps, and is woken. A thread that spins would use the processor all the while.
+fn used_so_far<R: Abort + CpuClock>(rt: &R) -> Duration {
+    rt.process_cpu_time().expect(rt, "a clock")
+}
+
+/// Stops if the threads have used more of the processor since `before` than those that sleep may use.
+fn expect_slept<R: Abort + CpuClock>(rt: &R, before: Duration) {
+    let used = used_so_far(rt).saturating_sub(before);
+    assert!(rt; used < Duration::from_millis(USED), "{used:?}");
+}
+
+// The second thread sleeps, and is woken.
 #[test]
 fn one_who_sleeps_is_woken(rt: HostRuntime) {
-    let before = rt.process_cpu_time().expect(&rt, "a clock");
+    let before = used_so_far(&rt);
     let notes = added(&rt, HOLDS, COMES);
-    let used = rt
-        .process_cpu_time()
-        .expect(&rt, "a clock")
-        .saturating_sub(before);
+    expect_slept(&rt, before);
     assert_eq!(rt; (notes.count_of(0), notes.count_of(1)), (1, 1));
-    assert!(rt; used < Duration::from_millis(USED), "{used:?}");
+}
+
+#[test]
+fn one_who_sleeps_again_is_woken_again(rt: HostRuntime) {
+    let before = used_so_far(&rt);
+    let notes = added(&rt, HOLDS_OFTEN, COMES_OFTEN);
+    expect_slept(&rt, before);
+    assert_eq!(rt; (notes.count_of(0), notes.count_of(1)), (3, 3));
 }
 
 /// Two threads sleep while a third one has the lock. The one that is woken first wakes the other.
@@ -233,7 +261,9 @@ fn who_was_woken_wakes_the_next(rt: HostRuntime) {
     let c = last(&lock, &mut tokens, 2);
     let b = last(&lock, &mut tokens, 1);
     let a = last(&lock, &mut tokens, 0);
+    let before = used_so_far(&rt);
     let token = three_add(&rt, &lock, a, b, c);
+    expect_slept(&rt, before);
     let notes = lock.close(&rt, token);
     assert_eq!(rt; notes.list.len(), 3);
 }
