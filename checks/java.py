@@ -9,10 +9,10 @@ order the queue and the sleepers stand, which interrupts are pending. `scenarios
 - COUNT are random (200 unless it is given), by SEED, or by the day if none is given.
 - Those of checks/java/differences.scenarios must differ, since the profile differs from Java there.
 
-What differs is played again with longer times, since the machine may have been slow. If a random scenario
-still differs, it is shrunk and printed. PROGRAM may be a Python file with a function `replay`, as
-checks/rules.py, in place of the built program. The last line is 'N passed, M failed'. Without a JDK nothing
-is compared, and nothing fails.
+What differs, and must not, is played again with longer times, since the machine may have been slow. So is what must
+differ and does not. If a random scenario still differs, it is shrunk and printed. PROGRAM may be a Python file with a
+function `replay`, as checks/rules.py, in place of the built program. The last line is 'N passed, M failed'. Without a
+JDK nothing is compared, and nothing fails.
 """
 
 import collections
@@ -206,7 +206,9 @@ def by_design(comparison):
     """What is wrong with the scenarios that must differ, and how many there are."""
     jdk = comparison.jdk
     many = [each for each in scenarios_of("differences.scenarios", jdk) if is_of(each, version_of(jdk.name))]
-    same = [each for each, bad in zip(many, comparison.differences(many)) if not bad]
+    same = many
+    for short in (SHORT, *LONGER):
+        same = [each for each, bad in zip(same, comparison.differences(same, short)) if not bad]
     return [f"does not differ:\n{scenarios.spelt(each)}" for each in same], len(many)
 
 

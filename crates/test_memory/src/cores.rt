@@ -298,14 +298,14 @@ fn answered(alloc: Global, core: &mut AnyCore, acts: &[Act]) -> usize {
 /// Performs acts in one run, and then one by one.
 fn act_long(rt: &(impl Abort + AllocGlobal), core: &mut AnyCore, acts: &[Act]) {
     let answered = answered(rt.alloc(), core, acts);
-    assert!(rt; answered == 1_200_000 && core.entries() == 1_200_000);
+    assert!(rt; answered == 3_200_000 && core.entries() == 3_200_000);
     for act in acts {
         let _outcome = core.act(*act);
     }
-    assert!(rt; core.entries() == 2_400_000 && core.calls() == 2_400_000);
+    assert!(rt; core.entries() == 6_400_000 && core.calls() == 6_400_000);
 }
 
-/// More than a million steps in one run, and then as many one by one.
+/// More than three million steps in one run, and then as many one by one.
 #[test]
 fn a_long_run_and_a_long_history_find_memory(rt: HostRuntime) {
     let mut acts = Vec::new(rt.alloc());
