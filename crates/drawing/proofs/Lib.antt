@@ -4,6 +4,9 @@ mod StandingOnBase
 mod StretchesFollow
 mod MarksFollow
 mod TracksSeated
+mod TrackPlaces
+mod Unmoved
+mod PlacesFollow
 mod BarsExact
 mod Examples
 pub mod Begins

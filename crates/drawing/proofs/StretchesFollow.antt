@@ -28,7 +28,7 @@ lasting_none s from (e ∷ h) t n ne =
     (rw (ne_eqb (level_of s (e ∷ h) t) n (ne (omega (arith, l)))) refl)) (cases_lt (length h) from)
 
 -- a stretch that is drawn, and one that isn't yet
-drawn : (s : Start) (from : ℕ) (h : List Entry) (t : Track) → from < length h →
+pub drawn : (s : Start) (from : ℕ) (h : List Entry) (t : Track) → from < length h →
     stretch s from h t ≡ record {
       seat = t.seat;
       kind = t.kind;

@@ -102,7 +102,7 @@ there-left i j true q =
     ∙ and-true (is_placed (place_of i q))))
     (cases_eq j i)
 
-there-coming_back : (i : ℕ) (xs : List ℕ) → is_placed (place_of i (map coming_back xs)) ≡ has i xs
+pub there-coming_back : (i : ℕ) (xs : List ℕ) → is_placed (place_of i (map coming_back xs)) ≡ has i xs
 there-coming_back i [] = refl
 there-coming_back i (x ∷ xs) = by (eqb x i) (there-coming_back i xs)
   where
@@ -129,6 +129,17 @@ stayed : (b : Bool) → (b || false) ≡ ((b && true) || false)
 stayed true = refl
 stayed false = refl
 
+-- whether a seat is in the line after an entry: it was there and did not leave, or the entry brings it
+pub line_is : (s : Start) (e : Entry) (h : List Entry) (i : ℕ) →
+    is_placed (place_of i (line s (e ∷ h)))
+    ≡ ((is_placed (place_of i (line s h)) && not (ends_arrival e.word && eqb e.seat i))
+    || is_placed (place_of i (arrivals_by s e.word e h)))
+line_is s e h i =
+    ap (λ q. is_placed (place_of i q)) (line_after s e h)
+    ∙ there-append i (filter (stays e.word e.seat) (line s h)) (arrivals_by s e.word e h)
+    ∙ ap (λ b. b || is_placed (place_of i (arrivals_by s e.word e h)))
+    (there-left i e.seat (ends_arrival e.word) (line s h))
+
 -- the table of the line, to which those are added whom the entry wakes
 pub line_follows : (s : Start) (e : Entry) (h : List Entry) (t : List Bool) (i : ℕ) → e.seat < length t →
     get_or t i false ≡ is_placed (place_of i (line s h)) →
@@ -138,10 +149,7 @@ line_follows s e h t i seat is =
     by e.word
     ∙ ap (λ b. (b && not (ends_arrival e.word && eqb e.seat i))
     || is_placed (place_of i (arrivals_by s e.word e h))) is
-    ∙ sym (ap (λ q. is_placed (place_of i q)) (line_after s e h)
-    ∙ there-append i (filter (stays e.word e.seat) (line s h)) (arrivals_by s e.word e h)
-    ∙ ap (λ b. b || is_placed (place_of i (arrivals_by s e.word e h)))
-    (there-left i e.seat (ends_arrival e.word) (line s h)))
+    ∙ sym (line_is s e h i)
   where
     by : (w : Word) →
         (get_or (line_by w e.seat t) i false || has i (woken w e.n (sleepers s h e.at)))

@@ -1,3 +1,4 @@
 -- What only contracts of private functions cite: no promise of the crate rests on it.
 pub mod Tables
 pub mod Stretches
+pub mod Places

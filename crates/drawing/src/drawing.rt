@@ -16,8 +16,9 @@ ghost use Rattle.drawing.specs.Standings.{AreStanding};
 use crate::amounts::put_point;
 use crate::bar::{Bar, Stretch};
 use crate::mark::{Mark, put_mark};
+use crate::places::put_places;
 use crate::standings::Standings;
-use crate::stretches::{begin_all, end_all, go_on};
+use crate::stretches::{begin_all, end_all, go_on_drawn};
 use deciding::amounts::Amounts;
 use deciding::tables::sum;
 use history::base::Base;
@@ -47,6 +48,8 @@ pub struct Drawing {
     pub(crate) bars: Vec<Bar>,
     pub(crate) marks: Vec<Mark>,
     pub(crate) curve: Vec<i128>,
+    // the places of the stretches that the newest entry can change
+    pub(crate) places: Vec<usize>,
 }
 
 impl Drawing {
@@ -75,7 +78,12 @@ impl Drawing {
         ensures { OnOk result ((s : Start) (from : ℕ) (h : List Entry) → HasDrawn s from h self.old →
             entry.seat < s.header.seats → HasDrawn s from (entry ∷ h) self.new) }
     {
-        let object = self.header.object;
+        let Header {
+            object,
+            conditions,
+            ..
+        } = self.header;
+        put_places(&mut self.places, &self.standings, conditions, entry)?;
         self.standings.note(object, entry)?;
         self.amounts.note(entry);
         let number = self.count;
@@ -83,7 +91,14 @@ impl Drawing {
         if number < self.from {
             return Ok(());
         }
-        go_on(&mut self.stretches, &mut self.bars, &self.standings, number)?;
+        go_on_drawn(
+            self.from,
+            &self.places,
+            &mut self.stretches,
+            &mut self.bars,
+            &self.standings,
+            number,
+        )?;
         put_mark(&mut self.marks, number, entry)?;
         put_point(&self.amounts, object, &mut self.curve)?;
         Ok(())
@@ -131,5 +146,6 @@ fn begin(
         bars: Vec::new(alloc),
         marks: Vec::new(alloc),
         curve: Vec::new(alloc),
+        places: Vec::new(alloc),
     })
 }

@@ -15,6 +15,7 @@ pub mod drawn_entries;
 pub mod kind;
 pub mod laws;
 pub mod mark;
+mod places;
 mod sleepers;
 mod standings;
 mod stretches;

@@ -52,6 +52,17 @@ impl Sleepers {
         self.seats.contains(&seat)
     }
 
+    /// Returns the waiters that an entry on the condition moves to the queue.
+    pub(crate) fn woken(&self, entry: Entry) -> &[u16]
+        ensures { result.now ≡ woken entry.word entry.n self.now }
+    {
+        match entry.word {
+            Word::Signal => &self.seats[..self.seats.len().min(entry.n as usize)],
+            Word::SignalAll => &self.seats,
+            _ => &[],
+        }
+    }
+
     /// Takes an entry on the condition, and marks the waiters that it moves to the queue.
     pub(crate) fn note(&mut self, in_line: &mut Vec<bool>, entry: Entry) -> Result<(), AllocError>
         requires { All (λ i. i < length in_line.old.items) self.old }

@@ -12,7 +12,7 @@ ghost use Rattle.history.specs.declared.entry.Mode.TheVariants.{X, S};
 ghost use Rattle.history.specs.declared.header.Header.{Header};
 ghost use Rattle.drawing.specs.Levels.{level};
 ghost use Rattle.drawing.specs.Standings.{AreStanding};
-ghost use Rattle.drawing.specs.inner.Tables.{holds_by, line_by, table_by};
+ghost use Rattle.drawing.specs.inner.Tables.{holds_by, line_by, table_by, woken};
 ghost use Rattle.history.specs.inner.BaseSleepers.{sleeping_seats};
 
 use crate::kind::Kind;
@@ -82,6 +82,14 @@ impl Standings {
         note_holds(&mut self.exclusive, &mut self.shared, object, entry);
         note_line(&mut self.in_line, entry);
         self.asleep[entry.at as usize].note(&mut self.in_line, entry)
+    }
+
+    /// Returns the seats that an entry moves to the queue from its condition.
+    pub(crate) fn woken(&self, entry: Entry) -> &[u16]
+        requires { length self.now.asleep.items ≡ CONDITIONS }
+        ensures { result.now ≡ woken entry.word entry.n (slice_index_or self.now.asleep.items entry.at []) }
+    {
+        self.asleep[entry.at as usize].woken(entry)
     }
 
     /// Returns the level of a seat and a kind.

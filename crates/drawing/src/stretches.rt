@@ -1,12 +1,14 @@
 //! The stretches of all seats and kinds.
 
-ghost use Rattle.std.specs.Prelude.{◌≡◌, ℕ, ◌<◌, ◌++◌, ◌∷◌, [], List, IfOk, OnOk, map};
+ghost use Rattle.std.specs.Prelude.{◌≡◌, ℕ, ◌<◌, ◌++◌, ◌∷◌, [], List, IfOk, OnOk, length, map};
 ghost use Rattle.std.specs.List.{All, flat_map};
+ghost use Rattle.std.specs.List.Sorted.{IsNonDecreasing};
 ghost use Rattle.history.specs.Start.{Start, opening};
 ghost use Rattle.history.specs.declared.entry.Entry.{Entry};
 ghost use Rattle.drawing.specs.Levels.{asleep_tracks, track, tracks, tracks_of_seat};
 ghost use Rattle.drawing.specs.Standings.{AreStanding};
 ghost use Rattle.drawing.specs.Stretches.{fresh};
+ghost use Rattle.drawing.specs.inner.Places.{StayBeside};
 ghost use Rattle.drawing.specs.inner.Stretches.{bar_of, ending, going_on};
 
 use crate::bar::{Bar, Stretch, put_bar};
@@ -15,8 +17,39 @@ use crate::standings::Standings;
 use history::header::Header;
 use std::alloc::{AllocError, Global};
 
+/// Continues all stretches after the entry of a number, and adds the bars of those that it ends. Only those at
+/// some places, in ascending order, may have another level than before, unless the entry is the first that is
+/// drawn.
+pub(crate) fn go_on_drawn(
+    from: u64,
+    places: &[usize],
+    stretches: &mut Vec<Stretch>,
+    bars: &mut Vec<Bar>,
+    standings: &Standings,
+    number: u64,
+) -> Result<(), AllocError>
+    requires standing { (s : Start) × (h : List Entry) × AreStanding s h standings.now
+        × All (λ x. x.seat < s.header.seats) stretches.old.items
+        × (from < number → StayBeside s h places.now stretches.old.items) }
+    requires some { All (λ x. 0 < x.holds → 0 < number) stretches.old.items }
+    requires within { All (λ p. p < length stretches.old.items) places.now }
+    requires order { IsNonDecreasing places.now }
+    ensures stretches { OnOk result ((s : Start) (h : List Entry) → AreStanding s h standings.now →
+        (from < number → StayBeside s h places.now stretches.old.items) →
+        stretches.new.items ≡ map (going_on s h number) stretches.old.items) }
+    ensures bars { OnOk result ((s : Start) (h : List Entry) → AreStanding s h standings.now →
+        (from < number → StayBeside s h places.now stretches.old.items) →
+        bars.new.items ≡ bars.old.items ++ flat_map (ending s h number) stretches.old.items) }
+{
+    if from < number {
+        go_on_at(places, stretches, bars, standings, number)
+    } else {
+        go_on_everywhere(stretches, bars, standings, number)
+    }
+}
+
 /// Continues all stretches after the entry of a number, and adds the bars of those that it ends.
-pub(crate) fn go_on(
+fn go_on_everywhere(
     stretches: &mut Vec<Stretch>,
     bars: &mut Vec<Bar>,
     standings: &Standings,
@@ -30,18 +63,64 @@ pub(crate) fn go_on(
     ensures bars { OnOk result ((s : Start) (h : List Entry) → AreStanding s h standings.now →
         bars.new.items ≡ bars.old.items ++ flat_map (ending s h number) stretches.old.items) }
 {
-    for index in 0..stretches.len() {
-        let was = stretches[index];
-        let level = standings.level(was.seat, was.kind);
-        if level != was.holds {
-            put_bar(bars, was, number)?;
-            stretches[index] = Stretch {
-                seat: was.seat,
-                kind: was.kind,
-                first: number,
-                holds: level,
-            };
+    for place in 0..stretches.len() {
+        go_on(&mut stretches[place], bars, standings, number)?;
+    }
+    Ok(())
+}
+
+/// Does the same if only the stretches at some places, in ascending order, may have another level.
+fn go_on_at(
+    places: &[usize],
+    stretches: &mut Vec<Stretch>,
+    bars: &mut Vec<Bar>,
+    standings: &Standings,
+    number: u64,
+) -> Result<(), AllocError>
+    requires standing { (s : Start) × (h : List Entry) × AreStanding s h standings.now
+        × All (λ x. x.seat < s.header.seats) stretches.old.items
+        × StayBeside s h places.now stretches.old.items }
+    requires some { All (λ x. 0 < x.holds → 0 < number) stretches.old.items }
+    requires within { All (λ p. p < length stretches.old.items) places.now }
+    requires order { IsNonDecreasing places.now }
+    ensures stretches { OnOk result ((s : Start) (h : List Entry) → AreStanding s h standings.now →
+        StayBeside s h places.now stretches.old.items →
+        stretches.new.items ≡ map (going_on s h number) stretches.old.items) }
+    ensures bars { OnOk result ((s : Start) (h : List Entry) → AreStanding s h standings.now →
+        StayBeside s h places.now stretches.old.items →
+        bars.new.items ≡ bars.old.items ++ flat_map (ending s h number) stretches.old.items) }
+{
+    let mut next = 0;
+    for place in places {
+        // A seat that waits twice, in a history that isn't legal, has its places twice.
+        if next <= *place {
+            go_on(&mut stretches[*place], bars, standings, number)?;
+            next = *place + 1;
         }
+    }
+    Ok(())
+}
+
+/// Continues a stretch after the entry of a number, and adds its bar if the entry ends it.
+fn go_on(
+    stretch: &mut Stretch,
+    bars: &mut Vec<Bar>,
+    standings: &Standings,
+    number: u64,
+) -> Result<(), AllocError>
+    requires standing { (s : Start) × (h : List Entry) × AreStanding s h standings.now
+        × (stretch.old.seat < s.header.seats) }
+    requires some { 0 < stretch.old.holds → 0 < number }
+    ensures stretch { OnOk result ((s : Start) (h : List Entry) → AreStanding s h standings.now →
+        stretch.new ≡ going_on s h number stretch.old) }
+    ensures bars { OnOk result ((s : Start) (h : List Entry) → AreStanding s h standings.now →
+        bars.new.items ≡ bars.old.items ++ ending s h number stretch.old) }
+{
+    let level = standings.level(stretch.seat, stretch.kind);
+    if level != stretch.holds {
+        put_bar(bars, *stretch, number)?;
+        stretch.first = number;
+        stretch.holds = level;
     }
     Ok(())
 }

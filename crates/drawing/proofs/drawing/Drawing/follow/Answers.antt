@@ -1,11 +1,20 @@
-use Rattle.std.proofs.Common.{◌<◌, ◌≤◌, ◌++◌, ◌∷◌, length, map, ap, ◌∙◌, sym, arith}
-use Rattle.std.specs.List.{flat_map}
+use Rattle.std.proofs.Common.{◌≡◌, ℕ, ◌<◌, ◌≤◌, List, [], ◌++◌, ◌∷◌, length, get_or, map, ap, ◌∙◌, sym, subst, arith}
+use Rattle.std.specs.List.{All, flat_map}
+use Rattle.std.specs.List.Sorted.{IsPermutation}
 use Rattle.std.proofs.lemmas.List.Elements.{All-same}
 use Rattle.history.specs.declared.header.Header.{Header}
 use Rattle.drawing.specs.declared.bar.Stretch.{Stretch}
 use Rattle.drawing.specs.Bars.{ended}
 use Rattle.drawing.specs.Stretches.{stretches}
+use Rattle.drawing.specs.Drawing.{HasDrawn}
+use Rattle.drawing.specs.declared.drawing.Drawing.{Drawing}
+use Rattle.drawing.specs.declared.standings.TheConstants.{CONDITIONS}
+use Rattle.drawing.specs.inner.Places.{StayBeside, places_by}
 use Rattle.drawing.specs.inner.Stretches.{ending, going_on}
+use Rattle.drawing.proofs.PlacesFollow.{places_within, rest_stays}
+use Rattle.history.specs.declared.entry.Entry.{Entry}
+use Rattle.history.specs.Sleepers.{sleepers}
+use Rattle.history.specs.Start.{Start}
 use Rattle.drawing.proofs.StretchesFollow.{all_end, all_go_on, none_ends, none_goes_on}
 use Rattle.drawing.specs.Curve.{amount_of, curve, point}
 use Rattle.drawing.specs.Marks.{mark_of, marks, sign_of}
@@ -13,8 +22,27 @@ use Rattle.drawing.proofs.MarksFollow.{no_mark, no_point, one_mark, one_point}
 use Rattle.drawing.proofs.TracksSeated.{stretches_before, stretches_seated}
 use Rattle.drawing.proofs.drawing.Drawing.follow.Goals as goal
 
-pub go_on-requires-clause-standing : goal.go_on-requires-clause-standing
-go_on-requires-clause-standing c =
+-- the places of an entry are those that the definitions say
+at_condition : (s : Start) (from : ℕ) (e : Entry) (h : List Entry) (d : Drawing) (found places : List ℕ) →
+    e.at < CONDITIONS → HasDrawn s from h d → places ≡ found →
+    IsPermutation (places_by d.header.conditions e (get_or d.standings.asleep.items e.at [])) found →
+    IsPermutation (places_by s.header.conditions e (sleepers s h e.at)) places
+at_condition s from e h d found places within was is moves =
+    subst (IsPermutation (places_by s.header.conditions e (sleepers s h e.at))) (sym is)
+    (subst (λ (k : Header). IsPermutation (places_by k.conditions e (sleepers s h e.at)) found) was.header
+    (subst (λ xs. IsPermutation (places_by d.header.conditions e xs) found) (was.standing.sleeps e.at within)
+    moves))
+
+stays : (s : Start) (from : ℕ) (e : Entry) (h : List Entry) (d : Drawing) (found places : List ℕ) →
+    e.at < CONDITIONS → HasDrawn s from h d → from < length h → places ≡ found →
+    IsPermutation (places_by d.header.conditions e (get_or d.standings.asleep.items e.at [])) found →
+    StayBeside s (e ∷ h) places d.stretches.items
+stays s from e h d found places within was more is moves =
+    subst (StayBeside s (e ∷ h) places) (sym was.under_way)
+    (rest_stays s from e h places more (at_condition s from e h d found places within was is moves))
+
+pub go_on_drawn-requires-clause-standing : goal.go_on_drawn-requires-clause-standing
+go_on_drawn-requires-clause-standing c =
     let r = c.requires in
     let s = r.start in (
       s,
@@ -23,10 +51,23 @@ go_on-requires-clause-standing c =
           r.seat,
       All-same (λ (x : Stretch). x.seat < s.header.seats) c.args.self.now.stretches.items
           (stretches s r.from r.entries) r.drawn.under_way (stretches_seated s r.from r.entries),
+      λ more. stays s r.from c.args.entry r.entries c.args.self.now c.put_places.new.places.items
+          c.deref.result.now (omega arith) r.drawn (omega (arith, more, r.drawn.count, r.drawn.begins))
+          c.deref.ensures.value c.in_ok-put_places.ensures.places,
     )
 
-pub go_on-requires-clause-some : goal.go_on-requires-clause-some
-go_on-requires-clause-some c =
+pub go_on_drawn-requires-clause-within : goal.go_on_drawn-requires-clause-within
+go_on_drawn-requires-clause-within c =
+    let r = c.requires in
+    let s = r.start in
+    subst (λ (xs : List Stretch). All (λ p. p < length xs) c.deref.result.now) (sym r.drawn.under_way)
+    (places_within s r.from c.args.entry r.entries r.entries c.deref.result.now r.seat
+    (r.drawn.standing.seated c.args.entry.at)
+    (at_condition s r.from c.args.entry r.entries c.args.self.now c.put_places.new.places.items
+    c.deref.result.now (omega arith) r.drawn c.deref.ensures.value c.in_ok-put_places.ensures.places))
+
+pub go_on_drawn-requires-clause-some : goal.go_on_drawn-requires-clause-some
+go_on_drawn-requires-clause-some c =
     let r = c.requires in
     let s = r.start in
     All-same (λ (x : Stretch). 0 < x.holds → 0 < c.args.self.now.count) c.args.self.now.stretches.items
@@ -56,16 +97,19 @@ returns c = λ s from h was seat.
     let drawn : from ≤ length h = omega (arith, c.if-number-self.false, was.count, was.begins) in
     let standing =
     c.in_ok-note.ensures s h was.standing (ap (λ (x : Header). x.object) (sym was.header)) seat in
+    let stay = λ (more : old.from < old.count).
+    stays s from e h old c.put_places.new.places.items c.deref.result.now (omega arith) was
+    (omega (arith, more, was.count, was.begins)) c.deref.ensures.value c.in_ok-put_places.ensures.places in
     record {
       header = was.header;
       begins = was.begins;
       count = omega (arith, was.count);
       standing = standing;
-      under_way = c.in_ok-go_on.ensures.stretches s (e ∷ h) standing
+      under_way = c.in_ok-go_on_drawn.ensures.stretches s (e ∷ h) standing stay
           ∙ ap (map (going_on s (e ∷ h) old.count)) was.under_way
           ∙ ap (λ n. map (going_on s (e ∷ h) n) (stretches s from h)) was.count
           ∙ all_go_on s from e h drawn;
-      ended = c.in_ok-go_on.ensures.bars s (e ∷ h) standing
+      ended = c.in_ok-go_on_drawn.ensures.bars s (e ∷ h) standing stay
           ∙ ap (λ xs. xs ++ flat_map (ending s (e ∷ h) old.count) old.stretches.items) was.ended
           ∙ ap (λ xs. ended s from h ++ flat_map (ending s (e ∷ h) old.count) xs) was.under_way
           ∙ ap (λ n. ended s from h ++ flat_map (ending s (e ∷ h) n) (stretches s from h)) was.count

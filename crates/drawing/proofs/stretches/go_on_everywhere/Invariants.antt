@@ -1,0 +1,13 @@
+use Rattle.std.proofs.Common.{List}
+use Rattle.history.specs.declared.entry.Entry.{Entry}
+use Rattle.history.specs.Start.{Start}
+use Rattle.drawing.specs.Standings.{AreStanding}
+use Rattle.drawing.specs.inner.Stretches.{ending, going_on}
+use Rattle.drawing.proofs.Walks.{IsWalked}
+use Rattle.drawing.proofs.stretches.go_on_everywhere.Given as goal
+
+abbrev pub invariant-loop-place : goal.invariant-loop-place
+invariant-loop-place l =
+    (s : Start) (h : List Entry) → AreStanding s h l.standings →
+    IsWalked (going_on s h l.number) (ending s h l.number) l.initial.stretches.items l.stretches.items
+    l.initial.bars.items l.bars.items l.place
