@@ -16,5 +16,6 @@ pub mod sink;
 pub mod source;
 pub mod stream_fault;
 mod turns;
+pub mod until_end;
 pub mod window;
 pub mod writing;
