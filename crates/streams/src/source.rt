@@ -15,7 +15,8 @@ pub trait Source {
     /// Whether a read has failed.
     ghost failed: { Self → Bool };
 
-    /// Whether one read may lead from the first source to the second.
+    /// Whether one read may make the second source of the first. Generic code cannot take two reads for one: at
+    /// the end, where both leave the same bytes, only this member tells them apart.
     ghost reads: { Self → Self → Type 0 };
 
     /// Fills the beginning of the buffer, and returns how many bytes. If the buffer has room, 0 is the end of

@@ -46,6 +46,7 @@ impl<R: Source> Source for UntilEnd<R> {
 
     ghost reads = { λ old new. (new ≡ old) ⊎ R.reads old.inner new.inner };
 
+    /// Reads the source below once, or not at all after its end.
     fn read(&mut self, buf: &mut [u8]) -> Result<usize, DeviceFailed>
         requires { R.failed self.old.inner ≡ false }
         ensures bound { IfOk result (λ n. n ≤ length buf.new) }
