@@ -99,7 +99,7 @@ def byte_by_byte(program, words, text):
 
 def at_a_terminal(program, words, text, patience=10):
     """The answer to lines that somebody types at a terminal, and one Ctrl-D after them. None if the program
-    still reads then."""
+    still reads then. The lines wait in the terminal, which holds 4,095 bytes."""
     keyboard, terminal = pty.openpty()
     modes = termios.tcgetattr(terminal)
     modes[3] &= ~termios.ECHO  # nobody reads what the terminal would show
