@@ -2,7 +2,7 @@
 """Checks by the built program, one after the other: checks/by_program.py PROGRAM SEED.
 
 - `limits.py`: each limit at its value and one past it, and long texts.
-- `devices.py`: devices that fail, and ever less memory.
+- `devices.py`: devices that fail, a terminal, and ever less memory.
 - `growth.py`: how time and memory grow with the input and with the seats.
 - `storms.py`: two short storms of threads.
 - `fuzz.py`: random texts, others each day.

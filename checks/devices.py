@@ -1,23 +1,27 @@
 #!/usr/bin/env python3
 """Devices that fail, and lines and texts without end: checks/devices.py PROGRAM [GIGABYTES].
 
-For each of replay, audit, draw and run: input that comes one byte at a time and output that is taken so, an
-output that nobody reads, a full disk, a folder and a file that may not be read as FILE, and ever less memory
-for data until the system does not load the program. Of eight threads each one in turn is not started. With
-GIGABYTES, that much of good steps flows through `aqs replay --history` into `aqs audit` by pipes, and their
-greatest memory is told. The last line is 'N passed, M failed'.
+For each of replay, audit, draw and run: input that comes one byte at a time and output that is taken so, a
+terminal at which one Ctrl-D ends a text, a text that is cut short or no text, an output that nobody reads, a
+full disk, a folder and a file that may not be read as FILE, and ever less memory for data until the system
+does not load the program. Of eight threads each one in turn is not started. With GIGABYTES, that much of good
+steps flows through `aqs replay --history` into `aqs audit` by pipes, and their greatest memory is told. The
+last line is 'N passed, M failed'.
 """
 
 import collections
+import contextlib
 import functools
 import json
 import os
 import pathlib
+import pty
 import resource
 import shutil
 import subprocess
 import sys
 import tempfile
+import termios
 import threading
 
 import rules
@@ -52,6 +56,10 @@ PICTURE = (EXAMPLES / "bounded_buffer.svg").read_bytes()
 # So many pages fewer, and then each of them if the answer is another.
 STEP = 64
 
+# What flows from a pipe: so many equal steps at once.
+LINES = 30_000
+BLOCK = b"255 entryinterrupt s 2147483647\n" * LINES
+
 # The words of each command, its input, and what it writes.
 COMMANDS = [
     (["replay"], STEPS, rules.replay(STEPS)[1]),
@@ -60,6 +68,8 @@ COMMANDS = [
     (["draw"], DRAWN, PICTURE),
     (["run"], SCRIPT, RUN),
 ]
+CUT_SHORT = (3, b"", b"aqs: cut short\n")
+NOT_JSON = (3, b"", b"aqs: not JSON\n")
 READ_FAILED = (4, b"", b"aqs: read failed\n")
 WRITE_FAILED = (4, b"aqs: write failed\n")
 
@@ -85,6 +95,34 @@ def byte_by_byte(program, words, text):
     feeder.join()
     error = child.stderr.read()
     return child.wait(), taken, error
+
+
+def at_a_terminal(program, words, text, patience=10):
+    """The answer to lines that somebody types at a terminal, and one Ctrl-D after them. None if the program
+    still reads then. The lines wait in the terminal, which holds 4,095 bytes."""
+    keyboard, terminal = pty.openpty()
+    modes = termios.tcgetattr(terminal)
+    modes[3] &= ~termios.ECHO  # nobody reads what the terminal would show
+    termios.tcsetattr(terminal, termios.TCSANOW, modes)
+    with open(keyboard, "wb") as typed, open(terminal, "rb") as lines:
+        typed.write(text + modes[6][termios.VEOF])
+        typed.flush()
+        try:
+            done = subprocess.run([program, *words], stdin=lines, capture_output=True, timeout=patience)
+        except subprocess.TimeoutExpired:
+            return None
+    return done.returncode, done.stdout, done.stderr
+
+
+def terminals(program, words, text, wanted):
+    """Whether one Ctrl-D is enough, after a whole text, after one without its last line, and without any."""
+    name, lines = " ".join(words), text.splitlines(keepends=True)
+    fault = NOT_JSON if words == ["run"] else CUT_SHORT
+    whole = at_a_terminal(program, words, text.rstrip() + b"\n")
+    yield f"{name}, a whole text at a terminal", whole == (0, wanted, b"")
+    cut = at_a_terminal(program, words, b"".join(lines[:-1]))
+    yield f"{name}, a text that is cut short at a terminal", cut == fault
+    yield f"{name}, no text at a terminal", at_a_terminal(program, words, b"") == fault
 
 
 def into(program, words, text, output):
@@ -187,6 +225,7 @@ def results(program, scratch):
     for words, text, wanted in COMMANDS:
         name = " ".join(words)
         yield f"{name}, byte by byte", byte_by_byte(program, words, text) == (0, wanted, b"")
+        yield from terminals(program, words, text, wanted)
         yield f"{name}, nobody reads", closed_pipe(program, words, text) == WRITE_FAILED
         with open("/dev/full", "wb") as full:
             yield f"{name}, a full disk", into(program, words, text, full) == WRITE_FAILED
@@ -207,20 +246,23 @@ def results(program, scratch):
     yield "run, threads that are not started", threads_not_started(program)
 
 
+def feed(replay, blocks):
+    """Gives a replay so many blocks of good steps, each an entry. If it ends before, it gets no more."""
+    with contextlib.suppress(BrokenPipeError), replay.stdin as steps:
+        steps.write(b"aqs-steps 1 semaphore fair seats 256 permits 0 cap 4294967295\n")
+        for _ in range(blocks):
+            steps.write(BLOCK)
+        steps.write(b"end %d\n" % (blocks * LINES))
+
+
 def flow(program, gigabytes):
-    """So much of good steps, each an entry, from a pipe into a history text and from there into its audit."""
-    line = b"255 entryinterrupt s 2147483647\n"
-    block = line * 30_000
-    blocks = int(gigabytes * 10**9) // len(block)
+    """So much of good steps from a pipe into a history text, and from there into its audit."""
+    blocks = max(int(gigabytes * 10**9) // len(BLOCK), 1)
+    entries = blocks * LINES
     replay = subprocess.Popen([program, "replay", "--history"], stdin=subprocess.PIPE, stdout=subprocess.PIPE)
     audit = subprocess.Popen([program, "audit"], stdin=replay.stdout, stdout=subprocess.PIPE)
     replay.stdout.close()
-    replay.stdin.write(b"aqs-steps 1 semaphore fair seats 256 permits 0 cap 4294967295\n")
-    for _ in range(blocks):
-        replay.stdin.write(block)
-    entries = blocks * 30_000
-    replay.stdin.write(b"end %d\n" % entries)
-    replay.stdin.close()
+    feed(replay, blocks)
     written = audit.stdout.read()
     for name, child in (("replay --history", replay), ("audit", audit)):
         _, status, used = os.wait4(child.pid, 0)

@@ -26,6 +26,7 @@ use std::thread::Threads;
 use std::time::Clock;
 use streams::device::Device;
 use streams::stream_fault::StreamFault;
+use streams::until_end::UntilEnd;
 use tasks::ending::status_of_end;
 use tasks::fault::Fault;
 use tasks::perform::perform;
@@ -39,7 +40,7 @@ fn finish<R: AllocGlobal + Threads + Wait + Clock + Sync, I: Read + Drop, O: Wri
     input: I,
     output: O,
 ) -> Result<u8, Fault> {
-    let mut reader = Device::new(input);
+    let mut reader = UntilEnd::new(Device::new(input));
     let mut writer = Device::new(output);
     match job {
         Job::Answer(task) => perform(rt.alloc(), &mut reader, &mut writer, task),

@@ -3,6 +3,7 @@ pub mod MemorySource
 pub mod ReadingOn
 pub mod Streams
 pub mod Turns
+pub mod UntilEnd
 pub mod Writing
 pub mod Window
 pub mod inner

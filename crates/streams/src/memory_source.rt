@@ -58,11 +58,14 @@ impl Source for MemorySource {
 
     ghost failed = { λ s. s.failed };
 
+    ghost reads = { λ old new. (new.failed ≡ false) → (new.fails_at ≡ one_fewer old.fails_at) };
+
     fn read(&mut self, buf: &mut [u8]) -> Result<usize, DeviceFailed>
         requires { self.old.failed ≡ false }
         ensures bound { IfOk result (λ n. n ≤ length buf.new) }
         ensures bytes { ReadConsumes (Some self.old.left) (Some self.new.left) result buf.new }
         ensures failing { IsTrue self.new.failed ↔ IsErr result }
+        ensures once { self.new.failed ≡ false → self.new.fails_at ≡ one_fewer self.old.fails_at }
 
         ensures gives { IfOk result (λ n.
             n ≡ min self.old.piece (min (length buf.new) (length self.old.left))) }
