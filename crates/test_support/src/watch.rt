@@ -16,8 +16,6 @@ pub struct Watch {
     memory: Memory,
     /// How many pieces were free when it was opened.
     opening: usize,
-    /// How many were free at the first write.
-    first: Option<usize>,
     /// The fewest that were free at a write.
     fewest: usize,
     written: usize,
@@ -32,7 +30,6 @@ impl Watch {
         Ok(Watch {
             memory,
             opening,
-            first: None,
             fewest: opening,
             written: 0,
         })
@@ -47,23 +44,11 @@ impl Watch {
     pub fn missed(&self) -> usize {
         self.opening.saturating_sub(self.fewest)
     }
-
-    /// Returns how many pieces were missed at some write, of those that were free at the first one.
-    pub fn missed_since_first(&self) -> usize {
-        match self.first {
-            Some(first) => first.saturating_sub(self.fewest),
-            None => 0,
-        }
-    }
 }
 
 impl io::Write for Watch {
     fn write(&mut self, buf: &[u8]) -> io::Result<usize> {
-        let free = self.memory.free_pieces();
-        if self.first.is_none() {
-            self.first = Some(free);
-        }
-        self.fewest = self.fewest.min(free);
+        self.fewest = self.memory.free_pieces().min(self.fewest);
         self.written = self.written.saturating_add(buf.len());
         Ok(buf.len())
     }
