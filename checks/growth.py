@@ -8,7 +8,8 @@ most. At last threads wait for a second by the clock, and may take a part of it 
 sleeps. All other times are those of the processor, the least of three runs. A case that takes too long is measured
 twice more, since other work on the machine slows it. A run that takes longer than a minute fails. If the example
 program `example_locks` was built beside PROGRAM, it prints a history of a lock, which goes through `fits` and
-`write_text`. The last line is 'N passed, M failed'.
+`write_text`. If `bench_pairs` was, it opens and closes locks of 64 seats, and as many of 256: that may take six times
+as long at most. The last line is 'N passed, M failed'.
 """
 
 import json
@@ -33,6 +34,8 @@ LISTED = 1.4  # answers, and entries that were folded, stand in lists, which hav
 ITSELF = 3 << 20  # bytes that the program takes with a short text
 STACKS = 16 << 20  # and with a thread
 START = 0.01  # seconds that a start may take, whatever it does
+CLOSES = 5_000  # locks that are opened and closed
+WIDER = 6  # as long with 256 seats as with 64 at most
 NAP = 1000  # milliseconds for which threads wait
 AWAKE = 0.1  # seconds that they may take meanwhile
 
@@ -60,6 +63,7 @@ def steps(object, first, round, count, last="", form=1):
 PAIR = "0 acquire x 1\n0 give x 1\n"
 LOCK = "lock fair seats {} conditions 1 cap 4294967295"
 LOCKS = "../../example_locks/out/example_locks"  # from the folder of the program
+PAIRS = "../../bench_pairs/out/bench_pairs"
 
 
 def pairs(count):
@@ -95,6 +99,11 @@ def history(program, text):
     return subprocess.run([program, "replay", "--history"], input=text, capture_output=True, check=True).stdout
 
 
+def beside(program, other):
+    """The path of another program."""
+    return os.path.normpath(f"{os.path.dirname(program)}/{other}")
+
+
 def growing(program):
     """The cases of a text that grows."""
     call = ["a acquire x 1", "a give x 1"]
@@ -111,7 +120,7 @@ def growing(program):
     yield Case("draw all", ["draw", "--from", "0"], 20_000, lambda count: history(program, pairs(count)), 4096)
     yield Case("run", ["run"], 100_000, lambda count: script(call, count), 2 * ENTRY, STACKS)
     yield Case("run with trims", ["run"], 100_000, lambda count: script([*call, "a trim"], count), 0, STACKS)
-    locks = os.path.normpath(f"{os.path.dirname(program)}/{LOCKS}")
+    locks = beside(program, LOCKS)
     if os.path.exists(locks):
         words = ["history_in_parts", "{}", "4000000"]
         yield Case("a history of a lock", words, 10_000, lambda _: b"", 4096, program=locks)
@@ -182,6 +191,14 @@ def is_crowd_borne(program, words, text):
     return many <= CROWDED * few + START, f"{few:.3f} s with 2 seats, {many:.3f} s with 256"
 
 
+def closes(pairs):
+    """Whether a lock is closed without a look of each seat at all seats, and the numbers."""
+    few, many = (measured(pairs, ["closes", str(seats), str(CLOSES)], b"") for seats in (64, 256))
+    if not few or not many:
+        return False, "failed, or took more than a minute"
+    return many <= WIDER * few + START, f"{few:.3f} s with 64 seats, {many:.3f} s with 256"
+
+
 def sleeps(program):
     """Whether threads wait as long as they are to, and take hardly any time of the processor, and the numbers."""
     begun = time.monotonic()
@@ -203,6 +220,9 @@ def tried(measure, *given):
 def main(program):
     results = [(case.name, *tried(grows, program, case)) for case in growing(program)]
     results += [(name, *tried(is_crowd_borne, program, words, text)) for name, words, text in crowded(program)]
+    pairs = beside(program, PAIRS)
+    if os.path.exists(pairs):
+        results.append(("locks that are closed", *tried(closes, pairs)))
     results.append(("run, threads that wait", *tried(sleeps, program)))
     for name, is_good, numbers in results:
         print(f"{'good' if is_good else 'FAILED'}: {name}: {numbers}", flush=True)

@@ -1,12 +1,15 @@
-//! Pairs of acquire and release by 1 to 8 threads, counted or measured.
+//! Pairs of acquire and release by 1 to 8 threads, counted or measured; and locks that are closed.
 //!
 //! - `lock_pairs`: pairs under the word lock, and under std's mutex.
 //! - `monitor_pairs`: pairs at monitors of each kind.
+//! - `closes`: locks that are opened and closed.
 //!
-//! `bench_pairs` makes a few pairs of both, and `bench_pairs NAME` a few of one. `bench_pairs lock_pairs
-//! measure` and `bench_pairs monitor_pairs measure MS` measure how many pairs the threads make.
+//! `bench_pairs` makes a few of each, and `bench_pairs NAME` a few of one. `bench_pairs lock_pairs measure`
+//! and `bench_pairs monitor_pairs measure MS` measure how many pairs the threads make. `bench_pairs closes
+//! SEATS TIMES` closes this many locks of this many seats.
 #![tactic(auto)]
 
+mod closes;
 mod lock_pairs;
 mod monitor_pairs;
 
@@ -20,7 +23,7 @@ fn word_at(words: &[String], place: usize) -> Option<&str> {
     words.get(place).map(|word| word.as_str())
 }
 
-/// Makes the pairs that the words ask for.
+/// Makes the pairs or the closes that the words ask for.
 fn run<R: Print + Eprint + AllocGlobal + Threads + Wait + Clock + Sync>(
     rt: &R,
     words: &[String],
@@ -30,10 +33,12 @@ fn run<R: Print + Eprint + AllocGlobal + Threads + Wait + Clock + Sync>(
     match word_at(words, 0) {
         None => {
             lock_pairs::run(rt, false)?;
-            monitor_pairs::run(rt, false, None)
+            monitor_pairs::run(rt, false, None)?;
+            closes::run(rt, None, None)
         }
         Some("lock_pairs") => lock_pairs::run(rt, measure),
         Some("monitor_pairs") => monitor_pairs::run(rt, measure, milliseconds),
+        Some("closes") => closes::run(rt, word_at(words, 1), word_at(words, 2)),
         Some(other) => eprintln!(rt; "bench_pairs: no pairs {other}"),
     }
 }

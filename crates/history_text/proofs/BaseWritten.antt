@@ -1,7 +1,7 @@
 -- Lines of a base, written or followed one after another.
 use Rattle.std.proofs.Common.{◌≡◌, ℕ, suc, ◌+◌, ◌<◌, List, [], ◌∷◌, ◌++◌, length, map, get_or}
-use Rattle.std.proofs.Common.{drop, refl, sym, ap, ◌∙◌, arith, append_assoc, append-nil}
-use Rattle.std.proofs.lemmas.List.{drop-map}
+use Rattle.std.proofs.Common.{drop, take, min, refl, sym, ap, ◌∙◌, ◌≤◌, arith, append_assoc, append-nil}
+use Rattle.std.proofs.lemmas.List.{drop-map, length-take, take-append-le}
 use Rattle.std.proofs.Math.Seq.{drop-cons}
 use Rattle.history.specs.declared.base.SeatBase.{SeatBase}
 use Rattle.history.specs.declared.base.Sleeper.{Sleeper}
@@ -10,6 +10,15 @@ use Rattle.history_text.specs.declared.base_line.BaseLine.{BaseLine}
 use Rattle.history_text.specs.declared.base_line.BaseLine.TheVariants.{Seat, Sleeps}
 use Rattle.history_text.specs.BaseLines.{base_line, seat_lines, sleeper_lines}
 use Rattle.history_text.specs.Pieces.{lines_text}
+
+-- what was there first stays there if more is written
+pub front_kept : (old out new xs : List ℕ) → take (length old) out ≡ old → new ≡ out ++ xs →
+    take (length old) new ≡ old
+front_kept old out new xs kept is =
+    let long : min (length old) (length out) ≡ length old =
+    sym (length-take (length old) out) ∙ ap length kept in
+    let le : length old ≤ length out = omega (arith, long) in
+    ap (take (length old)) is ∙ take-append-le (length old) out xs le ∙ kept
 
 -- one line more is written
 pub line_written : (out new : List ℕ) (x : BaseLine) (rest : List BaseLine) (all : List ℕ) →

@@ -1,6 +1,6 @@
 //! A line of a base.
 
-ghost use Rattle.std.specs.Prelude.{◌≡◌, ◌++◌, OnOk, codes, decimal};
+ghost use Rattle.std.specs.Prelude.{◌≡◌, ◌++◌, OnErr, OnOk, codes, decimal, length, take};
 ghost use Rattle.history.specs.EntryWords.{IsWritten};
 ghost use Rattle.history_text.specs.BaseLineLimits.{IsBaseLine};
 ghost use Rattle.history_text.specs.BaseLines.{base_line, waiting_entry};
@@ -62,10 +62,27 @@ pub(crate) fn waiting_entry(standing: &LinePlace) -> Entry
     }
 }
 
-/// Appends the words of a line. On an error only the first bytes may have been appended.
+/// Appends the words of a line. On an error the bytes are as before.
 pub fn put_base_line(out: &mut Vec<u8>, line: &BaseLine) -> Result<(), AllocError>
     requires { IsBaseLine line.now }
-    ensures { OnOk result (out.new.items ≡ out.old.items ++ base_line line.now) }
+    ensures ok { OnOk result (out.new.items ≡ out.old.items ++ base_line line.now) }
+    ensures err { OnErr result (out.new.items ≡ out.old.items) }
+{
+    let before = out.len();
+    match put_words(out, line) {
+        Ok(()) => Ok(()),
+        Err(AllocError) => {
+            out.truncate(before);
+            Err(AllocError)
+        }
+    }
+}
+
+/// Appends the words of a line. On an error only the first bytes may have been appended.
+fn put_words(out: &mut Vec<u8>, line: &BaseLine) -> Result<(), AllocError>
+    requires { IsBaseLine line.now }
+    ensures ok { OnOk result (out.new.items ≡ out.old.items ++ base_line line.now) }
+    ensures err { OnErr result (take (length out.old.items) out.new.items ≡ out.old.items) }
 {
     match line {
         BaseLine::Folded(entries) => {
@@ -91,7 +108,8 @@ pub fn put_base_line(out: &mut Vec<u8>, line: &BaseLine) -> Result<(), AllocErro
 }
 
 fn put_seat(out: &mut Vec<u8>, seat: u16, has: &SeatBase) -> Result<(), AllocError>
-    ensures { OnOk result (out.new.items ≡ out.old.items ++ base_line (Seat seat has.now)) }
+    ensures ok { OnOk result (out.new.items ≡ out.old.items ++ base_line (Seat seat has.now)) }
+    ensures err { OnErr result (take (length out.old.items) out.new.items ≡ out.old.items) }
 {
     put_calls(out, seat, has.calls)?;
     out.extend_from_slice(b" x ")?;
@@ -102,8 +120,9 @@ fn put_seat(out: &mut Vec<u8>, seat: u16, has: &SeatBase) -> Result<(), AllocErr
 
 /// Appends a seat and the number of calls that it ended.
 fn put_calls(out: &mut Vec<u8>, seat: u16, calls: u64) -> Result<(), AllocError>
-    ensures { OnOk result (out.new.items
+    ensures ok { OnOk result (out.new.items
         ≡ out.old.items ++ codes "seat " ++ decimal seat ++ codes " calls " ++ decimal calls) }
+    ensures err { OnErr result (take (length out.old.items) out.new.items ≡ out.old.items) }
 {
     out.extend_from_slice(b"seat ")?;
     put_number(out, u64::from(seat))?;
@@ -113,7 +132,8 @@ fn put_calls(out: &mut Vec<u8>, seat: u16, calls: u64) -> Result<(), AllocError>
 
 fn put_standing(out: &mut Vec<u8>, standing: &LinePlace) -> Result<(), AllocError>
     requires { IsWritten (waiting_entry standing.now) }
-    ensures { OnOk result (out.new.items ≡ out.old.items ++ base_line (Stands standing.now)) }
+    ensures ok { OnOk result (out.new.items ≡ out.old.items ++ base_line (Stands standing.now)) }
+    ensures err { OnErr result (take (length out.old.items) out.new.items ≡ out.old.items) }
 {
     let entry = waiting_entry(standing);
     out.extend_from_slice(b"line ")?;
@@ -123,7 +143,8 @@ fn put_standing(out: &mut Vec<u8>, standing: &LinePlace) -> Result<(), AllocErro
 }
 
 fn put_sleeper(out: &mut Vec<u8>, condition: u8, sleeper: &Sleeper) -> Result<(), AllocError>
-    ensures { OnOk result (out.new.items ≡ out.old.items ++ base_line (Sleeps condition sleeper.now)) }
+    ensures ok { OnOk result (out.new.items ≡ out.old.items ++ base_line (Sleeps condition sleeper.now)) }
+    ensures err { OnErr result (take (length out.old.items) out.new.items ≡ out.old.items) }
 {
     out.extend_from_slice(b"sleeper ")?;
     put_number(out, u64::from(condition))?;

@@ -1,6 +1,6 @@
 //! Writing the lines of a base.
 
-ghost use Rattle.std.specs.Prelude.{◌≡◌, ◌∷◌, ◌++◌, ◌<◌, ◌≤◌, ◌^◌, [], OnOk, length, map};
+ghost use Rattle.std.specs.Prelude.{◌≡◌, ◌∷◌, ◌++◌, ◌<◌, ◌≤◌, ◌^◌, [], OnErr, OnOk, length, map, take};
 ghost use Rattle.std.specs.List.{AllByRecursion};
 ghost use Rattle.history.specs.declared.limits.TheConstants.{MOST_CONDITIONS};
 ghost use Rattle.history_text.specs.BaseLineLimits.{IsBaseLine};
@@ -18,7 +18,8 @@ use std::alloc::AllocError;
 pub(crate) fn put_base(out: &mut Vec<u8>, base: &Base) -> Result<(), AllocError>
     requires conditions { length base.now.sleepers ≤ MOST_CONDITIONS }
     requires each { AllByRecursion IsBaseLine (base_lines base.now) }
-    ensures { OnOk result (out.new.items ≡ out.old.items ++ lines_text (base_lines base.now)) }
+    ensures ok { OnOk result (out.new.items ≡ out.old.items ++ lines_text (base_lines base.now)) }
+    ensures err { OnErr result (take (length out.old.items) out.new.items ≡ out.old.items) }
 {
     put_line(out, &first_line(base))?;
     put_seats(out, &base.seats)?;
@@ -40,7 +41,8 @@ pub(crate) fn first_line(base: &Base) -> BaseLine
 /// Appends a line and its break.
 fn put_line(out: &mut Vec<u8>, line: &BaseLine) -> Result<(), AllocError>
     requires { IsBaseLine line.now }
-    ensures { OnOk result (out.new.items ≡ out.old.items ++ lines_text (line.now ∷ [])) }
+    ensures ok { OnOk result (out.new.items ≡ out.old.items ++ lines_text (line.now ∷ [])) }
+    ensures err { OnErr result (take (length out.old.items) out.new.items ≡ out.old.items) }
 {
     put_base_line(out, line)?;
     out.push(b'\n')?;
@@ -49,7 +51,8 @@ fn put_line(out: &mut Vec<u8>, line: &BaseLine) -> Result<(), AllocError>
 
 fn put_seats(out: &mut Vec<u8>, seats: &[SeatBase]) -> Result<(), AllocError>
     requires { AllByRecursion IsBaseLine (seat_lines 0 seats.now) }
-    ensures { OnOk result (out.new.items ≡ out.old.items ++ lines_text (seat_lines 0 seats.now)) }
+    ensures ok { OnOk result (out.new.items ≡ out.old.items ++ lines_text (seat_lines 0 seats.now)) }
+    ensures err { OnErr result (take (length out.old.items) out.new.items ≡ out.old.items) }
 {
     for (seat, has) in seats.iter().enumerate() {
         put_line(out, &BaseLine::Seat(seat as u16, *has))?;
@@ -59,7 +62,8 @@ fn put_seats(out: &mut Vec<u8>, seats: &[SeatBase]) -> Result<(), AllocError>
 
 fn put_standings(out: &mut Vec<u8>, line: &[LinePlace]) -> Result<(), AllocError>
     requires { AllByRecursion IsBaseLine (map Stands line.now) }
-    ensures { OnOk result (out.new.items ≡ out.old.items ++ lines_text (map Stands line.now)) }
+    ensures ok { OnOk result (out.new.items ≡ out.old.items ++ lines_text (map Stands line.now)) }
+    ensures err { OnErr result (take (length out.old.items) out.new.items ≡ out.old.items) }
 {
     for standing in line {
         put_line(out, &BaseLine::Stands(*standing))?;
@@ -70,8 +74,9 @@ fn put_standings(out: &mut Vec<u8>, line: &[LinePlace]) -> Result<(), AllocError
 fn put_sleepers(out: &mut Vec<u8>, lists: &[Vec<Sleeper>]) -> Result<(), AllocError>
     requires few { length lists.now ≤ MOST_CONDITIONS }
     requires each { AllByRecursion IsBaseLine (sleeper_lines 0 (map (λ list. list.items) lists.now)) }
-    ensures { OnOk result (out.new.items
+    ensures ok { OnOk result (out.new.items
         ≡ out.old.items ++ lines_text (sleeper_lines 0 (map (λ list. list.items) lists.now))) }
+    ensures err { OnErr result (take (length out.old.items) out.new.items ≡ out.old.items) }
 {
     for (condition, list) in lists.iter().enumerate() {
         put_asleep(out, condition as u8, list)?;
@@ -81,7 +86,8 @@ fn put_sleepers(out: &mut Vec<u8>, lists: &[Vec<Sleeper>]) -> Result<(), AllocEr
 
 fn put_asleep(out: &mut Vec<u8>, condition: u8, list: &[Sleeper]) -> Result<(), AllocError>
     requires { AllByRecursion IsBaseLine (map (Sleeps condition) list.now) }
-    ensures { OnOk result (out.new.items ≡ out.old.items ++ lines_text (map (Sleeps condition) list.now)) }
+    ensures ok { OnOk result (out.new.items ≡ out.old.items ++ lines_text (map (Sleeps condition) list.now)) }
+    ensures err { OnErr result (take (length out.old.items) out.new.items ≡ out.old.items) }
 {
     for sleeper in list {
         put_line(out, &BaseLine::Sleeps(condition, *sleeper))?;

@@ -1,6 +1,6 @@
 //! Writing the text of a history.
 
-ghost use Rattle.std.specs.Prelude.{◌≡◌, ◌≤◌, ◌++◌, All, IfOk, IfErr, OnOk, reverse};
+ghost use Rattle.std.specs.Prelude.{◌≡◌, ◌≤◌, ◌++◌, All, IfOk, IfErr, OnErr, OnOk, length, reverse, take};
 ghost use Rattle.std.specs.Option.{option_copied};
 ghost use Rattle.history.specs.declared.fault.Fault.TheVariants.{OutOfMemory};
 ghost use Rattle.history.specs.Entries.{IsBasedWell, base_on, or_opening};
@@ -65,7 +65,7 @@ fn written(alloc: Global, header: &Header, history: &History) -> Result<Vec<u8>,
 }
 
 /// Appends the first line and the lines of a base. Returns how many entries were folded, and how many calls
-/// they ended.
+/// they ended. On an error the bytes are as before.
 pub fn put_head(
     out: &mut Vec<u8>,
     header: &Header,
@@ -73,8 +73,32 @@ pub fn put_head(
 ) -> Result<(u64, u64), AllocError>
     requires range { IsInRange header.now }
     requires base { IsBasedWell header.now (option_copied base) }
-    ensures { IfOk result (λ r. IsHeadPut (or_opening header.now (option_copied base.entry)) out.old.items
+    ensures ok { IfOk result (λ r. IsHeadPut (or_opening header.now (option_copied base.entry)) out.old.items
         out.new.items r.0 r.1) }
+    ensures err { OnErr result (out.new.items ≡ out.old.items) }
+{
+    let before = out.len();
+    match put_any_head(out, header, base) {
+        Ok(counts) => Ok(counts),
+        Err(AllocError) => {
+            out.truncate(before);
+            Err(AllocError)
+        }
+    }
+}
+
+/// Appends the head of a history on a base or on none. On an error only the first bytes may have been
+/// appended.
+fn put_any_head(
+    out: &mut Vec<u8>,
+    header: &Header,
+    base: Option<&Base>,
+) -> Result<(u64, u64), AllocError>
+    requires range { IsInRange header.now }
+    requires base { IsBasedWell header.now (option_copied base) }
+    ensures ok { IfOk result (λ r. IsHeadPut (or_opening header.now (option_copied base.entry)) out.old.items
+        out.new.items r.0 r.1) }
+    ensures err { OnErr result (take (length out.old.items) out.new.items ≡ out.old.items) }
 {
     if let Some(base) = base {
         if base.entries != 0 {
@@ -89,17 +113,20 @@ fn put_base_head(out: &mut Vec<u8>, header: &Header, base: &Base) -> Result<(u64
     requires range { IsInRange header.now }
     requires some { 1 ≤ base.now.entries }
     requires base { (base.now.header ≡ header.now) × IsGood base.now }
-    ensures { IfOk result (λ r. IsHeadPut base.now out.old.items out.new.items r.0 r.1) }
+    ensures ok { IfOk result (λ r. IsHeadPut base.now out.old.items out.new.items r.0 r.1) }
+    ensures err { OnErr result (take (length out.old.items) out.new.items ≡ out.old.items) }
 {
     put_first_line(out, b"aqs-history 2 ", header)?;
     put_base(out, base)?;
     Ok((base.entries as u64, calls_of(&base.seats)))
 }
 
-/// Appends the name of a format, the object part and the line break.
+/// Appends the name of a format, the object part and the line break. On an error only the first bytes may have
+/// been appended.
 fn put_first_line(out: &mut Vec<u8>, name: &[u8], header: &Header) -> Result<(), AllocError>
     requires { IsInRange header.now }
-    ensures { OnOk result (out.new.items ≡ out.old.items ++ ended (name.now ++ part_of header.now)) }
+    ensures ok { OnOk result (out.new.items ≡ out.old.items ++ ended (name.now ++ part_of header.now)) }
+    ensures err { OnErr result (take (length out.old.items) out.new.items ≡ out.old.items) }
 {
     out.extend_from_slice(name)?;
     header.write_part(out).map_err(|_| AllocError)?;

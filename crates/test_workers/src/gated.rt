@@ -1,6 +1,6 @@
 //! What gates see, and which calls they refuse.
 
-use crate::gates::{Crossing, Tally};
+use crate::gates::{Crossing, Refusing, Tally};
 use crate::runs::run;
 use std::process::Abort;
 use workers::RunFault::GateShut;
@@ -45,4 +45,19 @@ fn a_gate_sees_the_calls_of_all_rounds_and_the_lowest_worker_that_it_stops_is_to
     assert!(rt; run(&rt, FOUR, &tally, &mut written) == Some(GateShut(1)));
     assert!(rt; tally.has_counted([12, 6, 4, 12], [12, 5, 3, 12]));
     assert_eq!(rt; tally.gone(), 32);
+}
+
+/// Thread 1 waits for a permit. Each call of thread 0 gives one, and so does that of thread 2.
+const THREE: &str = r#"{"objects":[["a","semaphore nonfair seats 3 permits 0 cap 64"]],
+ "threads":[{"repeat":2,"calls":["a give s 1","a give s 1"]},
+ {"repeat":1,"calls":["a acquire s 1"]},
+ {"repeat":1,"calls":["a give s 1"]}]}"#;
+
+/// The run leaves no history, since a gate was shut. But another worker would see the call, or one after it.
+#[test]
+fn a_call_that_a_gate_refuses_is_not_made(rt: HostRuntime) {
+    let mut written = Vec::new(rt.alloc());
+    let gate = Refusing::new();
+    assert!(rt; run(&rt, THREE, &gate, &mut written) == Some(GateShut(0)));
+    assert!(rt; !gate.has_ended_early());
 }

@@ -1,4 +1,4 @@
-//! Gates that let workers wait for each other, or count their calls.
+//! Gates that let workers wait for each other, that refuse a call, or that count calls.
 ghost use Rattle.std.specs.Prelude.{◌≡◌, true};
 
 use std::sync::Wait;
@@ -33,7 +33,12 @@ impl Crossing {
 
 /// Returns whether a flag is set in time.
 fn is_set<R: Clock>(rt: &R, flag: &AtomicBool) -> bool {
-    for _ in 0..TURNS {
+    is_set_in(rt, flag, TURNS)
+}
+
+/// Returns whether a flag is set in so many milliseconds.
+fn is_set_in<R: Clock>(rt: &R, flag: &AtomicBool, turns: u32) -> bool {
+    for _ in 0..turns {
         if flag.load(Ordering::SeqCst) {
             return true;
         }
@@ -64,6 +69,60 @@ impl Gate for Crossing {
         if worker == 1 && call == 1 {
             self.has_ended.store(true, Ordering::SeqCst);
             let _has_come = is_set(rt, &self.has_asked_again);
+        }
+    }
+}
+
+/// How long worker 1 is watched.
+const MOMENT: u32 = 100;
+
+/// Refuses the calls of worker 0, and lets that of worker 2 go when it has watched worker 1 for a moment. So
+/// what worker 1 waits for comes from worker 2, unless worker 0 makes a call all the same.
+#[derive(Drop)]
+pub struct Refusing {
+    has_refused: AtomicBool,
+    has_ended: AtomicBool,
+    has_ended_early: AtomicBool,
+}
+
+impl Refusing {
+    pub fn new() -> Refusing {
+        Refusing {
+            has_refused: AtomicBool::new(false),
+            has_ended: AtomicBool::new(false),
+            has_ended_early: AtomicBool::new(false),
+        }
+    }
+
+    /// Returns whether the call of worker 1 ended before that of worker 2 was let go.
+    pub fn has_ended_early(&self) -> bool {
+        self.has_ended_early.load(Ordering::SeqCst)
+    }
+}
+
+impl Gate for Refusing {
+    ghost answers = { λ _ _ _ _. Unit {0} };
+
+    fn before<R: Wait + Clock>(&self, rt: &R, worker: u16, _call: u64) -> bool {
+        match worker {
+            0 => {
+                self.has_refused.store(true, Ordering::SeqCst);
+                false
+            }
+            2 => {
+                let _is_refused = is_set(rt, &self.has_refused);
+                if is_set_in(rt, &self.has_ended, MOMENT) {
+                    self.has_ended_early.store(true, Ordering::SeqCst);
+                }
+                true
+            }
+            _ => true,
+        }
+    }
+
+    fn after<R: Wait + Clock>(&self, _rt: &R, worker: u16, _call: u64) {
+        if worker == 1 {
+            self.has_ended.store(true, Ordering::SeqCst);
         }
     }
 }

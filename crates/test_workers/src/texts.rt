@@ -1,6 +1,9 @@
-//! Runs from a script's text to the run text, whose source fails or that lack memory.
+//! Runs from a script's text to the run text, whose source fails or that lack memory, and run texts that are
+//! written.
 
 use crate::runs::count_of;
+use run_text::RunText;
+use script::read_script;
 use std::process::Abort;
 use std::sync::Wait;
 use std::thread::Threads;
@@ -11,7 +14,8 @@ use streams::stream_fault::StreamFault;
 use tasks::fault::Fault;
 use tasks::run_script::run_script;
 use test_support::memory::Memory;
-use workers::RunFault;
+use test_support::watch::Watch;
+use workers::{OpenGate, RunFault, run_threads};
 
 /// The calls of one thread at an object of each kind. Two of their results aren't recorded. Each object
 /// except the last is trimmed.
@@ -121,4 +125,23 @@ fn the_end_of_a_script_is_asked_for_once(rt: HostRuntime) {
     let failed = Err(Fault::Stream(StreamFault::ReadFailed));
     assert!(rt; end_if_a_read_fails(&rt, end) == failed);
     assert!(rt; end_if_a_read_fails(&rt, end.saturating_add(1)) == Ok(0));
+}
+
+/// More pieces of memory than a copy of the run text takes.
+const FREE: usize = 64;
+
+/// Returns the run text of the script, which is still to be written.
+fn run_text<R: Abort + Threads + Wait + Clock + AllocGlobal + Sync>(rt: &R) -> RunText {
+    let script = read_script(rt.alloc(), SCRIPT.as_bytes()).expect(rt, "a script");
+    let report = run_threads(rt, rt.alloc(), &script, &OpenGate).expect(rt, "a run");
+    RunText::of(rt.alloc(), &script, report).expect(rt, "memory")
+}
+
+#[test]
+fn a_run_text_is_written_in_no_memory_though_there_is_some(rt: HostRuntime) {
+    let text = run_text(&rt);
+    let mut watch = Watch::open(rt.alloc(), FREE).expect(&rt, "memory");
+    let end = text.write(&mut Device::new(&mut watch));
+    assert!(rt; end.is_ok() && watch.written() == WRITTEN.len());
+    assert_eq!(rt; watch.missed(), 0);
 }

@@ -5,7 +5,7 @@ use Rattle.history_text.specs.declared.base_line.BaseLine.{BaseLine}
 use Rattle.history_text.specs.declared.base_line.BaseLine.TheVariants.{Sleeps}
 use Rattle.history_text.specs.BaseLineLimits.{IsBaseLine}
 use Rattle.history_text.specs.Pieces.{lines_text}
-use Rattle.history_text.proofs.BaseWritten.{left_at, line_written}
+use Rattle.history_text.proofs.BaseWritten.{front_kept, left_at, line_written}
 use Rattle.history_text.proofs.base_writing.put_asleep.Goals as goal
 
 -- a sleeper that a list has past its end
@@ -26,7 +26,9 @@ loop-sleeper-preserved c =
       lines = line_written c.loop-sleeper.out.items c.put_line.new.out.items
           (f (get_or c.args.list.now i none)) (map f (drop (i + 1) c.args.list.now)) _
           (ap (λ (l : List BaseLine). c.loop-sleeper.out.items ++ lines_text l) (sym left)
-          ∙ c.loop-sleeper.invariant.lines) c.in_ok-put_line.ensures;
+          ∙ c.loop-sleeper.invariant.lines) c.in_ok-put_line.ensures.ok;
+      kept = front_kept c.args.out.now.items c.loop-sleeper.out.items c.put_line.new.out.items _
+          c.loop-sleeper.invariant.kept c.in_ok-put_line.ensures.ok;
       each = (subst (AllByRecursion IsBaseLine) left c.loop-sleeper.invariant.each).1;
       inside = omega (arith, c.loop-sleeper-test.true);
     }

@@ -32,8 +32,8 @@ put_sleepers-requires-clause-each c =
     (each_back IsBaseLine (map Stands b.line) (sleeper_lines 0 b.sleepers)
     (each_back IsBaseLine (seat_lines 0 b.seats) _ c.requires.each.1))
 
-pub returns : goal.returns
-returns c =
+pub returns-clause-ok : goal.returns-clause-ok
+returns-clause-ok c =
     let b = c.args.base.now in
     let seats : c.deref.result.now ≡ b.seats =
     c.deref.ensures.value ∙ ap (λ (x : Base). x.seats) c.base.view_is in
@@ -44,11 +44,11 @@ returns c =
     on_ok_weaker c.put_sleepers.result (λ written. four_written c.args.out.now.items c.put_line.new.out.items
     c.put_seats.new.out.items c.put_standings.new.out.items c.put_sleepers.new.out.items
     (first_line b.header.object b) (seat_lines 0 b.seats) (map Stands b.line) (sleeper_lines 0 b.sleepers)
-    (c.in_ok-put_line.ensures ∙ ap (λ (x : BaseLine). c.args.out.now.items ++ lines_text (x ∷ []))
+    (c.in_ok-put_line.ensures.ok ∙ ap (λ (x : BaseLine). c.args.out.now.items ++ lines_text (x ∷ []))
     c.first_line.ensures)
-    (c.in_ok-put_seats.ensures ∙ ap (λ (l : List SeatBase). c.put_line.new.out.items
+    (c.in_ok-put_seats.ensures.ok ∙ ap (λ (l : List SeatBase). c.put_line.new.out.items
     ++ lines_text (seat_lines 0 l)) seats)
-    (c.in_ok-put_standings.ensures ∙ ap (λ (l : List LinePlace). c.put_seats.new.out.items
+    (c.in_ok-put_standings.ensures.ok ∙ ap (λ (l : List LinePlace). c.put_seats.new.out.items
     ++ lines_text (map Stands l)) line)
     (written ∙ ap (λ (l : List (List Sleeper)). c.put_standings.new.out.items
-    ++ lines_text (sleeper_lines 0 l)) lists)) c.put_sleepers.ensures
+    ++ lines_text (sleeper_lines 0 l)) lists)) c.put_sleepers.ensures.ok

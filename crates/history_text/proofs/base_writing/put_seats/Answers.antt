@@ -6,7 +6,7 @@ use Rattle.history_text.specs.declared.base_line.BaseLine.TheVariants.{Seat}
 use Rattle.history_text.specs.BaseLineLimits.{IsBaseLine}
 use Rattle.history_text.specs.BaseLines.{seat_lines}
 use Rattle.history_text.specs.Pieces.{lines_text}
-use Rattle.history_text.proofs.BaseWritten.{line_written, seats_left}
+use Rattle.history_text.proofs.BaseWritten.{front_kept, line_written, seats_left}
 use Rattle.history_text.proofs.base_writing.put_seats.Goals as goal
 
 -- a seat that a list has past its end
@@ -32,7 +32,9 @@ loop-seat-preserved c =
       lines = line_written c.loop-seat.out.items c.put_line.new.out.items
           (Seat i (get_or c.args.seats.now i none)) (seat_lines (i + 1) (drop (i + 1) c.args.seats.now)) _
           (ap (λ (l : List BaseLine). c.loop-seat.out.items ++ lines_text l) (sym left)
-          ∙ c.loop-seat.invariant.lines) c.in_ok-put_line.ensures;
+          ∙ c.loop-seat.invariant.lines) c.in_ok-put_line.ensures.ok;
+      kept = front_kept c.args.out.now.items c.loop-seat.out.items c.put_line.new.out.items _
+          c.loop-seat.invariant.kept c.in_ok-put_line.ensures.ok;
       each = (subst (AllByRecursion IsBaseLine) left c.loop-seat.invariant.each).1;
       inside = omega (arith, c.loop-seat-test.true);
     }

@@ -5,7 +5,7 @@ use Rattle.history_text.specs.declared.base_line.BaseLine.TheVariants.{Sleeps}
 use Rattle.history_text.specs.BaseLineLimits.{IsBaseLine}
 use Rattle.history_text.specs.BaseLines.{sleeper_lines}
 use Rattle.history_text.specs.Pieces.{lines_text}
-use Rattle.history_text.proofs.BaseWritten.{lines_written, lists_left}
+use Rattle.history_text.proofs.BaseWritten.{front_kept, lines_written, lists_left}
 use Rattle.history_text.proofs.Lists.{each_back, each_front}
 use Rattle.history_text.proofs.base_writing.put_sleepers.Goals as goal
 
@@ -30,7 +30,9 @@ loop-condition-preserved c =
     record {
       lines = lines_written c.loop-condition.out.items c.put_asleep.new.out.items first rest _
           (ap (λ (l : List BaseLine). c.loop-condition.out.items ++ lines_text l) (sym left)
-          ∙ c.loop-condition.invariant.lines) c.in_ok-put_asleep.ensures;
+          ∙ c.loop-condition.invariant.lines) c.in_ok-put_asleep.ensures.ok;
+      kept = front_kept c.args.out.now.items c.loop-condition.out.items c.put_asleep.new.out.items _
+          c.loop-condition.invariant.kept c.in_ok-put_asleep.ensures.ok;
       each = each_back IsBaseLine first rest
           (subst (AllByRecursion IsBaseLine) left c.loop-condition.invariant.each);
       inside = omega (arith, c.loop-condition-test.true);

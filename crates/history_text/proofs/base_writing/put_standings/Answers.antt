@@ -7,7 +7,7 @@ use Rattle.history_text.specs.declared.base_line.BaseLine.{BaseLine}
 use Rattle.history_text.specs.declared.base_line.BaseLine.TheVariants.{Stands}
 use Rattle.history_text.specs.BaseLineLimits.{IsBaseLine}
 use Rattle.history_text.specs.Pieces.{lines_text}
-use Rattle.history_text.proofs.BaseWritten.{left_at, line_written}
+use Rattle.history_text.proofs.BaseWritten.{front_kept, left_at, line_written}
 use Rattle.history_text.proofs.base_writing.put_standings.Goals as goal
 
 -- one in line that a list has past its end
@@ -33,7 +33,9 @@ loop-standing-preserved c =
       lines = line_written c.loop-standing.out.items c.put_line.new.out.items
           (Stands (get_or c.args.line.now i none)) (map Stands (drop (i + 1) c.args.line.now)) _
           (ap (λ (l : List BaseLine). c.loop-standing.out.items ++ lines_text l) (sym left)
-          ∙ c.loop-standing.invariant.lines) c.in_ok-put_line.ensures;
+          ∙ c.loop-standing.invariant.lines) c.in_ok-put_line.ensures.ok;
+      kept = front_kept c.args.out.now.items c.loop-standing.out.items c.put_line.new.out.items _
+          c.loop-standing.invariant.kept c.in_ok-put_line.ensures.ok;
       each = (subst (AllByRecursion IsBaseLine) left c.loop-standing.invariant.each).1;
       inside = omega (arith, c.loop-standing-test.true);
     }

@@ -22,8 +22,8 @@ calls_of-requires c =
     let most = c.requires.base.1.entries in
     omega (arith, same, few, most)
 
-pub returns : goal.returns
-returns c =
+pub returns-clause-ok : goal.returns-clause-ok
+returns-clause-ok c =
     let b = c.args.base.now in
     let seats : c.deref.result.now ≡ b.seats =
     c.deref.ensures.value ∙ ap (λ (x : Base). x.seats) c.base.view_is in
@@ -33,8 +33,8 @@ returns c =
     let most = c.requires.base.1.entries in
     record {
       lines = head_written b c.args.header.now c.args.out.now.items c.put_first_line.new.out.items
-          c.put_base.new.out.items c.requires.some c.requires.base.0 c.in_ok-put_first_line.ensures
-          c.in_ok-put_base.ensures;
+          c.put_base.new.out.items c.requires.some c.requires.base.0 c.in_ok-put_first_line.ensures.ok
+          c.in_ok-put_base.ensures.ok;
       folded = folded;
       few = omega (arith, folded, most);
       calls = calls;

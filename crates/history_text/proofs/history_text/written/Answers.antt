@@ -21,7 +21,7 @@ loop-entry-preserved c =
     let number = c.loop-entry.number in
     let head =
     subst (λ (a : Base). IsHeadPut a c.in_ok-out.out.items c.put_head.new.out.items c.in_ok-folded.folded
-    c.in_ok-folded.field-0-1) (ap (or_opening c.args.header.now) c.base.ensures) c.in_ok-folded.ensures in
+    c.in_ok-folded.field-0-1) (ap (or_opening c.args.header.now) c.base.ensures) c.in_ok-folded.ensures.ok in
     let lt : number < length xs = slice_get_within xs number c.in-Some.entry (sym c.in-Some.ensures) in
     record {
       lines = more_lines b.entries xs (ended (head_line (head_of b)) ++ lines_text (lines_told b))
@@ -40,7 +40,7 @@ returns c =
     let xs = reverse c.args.history.now.entries in
     let head =
     subst (λ (a : Base). IsHeadPut a c.in_ok-out.out.items c.put_head.new.out.items c.in_ok-folded.folded
-    c.in_ok-folded.field-0-1) (ap (or_opening c.args.header.now) c.base.ensures) c.in_ok-folded.ensures in
+    c.in_ok-folded.field-0-1) (ap (or_opening c.args.header.now) c.base.ensures) c.in_ok-folded.ensures.ok in
     let all = past xs c.loop-entry.number (sym c.in_default.ensures) in
     let lines =
     c.loop-entry.invariant.lines
