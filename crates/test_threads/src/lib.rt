@@ -14,6 +14,8 @@ mod parking;
 #[cfg(test)]
 mod plays;
 #[cfg(test)]
+mod rounds;
+#[cfg(test)]
 mod storms;
 #[cfg(test)]
 mod tales;

@@ -1,4 +1,5 @@
 //! Tests of parkings.
 
 mod order;
+mod races;
 mod threads;

@@ -2,4 +2,5 @@
 
 mod meanwhile;
 pub mod notes;
+mod races;
 pub mod tokens;
