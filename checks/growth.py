@@ -126,6 +126,14 @@ def growing(program):
         yield Case("a history of a lock", words, 10_000, lambda _: b"", 4096, program=locks)
 
 
+def signals(object, seats, count):
+    """All seats but the first sleep on a condition. One after another is signalled and sleeps again."""
+    sleepers = range(1, seats)
+    sleep = "".join(f"{seat} acquire x 1\n{seat} await 0\n" for seat in sleepers)
+    wake = "".join(f"0 acquire x 1\n0 signal 0\n0 give x 1\n{seat} look\n{seat} await 0\n" for seat in sleepers)
+    return steps(object, sleep, wake, count // len(sleepers))
+
+
 def crowded(program):
     """For each case its name, its words, and its text for so many seats."""
     count = 300_000
@@ -144,8 +152,11 @@ def crowded(program):
     replayed = [("idle", idle), ("in line", line), ("looks", looks), ("leaving", leave), ("asleep", asleep)]
     for name, text in [*replayed, ("trims", folded)]:
         yield f"replay, {name}", ["replay"], text
+    told = lambda text: lambda seats: history(program, text(seats))
     for name, text in [("idle", idle), ("in line", line), ("leaving", leave), ("asleep", asleep)]:
-        yield f"audit, {name}", ["audit"], lambda seats, text=text: history(program, text(seats))
+        yield f"audit, {name}", ["audit"], told(text)
+        yield f"draw, {name}", ["draw", "--from", "0"], told(text)
+    yield "draw, signalled", ["draw", "--from", "0"], told(lambda seats: signals(lock(seats), seats, count))
 
 
 def once(program, words, text, size):

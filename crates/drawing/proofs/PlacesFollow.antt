@@ -1,5 +1,5 @@
 -- That no stretches change by an entry, except those at its places, and that these places are there.
-use Rattle.std.proofs.Common.{◌≡◌, ◌≢◌, ⊎_elim, ℕ, suc, ◌+◌, ◌*◌, ◌<◌, ◌≤◌, Bool, true, false, ◌&&◌, cond, eqb, ltb, List, [], ◌∷◌, ◌++◌, length, get_or, map, take, refl, ap, ◌∙◌, sym, subst, arith}
+use Rattle.std.proofs.Common.{◌≡◌, ◌≢◌, ⊎_elim, ℕ, suc, ◌+◌, ◌*◌, ◌<◌, Bool, true, false, ◌&&◌, cond, eqb, ltb, List, [], ◌∷◌, ◌++◌, length, get_or, refl, ap, ◌∙◌, sym, subst, arith}
 use Rattle.std.specs.List.{All, flat_map}
 use Rattle.std.specs.List.Sorted.{IsPermutation}
 use Rattle.std.proofs.lemmas.Bool.{eqb-true, lt-ltb, ltb-true, or_cases}
@@ -18,7 +18,7 @@ use Rattle.drawing.specs.declared.bar.Stretch.{Stretch}
 use Rattle.drawing.specs.declared.kind.Kind.{Kind}
 use Rattle.drawing.specs.declared.kind.Kind.TheVariants.{Exclusive, InLine, Asleep}
 use Rattle.drawing.specs.IsBar.{IsKind}
-use Rattle.drawing.specs.Levels.{Track, level, track, tracks}
+use Rattle.drawing.specs.Levels.{level, track, tracks}
 use Rattle.drawing.specs.Stretches.{stretch, stretches}
 use Rattle.drawing.specs.inner.Places.{StayBeside, is_of_waiters, kind_of, kind_place, moved, place, places_by, places_of}
 use Rattle.drawing.specs.inner.Stretches.{level_now}

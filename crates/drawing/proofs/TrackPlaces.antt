@@ -3,7 +3,7 @@ use Rattle.std.proofs.Common.{◌≡◌, ⊎_elim, ℕ, zero, suc, ◌+◌, ◌-
 use Rattle.std.proofs.lemmas.Bool.{cases_lt}
 use Rattle.std.proofs.lemmas.List.{get_or_append_left, get_or-append_right, length-append}
 use Rattle.history.specs.declared.header.Header.{Header}
-use Rattle.drawing.specs.declared.kind.Kind.TheVariants.{Exclusive, Shared, InLine, Asleep}
+use Rattle.drawing.specs.declared.kind.Kind.TheVariants.{Asleep}
 use Rattle.drawing.specs.IsBar.{IsKind}
 use Rattle.drawing.specs.Levels.{Track, asleep_tracks, track, tracks, tracks_below, tracks_of_seat}
 use Rattle.drawing.specs.inner.Places.{place}

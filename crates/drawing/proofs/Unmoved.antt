@@ -1,6 +1,5 @@
 -- That an entry leaves all levels as they are, except those at its places.
-use Rattle.std.proofs.Common.{◌≡◌, ◌≢◌, ⊎_elim, ℕ, zero, suc, ◌<◌, Bool, true, false, ◌&&◌, ◌||◌, not, cond, eqb, List, [], ◌∷◌, ◌++◌, map, take, drop, refl, ap, ◌∙◌, sym, arith}
-use Rattle.std.specs.List.{filter}
+use Rattle.std.proofs.Common.{◌≡◌, ◌≢◌, ⊎_elim, ℕ, zero, suc, Bool, true, false, ◌&&◌, ◌||◌, not, cond, eqb, List, [], ◌∷◌, ◌++◌, take, drop, refl, ap, ◌∙◌, sym}
 use Rattle.std.proofs.Math.Bool.{and-false, or-false}
 use Rattle.std.proofs.lemmas.Bool.{cases_eq, eqb-true, eq-eqb, ne_eqb, or_parts}
 use Rattle.history.specs.declared.entry.Entry.{Entry}
@@ -10,7 +9,7 @@ use Rattle.history.specs.declared.entry.Word.{Word}
 use Rattle.history.specs.declared.entry.Word.TheVariants as word
 use Rattle.history.specs.Counts.{held, holds_after}
 use Rattle.history.specs.Entry.{ends_arrival, same_mode}
-use Rattle.history.specs.Line.{arrivals_by, coming_back, line, place_of}
+use Rattle.history.specs.Line.{arrivals_by, line, place_of}
 use Rattle.history.specs.Marks.{is_placed}
 use Rattle.history.specs.Sleepers.{has, sleepers, sleepers_after, without}
 use Rattle.history.specs.Start.{Start}

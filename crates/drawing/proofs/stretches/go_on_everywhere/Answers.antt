@@ -1,4 +1,4 @@
-use Rattle.std.proofs.Common.{◌≡◌, ◌<◌, get_or, length, arith}
+use Rattle.std.proofs.Common.{◌<◌, length, arith}
 use Rattle.drawing.specs.inner.Stretches.{ending, going_on}
 use Rattle.drawing.proofs.Walks.{reads, walked_all, walks}
 use Rattle.drawing.proofs.stretches.go_on_everywhere.Goals as goal
