@@ -6,15 +6,17 @@ find it: what they miss is read word by word, with the same answer. So each of t
 that is none of them, in texts of so many lines. In neither does the object do anything: a step is refused,
 and an entry comes after one that is not legal. A line passes if it takes less than MOST of the other's
 processor time, the least of some rounds each. By instructions the ratio is 0.73 at most, and 1 if it is read
-word by word. The last line is 'N passed, M failed'.
+word by word. Once both took equally long in all rounds of 200,000 lines, for a reason that was not found. So what
+doesn't pass is tried once more with LONGER times as many lines. The last line is 'N passed, M failed'.
 """
 
 import os
 import pathlib
 import sys
 import tempfile
+from functools import partial
 
-MOST, FEWEST, ROUNDS, LINES = 0.9, 3, 60, 200_000
+MOST, FEWEST, ROUNDS, LINES, LONGER = 0.9, 3, 60, 200_000, 5
 SEATS = (0, 7, 10, 42, 99, 100, 199, 254, 255)
 LATCH, LOCK = "latch seats 256 count 1 cap 4294967295", "lock fair seats 256 conditions 0 cap 4294967295"
 # A common step, another one, and an object that refuses both.
@@ -40,16 +42,16 @@ def entries(words, lines, seats=SEATS):
     return f"aqs-history 1 {LATCH}\n{body}end {lines} {calls}\n".encode()
 
 
-def pairs(lines):
-    """A name, the words of the command line, a text of common lines, and one of others."""
+def pairs():
+    """A name, the words of the command line, and what makes a text of so many common lines, and one of others."""
     for common, other, part in STEPS:
-        yield common, ["replay"], steps(common, part, lines), steps(other, part, lines)
+        yield common, ["replay"], partial(steps, common, part), partial(steps, other, part)
     for common, other in ENTRIES:
-        yield common, ["audit"], entries(common, lines), entries(other, lines)
+        yield common, ["audit"], partial(entries, common), partial(entries, other)
     for seat in (3, 30, 250):
-        texts = [steps(words, LATCH, lines, (seat,)) for words in ("look", "drain")]
+        texts = [partial(steps, words, LATCH, seats=(seat,)) for words in ("look", "drain")]
         yield f"a step of seat {seat}", ["replay"], *texts
-        texts = [entries(words, lines, (seat,)) for words in ("got x 1", "got x 2")]
+        texts = [partial(entries, words, seats=(seat,)) for words in ("got x 1", "got x 2")]
         yield f"an entry of seat {seat}", ["audit"], *texts
 
 
@@ -87,8 +89,9 @@ def is_fast(program, words, common, other):
 
 
 def results(program, lines=LINES):
-    for name, words, common, other in pairs(lines):
-        yield f"{words[0]}: {name}", is_fast(program, words, common, other)
+    for name, words, *texts in pairs():
+        is_found = any(is_fast(program, words, *(text(count) for text in texts)) for count in (lines, LONGER * lines))
+        yield f"{words[0]}: {name}", is_found
 
 
 def main(words):
