@@ -154,6 +154,7 @@ impl History {
     ///
     /// After a fault nothing has changed, and no page is kept. If no place was lacking, as with 0, nothing is
     /// allocated.
+    #[inline(always)]
     pub fn make_room(&mut self, needed: u64) -> Result<(), Fault>
         ensures full { IsErrOf result HistoryFull
             ↔ (self.old.cap < length self.old.entries + self.old.owed + needed) }
@@ -182,6 +183,7 @@ impl History {
     }
 
     /// Reserves the pages that the first `entries` entries take, with those that are there already.
+    #[inline(always)]
     fn reserve(&mut self, entries: u64) -> Result<(), Fault>
         requires { entries ≤ self.old.cap }
         ensures places { OnOk result (self.new.places ≡ max self.old.places (whole_pages entries)) }
@@ -200,22 +202,6 @@ impl History {
     /// nothing.
     #[inline(always)]
     pub fn add(&mut self, entry: Entry, owed: u64)
-        requires reserved { length self.old.entries + 1 + owed ≤ self.old.places }
-        requires within_cap { length self.old.entries + 1 + owed ≤ self.old.cap }
-        ensures { self.new ≡ record self.old { entries = entry ∷ self.old.entries; owed = owed } }
-    {
-        if self.pages.add_at_hand(entry) {
-            self.owed = owed;
-            self.calls += u64::from(ends_call(entry.word));
-            return;
-        }
-        self.add_on_next_page(entry, owed);
-    }
-
-    /// Adds an entry when the page at hand is full.
-    #[cold]
-    #[inline(never)]
-    fn add_on_next_page(&mut self, entry: Entry, owed: u64)
         requires reserved { length self.old.entries + 1 + owed ≤ self.old.places }
         requires within_cap { length self.old.entries + 1 + owed ≤ self.old.cap }
         ensures { self.new ≡ record self.old { entries = entry ∷ self.old.entries; owed = owed } }

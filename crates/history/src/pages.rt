@@ -90,6 +90,7 @@ impl Pages {
 
     /// Reserves the pages that `entries` entries take, with those that are there already. On an error it
     /// reserves none.
+    #[inline(always)]
     pub(crate) fn reserve(&mut self, entries: u64) -> Result<(), AllocError>
         requires { entries < 2 ^ 32 }
         ensures places { OnOk result (self.new.places ≡ max self.old.places (whole_pages entries)) }
@@ -97,10 +98,23 @@ impl Pages {
         ensures reserved { entries ≤ self.old.places → IsOk result × (self.new ≡ self.old) }
         ensures err { OnErr result (self.new ≡ self.old) }
     {
-        let places = self.places();
-        if entries <= places {
+        if entries <= self.places {
             return Ok(());
         }
+        self.reserve_more(entries)
+    }
+
+    /// Reserves the pages that are lacking.
+    #[cold]
+    #[inline(never)]
+    fn reserve_more(&mut self, entries: u64) -> Result<(), AllocError>
+        requires few { entries < 2 ^ 32 }
+        requires lacking { self.old.places < entries }
+        ensures places { OnOk result (self.new.places ≡ max self.old.places (whole_pages entries)) }
+        ensures same { self.new.entries ≡ self.old.entries }
+        ensures err { OnErr result (self.new ≡ self.old) }
+    {
+        let places = self.places();
         let more = (entries as usize).div_ceil(PLACES) - places as usize / PLACES;
         reserve_pages(&mut self.others, more)?;
         self.places += (more * PLACES) as u64;
@@ -112,22 +126,9 @@ impl Pages {
         Ok(())
     }
 
-    /// Adds an entry if the page at hand has a place, and returns whether it did.
+    /// Adds an entry at a place that is reserved, on this page or the next. A full page is turned first, so
+    /// that the entry goes from registers to its place, and no call takes it.
     #[inline(always)]
-    pub(crate) fn add_at_hand(&mut self, entry: Entry) -> bool
-        requires { length self.old.entries < self.old.places }
-        ensures added { IsTrue result → self.new ≡ record self.old { entries = self.old.entries ++ entry ∷ [] } }
-        ensures full { IsFalse result → self.new ≡ self.old }
-    {
-        if self.hand.len() < PLACES {
-            self.hand.push_reserved(entry);
-            self.len += 1;
-            return true;
-        }
-        false
-    }
-
-    /// Adds an entry at a place that is reserved, on this page or the next.
     pub(crate) fn add(&mut self, entry: Entry)
         requires { length self.old.entries < self.old.places }
         ensures { self.new ≡ record self.old { entries = self.old.entries ++ entry ∷ [] } }
@@ -156,6 +157,7 @@ impl Pages {
 }
 
 /// Makes sure that the page at hand has a free place, if any page has one.
+#[inline(always)]
 fn find_place(others: &mut Vec<Page>, full: &mut usize, hand: &mut Vec<Entry>)
     requires kept { AreKept others.old.items full.old hand.old.items (vec_capacity hand.old) }
     requires place { length (in_pages others.old.items ++ hand.old.items)
@@ -175,6 +177,8 @@ fn find_place(others: &mut Vec<Page>, full: &mut usize, hand: &mut Vec<Entry>)
 }
 
 /// Takes the next page to hand, in place of the full one.
+#[cold]
+#[inline(never)]
 fn turn_page(others: &mut Vec<Page>, next: usize, hand: &mut Vec<Entry>)
     requires next { next < length others.old.items }
     requires capacity { vec_capacity hand.old ≡ 1024 }

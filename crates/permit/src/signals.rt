@@ -15,14 +15,15 @@
 //! woken, or is about to wake, all who slept then, and any thread that comes later sees the signal.
 //!
 //! **A thread looks before it sleeps.** To sleep and to be woken takes two system calls, and each of them longer
-//! than most holders keep a lock.
+//! than most holders keep a lock. Between looks the thread lets others run, since the thread that is to send
+//! the signal may have no processor.
 ghost use Rattle.std.specs.Prelude.{◌≡◌, ◌+◌, ◌-◌, ◌^◌, ◌↔◌, true};
 ghost use Rattle.permit.specs.inner.Signal.{IsAwaited, IsSet, bit_of, woke_by};
 
 use crate::parking::Woke;
-use std::hint::spin_loop;
 use std::sync::Wait;
 use std::sync::atomic::{AtomicU64, Ordering};
+use std::thread::yield_now;
 use std::time::Duration;
 
 /// What a seat is sent, and what a park takes.
@@ -34,8 +35,11 @@ pub(crate) enum Signal {
 
 const SLEEPER: u64 = 4;
 
-// How many times a thread looks for a signal before it sleeps.
-const LOOKS: u32 = 2000;
+// How many times a thread looks for a signal before it lets other threads run.
+const LOOKS: u32 = 50;
+
+// How many times it lets others run before it sleeps.
+const YIELDS: u32 = 100;
 
 // The bits that the system compares.
 const LOW: u64 = 0xffff_ffff;
@@ -164,13 +168,15 @@ impl Signals {
         self.strike_off(sleeper);
     }
 
-    // Looks a few times, and returns whether a signal that the park takes is set.
+    // Looks a few times, lets others run, and so on, and returns whether a signal that the park takes is set.
     fn comes_soon(&self, interruptible: bool) -> bool {
-        for _ in 0..LOOKS {
-            if awaited(self.read(), interruptible).is_some() {
-                return true;
+        for _ in 0..YIELDS {
+            for _ in 0..LOOKS {
+                if awaited(self.read(), interruptible).is_some() {
+                    return true;
+                }
             }
-            spin_loop();
+            yield_now();
         }
         false
     }

@@ -10,19 +10,23 @@ ghost use Rattle.word_lock.specs.Woken.{WasWoken};
 use crate::chronicle::Chronicle;
 use crate::dealing::{LockTable, make_table, split_token};
 use crate::held::Held;
-use crate::sleepers::{Enlisted, Sleepers};
+use crate::sleepers::{Enlisted, Sleepers, pause};
 use crate::steps::{Give, JoinTokens, Look, Take};
 use crate::token::Token;
 use crate::view::View;
 use atomic_table::Seat;
 use history::fault::Fault;
 use std::alloc::Global;
-use std::hint::spin_loop;
 use std::marker::Model;
 use std::sync::Wait;
 
 // How often a thread reads the word before it sleeps.
-const LOOKS: u32 = 1000;
+const LOOKS: u32 = 50;
+
+// How long it pauses before the first read. Each later pause is twice as long, up to the longest.
+const FIRST_PAUSE: u32 = 32;
+
+const LONGEST_PAUSE: u32 = 512;
 
 /// A value that only one token at a time may have. Contracts see which lock it is, and the header of the
 /// value that it was opened with.
@@ -297,17 +301,22 @@ impl<T: Chronicle> WordLock<T> {
         seat
     }
 
-    // Returns whether the word is 1 at many reads. Most critical sections are shorter than a system call. If
-    // a thread sleeps already, this one soon sleeps too, so that few read the word while its holder works.
+    // Returns whether the word is 1 at many reads. Most critical sections are shorter than a system call. The
+    // pauses between reads grow, since each read takes the word's cache line from its holder. If a thread
+    // sleeps already, this one soon sleeps too.
     fn stays_taken(&self) -> bool {
+        let mut pauses = FIRST_PAUSE;
         for _ in 0..LOOKS {
+            pause(pauses);
             if self.table.shared.peek(0) == 0 {
                 return false;
             }
             if self.sleepers.are_some() {
                 return true;
             }
-            spin_loop();
+            if pauses < LONGEST_PAUSE {
+                pauses *= 2;
+            }
         }
         true
     }

@@ -109,3 +109,12 @@ fn with_wake(word: u64) -> Option<u64>
     let wakes = (word % ON_THE_WAY + WAKE) % ON_THE_WAY;
     Some(rest * ENLISTED + ON_THE_WAY + wakes)
 }
+
+/// Lets some time pass, some 7 ns for each of `n`, in which the thread touches no memory that others use.
+/// A step on an atomic number of its own takes that long, and no compiler leaves it out.
+pub(crate) fn pause(n: u32) {
+    let own = AtomicU64::new(0);
+    for _ in 0..n {
+        own.fetch_add(1, Ordering::SeqCst);
+    }
+}

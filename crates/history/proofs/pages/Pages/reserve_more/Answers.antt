@@ -4,7 +4,7 @@ use Rattle.std.specs.Prelude.{vec_capacity}
 use Rattle.history.specs.declared.entry.Entry.{Entry}
 use Rattle.history.specs.inner.Paged.{AreFull, AreKept, PagesView, in_pages}
 use Rattle.history.proofs.Paging.{entries_first, full_more, in_pages_more, kept_first, kept_more, none_kept}
-use Rattle.history.proofs.pages.Pages.reserve.Goals as goal
+use Rattle.history.proofs.pages.Pages.reserve_more.Goals as goal
 
 pub invariant_of-self-in-Some : goal.invariant_of-self-in-Some
 invariant_of-self-in-Some c =
@@ -18,7 +18,7 @@ invariant_of-self-in-Some c =
     let many = ap length all ∙ length-append a.others.items (replicate more [])
     ∙ ap (λ n. length a.others.items + n) (length-replicate {A = List Entry} more []) in
     let places = ap (λ (v : PagesView). v.places) c.self.view_is in
-    let wanted = c.if-entries-places.false in
+    let wanted = c.requires.lacking in
     let few : 1024 * length c.reserve_pages.new.pages.items < 2 ^ 33 =
     omega (
       arith,
@@ -27,7 +27,7 @@ invariant_of-self-in-Some c =
       wanted,
       c.places-places.ensures.value,
       c.div_ceil.ensures,
-      c.requires,
+      c.requires.few,
       c.self.invariant.2,
       c.self.invariant.0.few,
       c.capacity.ensures,
@@ -68,7 +68,7 @@ invariant_of-self-else-capacity-eq0 c =
     ⊎_elim (λ (q : vec_capacity a.hand ≡ 1024). q)
     (λ none. absurd (omega (arith, none.0, there, c.capacity.ensures))) k.page in
     let places = ap (λ (v : PagesView). v.places) c.self.view_is in
-    let wanted = c.if-entries-places.false in
+    let wanted = c.requires.lacking in
     let many = ap length c.in_ok-reserve_pages.ensures.ok ∙ length-append a.others.items (replicate more [])
     ∙ ap (λ n. length a.others.items + n) (length-replicate {A = List Entry} more []) in (
       subst (λ ps. AreKept ps a.full a.hand.items (vec_capacity a.hand))
@@ -82,7 +82,7 @@ invariant_of-self-else-capacity-eq0 c =
             c.self.invariant.2,
             c.places-places.ensures.value,
             c.div_ceil.ensures,
-            c.requires,
+            c.requires.few,
           ))),
       c.self.invariant.1,
       omega (arith, c.self.invariant.2, many),
