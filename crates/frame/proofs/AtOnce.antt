@@ -35,7 +35,7 @@ use Rattle.history.specs.Phase.{Idle, phase_by, waits}
 use Rattle.history.specs.Sleepers.{sleepers, sleepers_after, sleeps_below}
 use Rattle.history.specs.Start.{Start}
 use Rattle.history.specs.Steps.{acquired, entry_for, gave, idle_entry, plain, tried, tried_fairly}
-use Rattle.frame.specs.AtOnce.{Gives, IsAtOnce}
+use Rattle.frame.specs.AtOnce.{Gives, IsAtOnce, entry_at_once}
 use Rattle.frame.specs.inner.AtOnce.{IsAlone, IsIdle, Takes, moves_nobody}
 use Rattle.frame.specs.Core.{CoreView, counts_of, start_of, IsAdded}
 use Rattle.frame.proofs.Stepping.{Names}
@@ -204,14 +204,16 @@ gives_so v i m n is t =
 
 -- An entry of an idle seat's step, by what the step is.
 pub record IsMade (v : CoreView) (i : ℕ) (step : Step) (e : Entry) : Type 0 where
+  pub entry : e ≡ entry_at_once i step
   pub is : entry_for (start_of v) v.entries i step ≡ Ok (Some e)
   pub nobody : moves_nobody e.word ≡ true
 
 made_as : (v : CoreView) (i : ℕ) (step was : Step) (e : Entry) (w : Word) (m : Mode) (n : ℕ) → step ≡ was →
-    e ≡ plain i w m n → moves_nobody w ≡ true → entry_for (start_of v) v.entries i was ≡ made_of i m n w →
-    IsMade v i step e
-made_as v i step was e w m n is q moves made =
+    e ≡ plain i w m n → entry_at_once i was ≡ plain i w m n → moves_nobody w ≡ true →
+    entry_for (start_of v) v.entries i was ≡ made_of i m n w → IsMade v i step e
+made_as v i step was e w m n is q shown moves made =
     record {
+      entry = q ∙ (sym shown ∙ sym (ap (entry_at_once i) is));
       is = subst (λ x. entry_for (start_of v) v.entries i x ≡ Ok (Some e)) (sym is)
           (subst (λ y. entry_for (start_of v) v.entries i was ≡ Ok (Some y)) (sym q) made);
       nobody = ap (λ (x : Entry). moves_nobody x.word) q ∙ moves;
@@ -220,25 +222,25 @@ made_as v i step was e w m n is q moves made =
 pub acquires : (v : CoreView) (i : ℕ) (step : Step) (e : Entry) (m : Mode) (n : ℕ) → step ≡ Acquire m n →
     e ≡ plain i word.Got m n → IsAlone v i → Takes v i (Acquire m n) m n → IsMade v i step e
 acquires v i step e m n is q alone t =
-    made_as v i step (Acquire m n) e word.Got m n is q refl
+    made_as v i step (Acquire m n) e word.Got m n is q refl refl
     (acquires_so v i m n alone t)
 
 pub tries_fairly : (v : CoreView) (i : ℕ) (step : Step) (e : Entry) (m : Mode) (n : ℕ) → step ≡ TryFair m n →
     e ≡ plain i word.Got m n → IsAlone v i → Takes v i (TryFair m n) m n → IsMade v i step e
 tries_fairly v i step e m n is q alone t =
-    made_as v i step (TryFair m n) e word.Got m n is q refl
+    made_as v i step (TryFair m n) e word.Got m n is q refl refl
     (fairly_so v i m n alone t)
 
 pub tries : (v : CoreView) (i : ℕ) (step : Step) (e : Entry) (m : Mode) (n : ℕ) → step ≡ Try m n →
     e ≡ plain i word.TryGot m n → IsAlone v i → Takes v i (Try m n) m n → IsMade v i step e
 tries v i step e m n is q alone t =
-    made_as v i step (Try m n) e word.TryGot m n is q refl
+    made_as v i step (Try m n) e word.TryGot m n is q refl refl
     (tries_so v i m n alone t)
 
 pub releases : (v : CoreView) (i : ℕ) (step : Step) (e : Entry) (m : Mode) (n : ℕ) → step ≡ Give m n →
     e ≡ plain i word.Gave m n → IsAlone v i → Gives v i (Give m n) m n → IsMade v i step e
 releases v i step e m n is q alone t =
-    made_as v i step (Give m n) e word.Gave m n is q refl
+    made_as v i step (Give m n) e word.Gave m n is q refl refl
     (gives_so v i m n (idle_of v i alone) t)
 
 -- an entry that was added
@@ -246,7 +248,7 @@ pub at_once : (v new : CoreView) (i : ℕ) (step : Step) (e : Entry) (r : Option
     IfSome r (λ it. (it ≡ e) × IsAdded v e (Ok None) new) → IfSome r (λ it. IsAtOnce v i step it new)
 at_once v new i step e None made is = tt
 at_once v new i step e (Some it) made is =
-    subst (λ x. IsAtOnce v i step x new) (sym is.0) (record { made = made.is; added = is.1 })
+    subst (λ x. IsAtOnce v i step x new) (sym is.0) (record { is = made.entry; made = made.is; added = is.1 })
 
 -- permits that may be given back
 pub gives_permits : (v : CoreView) (i : ℕ) (step : Step) (m : Mode) (n : ℕ) (p : Policy) (permits free : ℤ)

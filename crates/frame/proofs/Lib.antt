@@ -15,3 +15,4 @@ pub mod Trimming
 pub mod Runs
 pub mod Acting
 pub mod Tidying
+pub mod Past

@@ -18,6 +18,7 @@ ghost use Rattle.frame.specs.Core.{header_of, marks_of};
 use crate::hooks::Hooks;
 use crate::seat::Seat;
 use acquire_queue::queue::Queue;
+pub use at_once::entry_at_once;
 use condition_queue::waiters::Waiters;
 use history::base::Base;
 use history::entries::History;

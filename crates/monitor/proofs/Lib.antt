@@ -15,3 +15,4 @@ pub mod TurnByTurn
 pub mod Rooms
 pub mod RoomTurns
 pub mod StillWaiting
+pub mod FastWay

@@ -140,7 +140,7 @@ pub record Around (t o n : Ticket) (v w : CoreView) (seat share : ℕ) : Type 0 
   pub kept : IsLawfulCore v
   pub left_kept : IsLawfulCore w
 
-around_step : (t o n : Ticket) (v w : CoreView) (seat share : ℕ) (step : Step) (r : Result Answer Fault) →
+pub around_step : (t o n : Ticket) (v w : CoreView) (seat share : ℕ) (step : Step) (r : Result Answer Fault) →
     Around t o n v w seat share → IsCoreStep v seat step r w →
     Section t o n (point_of v) (point_of w) seat share step r
 around_step t o n v w seat share step r a s = record {
@@ -309,7 +309,7 @@ module _ (t o n : Ticket) (v w : CoreView) (seat share : ℕ) (a : Around t o n 
       Moves counted amount x (free (opening t.lock.header) (first_entries t.logs)) y
       (free (opening n.lock.header) (first_entries n.logs))
 
-  moves_step : (z : Result Answer Fault) → IsCoreStep v seat step z w → Moved v → Owns
+  pub moves_step : (z : Result Answer Fault) → IsCoreStep v seat step z w → Moved v → Owns
   moves_step z c m =
       moves_own counted amount x y (free (opening t.lock.header) (first_entries t.logs))
       (free (opening n.lock.header) (first_entries n.logs)) (counts_of v).free (counts_of w).free

@@ -4,3 +4,4 @@ pub mod Waits
 pub mod Load
 pub mod Machine
 pub mod Stepping
+pub mod AtOnce

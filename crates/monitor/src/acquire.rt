@@ -9,15 +9,17 @@ ghost use Rattle.monitor.specs.Room.{IsCallIn};
 ghost use Rattle.monitor.specs.declared.machine.Request.TheVariants.{Acquire};
 ghost use Rattle.monitor.specs.Acquire.{IsAcquire, WasInterrupted, first_step};
 
+use crate::at_once::First;
 use crate::how::{How, moment};
 use crate::interrupts::Interrupts;
 use crate::load::{Empty, Load};
-use crate::machine::{Next, Request};
+use crate::machine::{Next, Request, first_turn};
 use crate::monitor::Monitor;
 use crate::pass::Pass;
 use crate::room::WhenFull;
 use crate::step::unpark;
 use frame::hooks::Hooks;
+use frame::machine::entry_at_once;
 use history::entry::{Entry, Mode};
 use history::fault::Fault;
 use history::step::Step;
@@ -54,6 +56,7 @@ impl<H: Hooks + Drop> Monitor<H> {
     /// A fault is the answer to the first step, and nothing was recorded. After `Queued` there is none. A
     /// pending interrupt is taken and ends the call. If that couldn't be recorded, it is pending again. This
     /// is the acquire of Java SE 8's AbstractQueuedSynchronizer, with its interruptible and timed kinds.
+    #[inline(always)]
     pub fn acquire<P: Parking, R: Wait + Clock>(
         &self,
         rt: &R,
@@ -102,6 +105,7 @@ impl<H: Hooks + Drop, L: Load> Monitor<H, L> {
     }
 
     /// The same. `when_full` says what it does if the history is full.
+    #[inline(always)]
     pub fn acquire_when_full<P: Parking, R: Wait + Clock>(
         &self,
         rt: &R,
@@ -136,6 +140,7 @@ impl<H: Hooks + Drop, L: Load> Monitor<H, L> {
     }
 
     // A call that may wait.
+    #[inline(always)]
     pub(crate) fn make<P: Parking, R: Wait + Clock>(
         &self,
         rt: &R,
@@ -161,11 +166,20 @@ impl<H: Hooks + Drop, L: Load> Monitor<H, L> {
             return self.refuse(rt, parking, pass, load, request, how, when_full, interrupts);
         }
         let moment = moment(rt, parking, how);
-        let turn = self.begin_when_full(rt, pass, load, request, how, moment, false, when_full);
-        unpark(parking, turn.named);
-        match turn.next {
-            Next::Ends { reply, again: _ } => reply,
-            Next::Waits(waiting) => self.wait(rt, parking, pass, load, waiting),
+        let step = request.step(how, false);
+        match self.step_first(rt, pass, load, step, when_full) {
+            First::Done(named) => {
+                unpark(parking, named);
+                Ok(entry_at_once(pass.seat(), step))
+            }
+            First::Otherwise(answer) => {
+                let turn = first_turn(request, how, moment, false, answer);
+                unpark(parking, turn.named);
+                match turn.next {
+                    Next::Ends { reply, again: _ } => reply,
+                    Next::Waits(waiting) => self.wait(rt, parking, pass, load, waiting),
+                }
+            }
         }
     }
 

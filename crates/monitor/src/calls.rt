@@ -44,6 +44,7 @@ impl<H: Hooks + Drop> Monitor<H> {
     }
 
     /// Releases a hold or permits: `Gave`. `Refused` if the seat doesn't own what it releases.
+    #[inline(always)]
     pub fn release<P: Parking, R: Wait + Clock>(
         &self,
         rt: &R,

@@ -54,6 +54,7 @@
 #![tactic(auto)]
 
 mod acquire;
+mod at_once;
 mod await_on;
 mod calls;
 mod closing;

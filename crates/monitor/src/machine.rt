@@ -89,7 +89,7 @@ pub struct Turn {
 }
 
 impl Request {
-    fn step(self, how: How, interrupted: bool) -> Step
+    pub(crate) fn step(self, how: How, interrupted: bool) -> Step
         ensures { result ≡ step_by self how interrupted }
     {
         match self {
@@ -177,6 +177,7 @@ impl Waiting {
         }
     }
 
+    #[inline(always)]
     fn turn(self, step: Step, answer: Result<Answer, Fault>) -> Turn
         requires { IsOk answer }
         ensures { result ≡ later_turn self step answer }
@@ -253,7 +254,8 @@ fn answer_of(reply: Result<Now, Fault>) -> Option<Result<Answer, Fault>>
     }
 }
 
-fn first_turn(
+#[inline(always)]
+pub(crate) fn first_turn(
     request: Request,
     how: How,
     moment: u64,
@@ -317,6 +319,7 @@ impl<H: Hooks + Drop, L: Load> Monitor<H, L> {
     }
 
     /// [`begin`](Monitor::begin). `when_full` says what it does if the history is full.
+    #[inline(always)]
     pub fn begin_when_full<R: Wait>(
         &self,
         rt: &R,

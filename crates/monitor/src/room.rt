@@ -36,6 +36,7 @@ pub enum WhenFull {
 
 impl<H: Hooks + Drop, L: Load> Monitor<H, L> {
     /// [`step_with`](Monitor::step_with). `when_full` says what it does if the history is full.
+    #[inline(always)]
     pub fn step_when_full<R: Wait>(
         &self,
         rt: &R,

@@ -1,19 +1,22 @@
 //! One step of a seat.
-ghost use Rattle.std.specs.Prelude.{◌≡◌, ◌<◌, ◌≤◌, false, true, IfSome};
+ghost use Rattle.std.specs.Prelude.{◌≡◌, ◌≢◌, ◌<◌, ◌≤◌, false, true, Ok, IfSome};
+ghost use Rattle.history.specs.declared.step.Answer.TheVariants.{Sleep};
 ghost use Rattle.history.specs.Phase.{waits};
 ghost use Rattle.monitor.specs.Load.{Brings, Moves, free_of, given_by, holds_of};
 ghost use Rattle.monitor.specs.inner.Load.{is_signal};
 ghost use Rattle.monitor.specs.Room.{IsEnteredIn, IsStepIn};
 ghost use Rattle.monitor.specs.Shown.{IsSound};
 ghost use Rattle.monitor.specs.Stepping.{IsSame, IsStep, IsStepNow, IsEntered, IsUnparked};
-ghost use Rattle.monitor.specs.inner.Stepping.{named_in, now_of};
+ghost use Rattle.monitor.specs.inner.Stepping.{entry_in, named_in, now_of};
 ghost use Rattle.word_lock.specs.Woken.{WasWoken};
 
+use crate::at_once::First;
 use crate::load::{Empty, Load};
 use crate::monitor::Monitor;
 use crate::pass::{Pass, share_behind};
 use crate::room::WhenFull;
 use frame::hooks::Hooks;
+use frame::machine::entry_at_once;
 use history::entry::Entry;
 use history::fault::Fault;
 use history::step::{Answer, Step};
@@ -55,6 +58,7 @@ impl<H: Hooks + Drop> Monitor<H> {
 /// The same with a load. The caller carries what belongs to the holds of its pass, before and after.
 impl<H: Hooks + Drop, L: Load> Monitor<H, L> {
     /// One step of the pass's seat. It waits for the object.
+    #[inline(always)]
     pub fn step_with<R: Wait>(
         &self,
         rt: &R,
@@ -116,35 +120,9 @@ impl<H: Hooks + Drop, L: Load> Monitor<H, L> {
         done(answer)
     }
 
-    // A step, and an unpark of the seat that it names.
-    fn call<P: Parking, R: Wait + Clock>(
-        &self,
-        rt: &R,
-        parking: &P,
-        pass: &mut Pass,
-        load: &mut L,
-        step: Step,
-        when_full: WhenFull,
-    ) -> Result<Answer, Fault>
-        requires is_of { pass.old.lock ≡ self.now }
-        requires places { self.now.header.seats ≤ P.seats parking.now }
-        requires carries { L.carries load.old (holds_of pass.old) }
-        requires brings { Brings L.is_counted (L.amount load.old) (given_by step) }
-        ensures same { IsSame pass.old pass.new }
-        ensures stepped { IsStepIn when_full pass.old step result pass.new }
-        ensures unparked { IsUnparked (P.did parking.now) (named_in result) }
-        ensures shows { IsSound pass.new }
-        ensures woken { WasWoken self.now }
-        ensures carries { L.carries load.new (holds_of pass.new) }
-        ensures moves { Moves L.is_counted L.amount load.old (free_of pass.old) load.new (free_of pass.new) }
-    {
-        let answer = self.step_when_full(rt, pass, load, step, when_full);
-        unpark(parking, named_in(answer));
-        answer
-    }
-
     /// A step of an idle seat. Returns its entry or a fault, and unparks the seat that the step
     /// names.
+    #[inline(always)]
     pub fn enter<P: Parking, R: Wait + Clock>(
         &self,
         rt: &R,
@@ -169,6 +147,7 @@ impl<H: Hooks + Drop, L: Load> Monitor<H, L> {
     }
 
     /// [`enter`](Monitor::enter). `when_full` says what it does if the history is full.
+    #[inline(always)]
     pub fn enter_when_full<P: Parking, R: Wait + Clock>(
         &self,
         rt: &R,
@@ -190,10 +169,12 @@ impl<H: Hooks + Drop, L: Load> Monitor<H, L> {
         ensures carries { L.carries load.new (holds_of pass.new) }
         ensures moves { Moves L.is_counted L.amount load.old (free_of pass.old) load.new (free_of pass.new) }
     {
-        match self.call(rt, parking, pass, load, step, when_full) {
-            Ok(Answer::Recorded(entry, _)) => Ok(entry),
-            Ok(Answer::Sleep) => unreachable!(),
-            Err(fault) => Err(fault),
+        match self.step_first(rt, pass, load, step, when_full) {
+            First::Done(named) => {
+                unpark(parking, named);
+                Ok(entry_at_once(pass.seat(), step))
+            }
+            First::Otherwise(answer) => entered(parking, answer),
         }
     }
 
@@ -263,6 +244,23 @@ impl<H: Hooks + Drop, L: Load> Monitor<H, L> {
             Ok(Answer::Sleep) => unreachable!(),
             Err(fault) => Err(fault),
         }
+    }
+}
+
+// The entry of a step of an idle seat, or a fault. It unparks the seat that the step named.
+#[cold]
+#[inline(never)]
+fn entered<P: Parking>(parking: &P, answer: Result<Answer, Fault>) -> Result<Entry, Fault>
+    requires places { IfSome (named_in answer) (λ j. j < P.seats parking.now) }
+    requires awake { answer ≢ Ok Sleep }
+    ensures entry { result ≡ entry_in answer }
+    ensures unparked { IsUnparked (P.did parking.now) (named_in answer) }
+{
+    unpark(parking, named_in(answer));
+    match answer {
+        Ok(Answer::Recorded(entry, _)) => Ok(entry),
+        Ok(Answer::Sleep) => unreachable!(),
+        Err(fault) => Err(fault),
     }
 }
 

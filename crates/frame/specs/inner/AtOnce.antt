@@ -1,5 +1,5 @@
--- What is done at once: entries that move nobody, while the queue is empty.
-use Rattle.std.specs.Prelude.{◌≡◌, ℕ, Bool, true, false, not, ◌&&◌, ◌||◌, is_none, [], None}
+-- What is done at once: entries that move nobody, while the queue is empty; and steps past those who wait.
+use Rattle.std.specs.Prelude.{◌≡◌, ℕ, Bool, true, false, not, ◌&&◌, ◌||◌, is_none, [], None, Ok, Some}
 use Rattle.deciding.specs.Checks.{refused_as}
 use Rattle.history.specs.declared.entry.Mode.{Mode}
 use Rattle.history.specs.declared.entry.Word.{Word}
@@ -8,6 +8,8 @@ use Rattle.history.specs.declared.step.Step.{Step}
 use Rattle.history.specs.Could.{could, held_back, limit}
 use Rattle.history.specs.Line.{line}
 use Rattle.history.specs.Phase.{Idle, phase}
+use Rattle.history.specs.Steps.{entry_for}
+use Rattle.frame.specs.AtOnce.{entry_at_once}
 use Rattle.frame.specs.Core.{CoreView, counts_of, start_of}
 use Rattle.frame.specs.inner.Core.{first_mode_of}
 
@@ -44,3 +46,7 @@ queues v i step m n =
 pub record IsIdle (v : CoreView) (i : ℕ) : Type 0 where
   pub header : (start_of v).header ≡ v.header
   pub idle : phase (start_of v) v.entries i ≡ Idle
+
+-- a step makes the entry of one that is done at once
+abbrev pub MakesAtOnce : CoreView → ℕ → Step → Type 0
+MakesAtOnce v i step = entry_for (start_of v) v.entries i step ≡ Ok (Some (entry_at_once i step))

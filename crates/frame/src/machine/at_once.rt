@@ -2,15 +2,20 @@
 //!
 //! Nearly all steps are of this kind. They move nobody and name nobody, so they need no more of the queue and
 //! the conditions. All other steps take the general path.
+//!
+//! A caller may ask for the fast path alone, by [`step_at_once`](Core::step_at_once). It returns no more than
+//! the waiter that the step names. There an acquire that succeeds past those who wait is done at once too, and
+//! so is a release while somebody waits.
 
-ghost use Rattle.std.specs.Prelude.{◌≡◌, ◌<◌, [], true, not, is_none, int_lt, pos, ◌+ℤ◌, IfSome, IfNone, IsTrue};
+ghost use Rattle.std.specs.Prelude.{◌≡◌, ◌<◌, [], true, not, is_none, int_lt, pos, ◌+ℤ◌, Ok, IfSome, IfNone, IsTrue};
 ghost use Rattle.deciding.specs.Balance.{available};
 ghost use Rattle.deciding.specs.Checks.{refused_as};
 ghost use Rattle.history.specs.Faults.{max_amount};
 ghost use Rattle.history.specs.Line.{line};
-ghost use Rattle.frame.specs.AtOnce.{Gives, IsAtOnce};
-ghost use Rattle.frame.specs.inner.AtOnce.{IsAlone, Takes, moves_nobody};
-ghost use Rattle.frame.specs.Core.{start_of, IsAdded, IsNext};
+ghost use Rattle.history.specs.declared.step.Answer.TheVariants.{Recorded};
+ghost use Rattle.frame.specs.AtOnce.{Gives, IsAtOnce, entry_at_once};
+ghost use Rattle.frame.specs.inner.AtOnce.{IsAlone, MakesAtOnce, Takes, moves_nobody};
+ghost use Rattle.frame.specs.Core.{start_of, IsAdded, IsNext, IsStepped};
 
 use super::Core;
 use crate::effects::change;
@@ -27,11 +32,61 @@ use history::step::Step;
 const MAX_PERMITS: i64 = 2_147_483_647;
 
 impl<H: Hooks + Drop> Core<H> {
-    /// Returns the entry of a step that was done at once. `None` changes nothing: the step takes the general
-    /// path.
+    /// Performs a step if it can be done at once: an acquire or a try that succeeds, or a release, of an idle
+    /// seat. It returns the waiter that the step names, and [`entry_at_once`] says which entry was made.
+    ///
+    /// `None` changes nothing: the step takes the general path, [`step_by_kind`](Core::step_by_kind).
+    #[inline(always)]
+    pub fn step_at_once(&mut self, seat: u16, step: Step) -> Option<Option<u16>>
+        requires { seat < self.old.header.seats }
+        ensures done { IfSome result (λ name.
+            IsStepped self.old seat step (Ok (Recorded (entry_at_once seat step) name)) self.new) }
+        ensures none { IfNone result (self.new ≡ self.old) }
+    {
+        if !self.queue.is_empty() {
+            return self.step_past(seat, step);
+        }
+        match self.step_alone(seat, step) {
+            Some(_entry) => Some(None),
+            None => None,
+        }
+    }
+
+    /// The same past those who wait: an acquire that the queue doesn't hold back, and a release.
+    #[inline(never)]
+    fn step_past(&mut self, seat: u16, step: Step) -> Option<Option<u16>>
+        requires { seat < self.old.header.seats }
+        ensures done { IfSome result (λ name.
+            IsStepped self.old seat step (Ok (Recorded (entry_at_once seat step) name)) self.new) }
+        ensures none { IfNone result (self.new ≡ self.old) }
+    {
+        if !self.goes_past(seat, step) {
+            return None;
+        }
+        self.record_at_once(entry_at_once(seat, step))
+    }
+
+    /// Returns whether the step of an idle seat is done at once past those who wait.
+    #[inline(always)]
+    fn goes_past(&self, seat: u16, step: Step) -> bool
+        requires { seat < self.now.header.seats }
+        ensures { IsTrue result → MakesAtOnce self.now seat step }
+    {
+        match step {
+            Step::Acquire(mode, n) => {
+                self.is_idle(seat)
+                    && self.takes(seat, step, mode, n)
+                    && !self.queues(seat, step, mode, n)
+            }
+            Step::Give(mode, n) => self.is_idle(seat) && self.gives(seat, step, mode, n),
+            _ => false,
+        }
+    }
+
+    /// Returns the entry of a step that was done at once while the queue is empty. `None` changes nothing.
     // In each arm the entry is known.
     #[inline(always)]
-    pub(super) fn step_at_once(&mut self, seat: u16, step: Step) -> Option<Entry>
+    pub(super) fn step_alone(&mut self, seat: u16, step: Step) -> Option<Entry>
         requires { seat < self.old.header.seats }
         ensures done { IfSome result (λ entry. IsAtOnce self.old seat step entry self.new) }
         ensures none { IfNone result (self.new ≡ self.old) }
@@ -140,5 +195,19 @@ impl<H: Hooks + Drop> Core<H> {
         ensures { result ≡ self.now.header.object }
     {
         self.hooks.object()
+    }
+}
+
+/// Returns the entry of a step that is done at once: `Got`, `TryGot` or `Gave`. No other steps are.
+#[inline(always)]
+pub fn entry_at_once(seat: u16, step: Step) -> Entry
+    ensures { result ≡ entry_at_once seat step }
+{
+    match step {
+        Step::Acquire(mode, n) => plain(seat, Word::Got, mode, n),
+        Step::TryFair(mode, n) => plain(seat, Word::Got, mode, n),
+        Step::Try(mode, n) => plain(seat, Word::TryGot, mode, n),
+        Step::Give(mode, n) => plain(seat, Word::Gave, mode, n),
+        _ => plain(seat, Word::Got, Mode::X, 0),
     }
 }

@@ -76,7 +76,7 @@ impl<H: Hooks + Drop> Core<H> {
 
     /// Returns whether the seat waits neither in the queue nor on a condition.
     #[inline(always)]
-    fn is_idle(&self, seat: u16) -> bool
+    pub(super) fn is_idle(&self, seat: u16) -> bool
         ensures { IsTrue result → IsIdle self.now seat }
     {
         self.queue.arrival_of(seat).is_none() && self.waiters.sleeper_of(seat).is_none()
@@ -94,7 +94,7 @@ impl<H: Hooks + Drop> Core<H> {
     /// Returns whether the object has such a step, and an acquire of the seat joins the queue: it is held
     /// back, or could not succeed.
     #[inline(always)]
-    fn queues(&self, seat: u16, step: Step, mode: Mode, n: u32) -> bool
+    pub(super) fn queues(&self, seat: u16, step: Step, mode: Mode, n: u32) -> bool
         ensures { result ≡ queues self.now seat step mode n }
     {
         self.may_acquire(seat, step, mode)

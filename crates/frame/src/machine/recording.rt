@@ -1,6 +1,6 @@
 //! Recording the entry of a step.
 
-ghost use Rattle.std.specs.Prelude.{◌≡◌, ◌++◌, ◌<◌, true, if◌then◌else◌, None, IsOk, IfOk, IfSome, OnErr};
+ghost use Rattle.std.specs.Prelude.{◌≡◌, ◌++◌, ◌<◌, true, if◌then◌else◌, None, Ok, IsOk, IfOk, IfSome, IfNone, OnErr};
 ghost use Rattle.frame.specs.Core.{made_by, places_behind};
 ghost use Rattle.frame.specs.inner.Core.{ready_of};
 ghost use Rattle.frame.specs.Core.{IsAdded, IsNext, IsOf, IsRecorded, IsTold, KeepsHolds, NamesBelow};
@@ -74,5 +74,20 @@ impl<H: Hooks + Drop> Core<H> {
         let before = self.ready_before(entry.word);
         let name = self.write(entry, before)?;
         Ok(Answer::Recorded(entry, name))
+    }
+    /// Records the entry of a step, and returns the waiter that it names. `None` changes nothing: the history
+    /// had no room or no memory for it.
+    #[inline(always)]
+    pub(super) fn record_at_once(&mut self, entry: Entry) -> Option<Option<u16>>
+        requires { IsNext self.old entry }
+        ensures added { IfSome result (λ name. IsAdded self.old entry (Ok name) self.new) }
+        ensures names { IfSome result (λ name. IfSome name (λ seat. seat < self.old.header.seats)) }
+        ensures none { IfNone result (self.new ≡ self.old) }
+    {
+        let before = self.ready_before(entry.word);
+        match self.write(entry, before) {
+            Ok(name) => Some(name),
+            Err(_fault) => None,
+        }
     }
 }

@@ -80,16 +80,16 @@ impl<H: Hooks + Drop> Core<H> {
         ensures names { IfOk result (λ answer. NamesBelow self.old.header.seats answer) }
         ensures tidied { IfOk result (λ answer. HasTidied seat answer) }
     {
-        match self.step_at_once(seat, step) {
+        match self.step_alone(seat, step) {
             Some(entry) => Ok(Answer::Recorded(entry, None)),
             None => self.step_by_kind(seat, step),
         }
     }
 
-    /// As `step`, for a step that is not done at once. The most frequent ones have a path of their own, on
-    /// which the entry is known.
+    /// As [`step`](Core::step), for a step that is not done at once. The most frequent ones have a path of their
+    /// own, on which the entry is known.
     #[inline(always)]
-    fn step_by_kind(&mut self, seat: u16, step: Step) -> Result<Answer, Fault>
+    pub fn step_by_kind(&mut self, seat: u16, step: Step) -> Result<Answer, Fault>
         requires { seat < self.old.header.seats }
         ensures answered { IsAnswered self.old seat step result self.new }
         ensures told { IsTold self.old seat result self.new }

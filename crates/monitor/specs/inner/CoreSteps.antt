@@ -6,6 +6,8 @@ use Rattle.history.specs.declared.fault.Fault.TheVariants.{HistoryFull, TrimFull
 use Rattle.history.specs.declared.step.Answer.{Answer}
 use Rattle.history.specs.declared.step.Step.{Step}
 use Rattle.monitor.specs.Lawful.{IsLawfulCore}
+use Rattle.monitor.specs.declared.room.WhenFull.{WhenFull}
+use Rattle.monitor.specs.declared.room.WhenFull.TheVariants.{Refuse, Trim}
 
 -- What a step of a core is known by.
 pub record IsCoreStep (v : CoreView) (i : ℕ) (step : Step) (r : Result Answer Fault) (w : CoreView) : Type 0 where
@@ -33,6 +35,11 @@ IsCoreStepIn moved v i step r w =
     (IsCoreStep v i step r w × moved v × (r ≢ Err HistoryFull))
     ⊎ IsCoreFold moved v i step r w
     ⊎ (IsCoreStep v i step (Err HistoryFull) w × moved v × IsTrimFull w × (r ≡ Err TrimFull))
+
+-- A step of a core, which makes room if it is to.
+abbrev pub IsCoreStepBy : WhenFull → (CoreView → Type 0) → CoreView → ℕ → Step → Result Answer Fault → CoreView → Type 0
+IsCoreStepBy Refuse moved v i step r w = IsCoreStep v i step r w × moved v
+IsCoreStepBy Trim moved v i step r w = IsCoreStepIn moved v i step r w
 
 -- nothing changes hands
 abbrev pub Unmoved : CoreView → Type 0

@@ -1,6 +1,8 @@
 -- What a step of a pass leaves.
 use Rattle.std.specs.Prelude.{ℕ, Option, None, Result, Ok, Err}
+use Rattle.history.specs.declared.entry.Entry.{Entry}
 use Rattle.history.specs.declared.fault.Fault.{Fault}
+use Rattle.history.specs.declared.fault.Fault.TheVariants.{OutOfPhase}
 use Rattle.history.specs.declared.step.Answer.{Answer}
 use Rattle.history.specs.declared.step.Answer.TheVariants.{Recorded, Sleep}
 use Rattle.monitor.specs.declared.step.Now.{Now}
@@ -15,3 +17,9 @@ abbrev pub named_in : Result Answer Fault → Option ℕ
 named_in (Ok (Recorded e named)) = named
 named_in (Ok Sleep) = None
 named_in (Err fault) = None
+
+-- the entry that it recorded, or its fault
+abbrev pub entry_in : Result Answer Fault → Result Entry Fault
+entry_in (Ok (Recorded e named)) = Ok e
+entry_in (Ok Sleep) = Err OutOfPhase
+entry_in (Err fault) = Err fault

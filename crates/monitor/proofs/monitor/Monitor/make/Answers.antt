@@ -1,19 +1,24 @@
-use Rattle.std.proofs.Common.{rules, ◌≡◌, ◌≤◌, ◌∙◌, false, None, sym, subst}
+use Rattle.std.proofs.Common.{rules, ◌≡◌, ◌≤◌, ◌∙◌, false, None, Ok, ℕ, ap, sym, subst}
 use Rattle.word_lock.proofs.PointLaws.{before_trans}
 use Rattle.word_lock.specs.Ticket.{LockId}
 use Rattle.monitor.specs.Acquire.{WasNotInterrupted}
-use Rattle.monitor.specs.Load.{free_of}
-use Rattle.monitor.specs.Machine.{begun}
+use Rattle.history.specs.declared.entry.Entry.{Entry}
+use Rattle.history.specs.declared.step.Answer.TheVariants.{Recorded}
+use Rattle.history.specs.declared.step.Step.{Step}
+use Rattle.frame.specs.AtOnce.{entry_at_once}
+use Rattle.monitor.specs.Load.{Brings, free_of, given_by}
+use Rattle.monitor.specs.Machine.{begun, step_by}
 use Rattle.history.specs.declared.point.Point.{Point}
-use Rattle.monitor.specs.Room.{at_point}
+use Rattle.monitor.specs.Room.{IsBegunIn, IsCallIn, IsStepIn, at_point}
 use Rattle.monitor.specs.inner.Waits.{MayBegin}
 use Rattle.monitor.specs.declared.machine.Next.TheVariants as next
 use Rattle.monitor.specs.declared.machine.Waiting.{Waiting}
 use Rattle.monitor.proofs.Acquiring.{found_none, found_one}
+use Rattle.monitor.proofs.FastWay.{made_at_once}
 use Rattle.monitor.proofs.Freeing.{brings_still, moves_since, stays}
-use Rattle.monitor.proofs.RoomTurns.{begun_after_in, ends_in, place_first_in, same_at, waited_in, waits_from}
-use Rattle.monitor.proofs.TurnByTurn.{Begins, begun_free, begun_waits, may_wait, waits_now}
-use Rattle.monitor.proofs.monitor.Monitor.make.Goals.{After-begin_when_full-turn, After-unpark}
+use Rattle.monitor.proofs.RoomTurns.{after_in, awake_in, begun_after_in, ends_in, place_first_in, place_in, same_at, step_in_as, waited_in, waits_from}
+use Rattle.monitor.proofs.TurnByTurn.{Begins, begun_free, begun_waits, may_wait, step_gives_none, waits_now}
+use Rattle.monitor.proofs.monitor.Monitor.make.Goals.{After-first_turn-turn, After-unpark-in-Otherwise, In-Done}
 use Rattle.monitor.proofs.monitor.Monitor.make.Goals as goal
 
 pub refuse-requires-clause-interrupted : goal.refuse-requires-clause-interrupted
@@ -23,98 +28,165 @@ refuse-requires-clause-interrupted g c =
     c.in-Some.interrupts asked.asked asked.minded c.in-Some.is
 
 -- what was found at the entry
-none : (g : _) (c : After-begin_when_full-turn g) →
+none : (g : _) (c : After-first_turn-turn g) →
     WasNotInterrupted (g.P.Parking.did c.args.parking.now) c.args.pass.now.seat c.args.how
 none g c =
     let is : c.at_entry.result ≡ None = search rules in
     found_none (g.P.Parking.did c.args.parking.now) c.args.pass.now.seat c.args.how c.at_entry.result
     c.at_entry.ensures.asked is
 
-pub unpark-requires : goal.unpark-requires
-unpark-requires g c =
+-- what was begun, where the step was not done at once
+begun_so : (g : _) (c : After-first_turn-turn g) → IsBegunIn c.args.when_full c.args.pass.now c.args.request c.args.how
+    c.moment-moment.result false c.first_turn-turn.result c.step_first.new.pass
+begun_so g c = (
+  c.in-Otherwise.answer,
+  step_in_as c.args.when_full c.args.pass.now c.step_first.new.pass c.step-step.result _ _ c.step-step.ensures
+      c.in-Otherwise.ensures.stepped,
+  c.first_turn-turn.ensures,
+)
+
+pub unpark-requires-in-Otherwise : goal.unpark-requires-in-Otherwise
+unpark-requires-in-Otherwise g c =
     let seats = g.P.Parking.seats c.args.parking.now in
-    let lock : c.begin_when_full-turn.new.pass.lock ≡ c.args.self.now =
-    c.begin_when_full-turn.ensures.same.lock ∙ c.requires.is_of in
-    place_first_in c.args.when_full c.args.pass.now c.begin_when_full-turn.new.pass c.args.request c.args.how
-    c.moment-moment.result _ c.begin_when_full-turn.result seats c.begin_when_full-turn.ensures.begun
-    c.begin_when_full-turn.ensures.shows
+    let lock : c.step_first.new.pass.lock ≡ c.args.self.now =
+    c.step_first.ensures.same.lock ∙ c.requires.is_of in
+    place_first_in c.args.when_full c.args.pass.now c.step_first.new.pass c.args.request c.args.how
+    c.moment-moment.result _ c.first_turn-turn.result seats (begun_so g (goal.at.unpark-requires-in-Otherwise g c).After-first_turn-turn)
+    c.step_first.ensures.shows
     (subst (λ (l : LockId). l.header.seats ≤ seats) (sym lock) c.requires.places)
 
 pub returns-in-Ends-clause-begins : goal.returns-in-Ends-clause-begins
 returns-in-Ends-clause-begins g c =
-    begun_after_in c.args.when_full c.args.pass.now c.begin_when_full-turn.new.pass c.args.request c.args.how
-    c.moment-moment.result _ c.begin_when_full-turn.result c.begin_when_full-turn.ensures.begun
+    begun_after_in c.args.when_full c.args.pass.now c.step_first.new.pass c.args.request c.args.how
+    c.moment-moment.result _ c.first_turn-turn.result (begun_so g (goal.at.returns-in-Ends-clause-begins g c).After-first_turn-turn)
 
 pub returns-in-Ends-clause-made : goal.returns-in-Ends-clause-made
 returns-in-Ends-clause-made g c =
-    ends_in c.args.when_full (g.P.Parking.did c.args.parking.now) c.args.pass.now c.begin_when_full-turn.new.pass
-    c.args.request c.args.how c.moment-moment.result c.begin_when_full-turn.result c.in-Ends.reply _
-    (none g (goal.at.returns-in-Ends-clause-made g c).After-begin_when_full-turn)
-    c.begin_when_full-turn.ensures.begun c.unpark.ensures c.in-Ends.is
+    ends_in c.args.when_full (g.P.Parking.did c.args.parking.now) c.args.pass.now c.step_first.new.pass
+    c.args.request c.args.how c.moment-moment.result c.first_turn-turn.result c.in-Ends.reply _
+    (none g (goal.at.returns-in-Ends-clause-made g c).After-first_turn-turn)
+    (begun_so g (goal.at.returns-in-Ends-clause-made g c).After-first_turn-turn) c.unpark-in-Otherwise.ensures c.in-Ends.is
 
 -- where the call began, and with what it waits
-began : (g : _) (c : After-unpark g) (w : Waiting) → c.begin_when_full-turn.result.next ≡ next.Waits w →
+began : (g : _) (c : After-unpark-in-Otherwise g) (w : Waiting) →
+    IsBegunIn c.args.when_full c.args.pass.now c.args.request c.args.how c.moment-moment.result false
+    c.first_turn-turn.result c.step_first.new.pass → c.first_turn-turn.result.next ≡ next.Waits w →
     (p : Point) × (Begins (g.P.Parking.did c.args.parking.now) (at_point c.args.pass.now p)
-    c.begin_when_full-turn.new.pass c.args.request c.args.how
+    c.step_first.new.pass c.args.request c.args.how
     × (w ≡ begun c.args.request c.args.how c.moment-moment.result))
-began g c w is =
+began g c w b is =
     let did = g.P.Parking.did c.args.parking.now in
     let x = waits_from c.args.when_full did c.args.pass.now
-    c.begin_when_full-turn.new.pass c.args.request c.args.how c.moment-moment.result c.begin_when_full-turn.result
-    false w c.begin_when_full-turn.ensures.begun is in (
+    c.step_first.new.pass c.args.request c.args.how c.moment-moment.result c.first_turn-turn.result
+    false w b is in (
       x.0,
-      begun_waits did (at_point c.args.pass.now x.0) c.begin_when_full-turn.new.pass c.args.request c.args.how
-          c.moment-moment.result c.begin_when_full-turn.result w x.1 c.unpark.ensures is,
+      begun_waits did (at_point c.args.pass.now x.0) c.step_first.new.pass c.args.request c.args.how
+          c.moment-moment.result c.first_turn-turn.result w x.1 c.unpark-in-Otherwise.ensures is,
     )
 
 pub wait-requires-clause-waits : goal.wait-requires-clause-waits
 wait-requires-clause-waits g c =
-    let x = began g (goal.at.wait-requires-clause-waits g c).After-unpark c.in-Waits.waiting c.in-Waits.is in
-    waits_now (g.P.Parking.did c.args.parking.now) (at_point c.args.pass.now x.0) c.begin_when_full-turn.new.pass
-    c.args.request c.args.how (none g (goal.at.wait-requires-clause-waits g c).After-begin_when_full-turn) x.1.0
-    (same_at c.args.pass.now c.begin_when_full-turn.new.pass x.0 c.begin_when_full-turn.ensures.same)
+    let x = began g (goal.at.wait-requires-clause-waits g c).After-unpark-in-Otherwise c.in-Waits.waiting
+    (begun_so g (goal.at.wait-requires-clause-waits g c).After-first_turn-turn) c.in-Waits.is in
+    waits_now (g.P.Parking.did c.args.parking.now) (at_point c.args.pass.now x.0) c.step_first.new.pass
+    c.args.request c.args.how (none g (goal.at.wait-requires-clause-waits g c).After-first_turn-turn) x.1.0
+    (same_at c.args.pass.now c.step_first.new.pass x.0 c.step_first.ensures.same)
 
 pub wait-requires-clause-first : goal.wait-requires-clause-first
 wait-requires-clause-first g c =
-    let x = began g (goal.at.wait-requires-clause-first g c).After-unpark c.in-Waits.waiting c.in-Waits.is in
+    let x = began g (goal.at.wait-requires-clause-first g c).After-unpark-in-Otherwise c.in-Waits.waiting
+    (begun_so g (goal.at.wait-requires-clause-first g c).After-first_turn-turn) c.in-Waits.is in
     subst (λ (w : Waiting). MayBegin w.limits w.stage) (sym x.1.1)
     (may_wait (g.P.Parking.did c.args.parking.now) c.args.request c.args.how c.moment-moment.result
     c.moment-moment.ensures)
 
 pub returns-in-Waits-clause-begins : goal.returns-in-Waits-clause-begins
 returns-in-Waits-clause-begins g c =
-    before_trans c.args.pass.now.seen c.begin_when_full-turn.new.pass.seen c.wait.new.pass.seen
-    (begun_after_in c.args.when_full c.args.pass.now c.begin_when_full-turn.new.pass c.args.request c.args.how
-    c.moment-moment.result _ c.begin_when_full-turn.result c.begin_when_full-turn.ensures.begun)
+    before_trans c.args.pass.now.seen c.step_first.new.pass.seen c.wait.new.pass.seen
+    (begun_after_in c.args.when_full c.args.pass.now c.step_first.new.pass c.args.request c.args.how
+    c.moment-moment.result _ c.first_turn-turn.result (begun_so g (goal.at.returns-in-Waits-clause-begins g c).After-first_turn-turn))
     c.wait.ensures.begins
 
 pub returns-in-Waits-clause-made : goal.returns-in-Waits-clause-made
 returns-in-Waits-clause-made g c =
-    waited_in c.args.when_full (g.P.Parking.did c.args.parking.now) c.args.pass.now c.begin_when_full-turn.new.pass
-    c.args.request c.args.how c.moment-moment.result c.begin_when_full-turn.result c.wait.new.pass
-    c.in-Waits.waiting c.wait.result (none g (goal.at.returns-in-Waits-clause-made g c).After-begin_when_full-turn)
-    c.begin_when_full-turn.ensures.begun c.unpark.ensures c.in-Waits.is c.begin_when_full-turn.ensures.same
-    c.begin_when_full-turn.ensures.shows c.moment-moment.ensures c.wait.ensures.begins c.wait.ensures.waited
+    waited_in c.args.when_full (g.P.Parking.did c.args.parking.now) c.args.pass.now c.step_first.new.pass
+    c.args.request c.args.how c.moment-moment.result c.first_turn-turn.result c.wait.new.pass
+    c.in-Waits.waiting c.wait.result (none g (goal.at.returns-in-Waits-clause-made g c).After-first_turn-turn)
+    (begun_so g (goal.at.returns-in-Waits-clause-made g c).After-first_turn-turn) c.unpark-in-Otherwise.ensures c.in-Waits.is c.step_first.ensures.same
+    c.step_first.ensures.shows c.moment-moment.ensures c.wait.ensures.begins c.wait.ensures.waited
 
 pub wait-requires-clause-brings : goal.wait-requires-clause-brings
 wait-requires-clause-brings g c =
-    let x = began g (goal.at.wait-requires-clause-brings g c).After-unpark c.in-Waits.waiting c.in-Waits.is in
+    let x = began g (goal.at.wait-requires-clause-brings g c).After-unpark-in-Otherwise c.in-Waits.waiting
+    (begun_so g (goal.at.wait-requires-clause-brings g c).After-first_turn-turn) c.in-Waits.is in
     let same = begun_free (g.P.Parking.did c.args.parking.now) (at_point c.args.pass.now x.0)
-    c.begin_when_full-turn.new.pass c.args.request c.args.how
-    (same_at c.args.pass.now c.begin_when_full-turn.new.pass x.0 c.begin_when_full-turn.ensures.same) x.1.0 in
-    brings_still g.L.Load.is_counted g.L.Load.amount c.args.load.now c.begin_when_full-turn.new.load 0
-    (stays g.L.Load.is_counted g.L.Load.amount c.args.load.now c.begin_when_full-turn.new.load
-    (free_of c.args.pass.now) (free_of c.begin_when_full-turn.new.pass) same c.begin_when_full-turn.ensures.moves)
+    c.step_first.new.pass c.args.request c.args.how
+    (same_at c.args.pass.now c.step_first.new.pass x.0 c.step_first.ensures.same) x.1.0 in
+    brings_still g.L.Load.is_counted g.L.Load.amount c.args.load.now c.step_first.new.load 0
+    (stays g.L.Load.is_counted g.L.Load.amount c.args.load.now c.step_first.new.load
+    (free_of c.args.pass.now) (free_of c.step_first.new.pass) same c.step_first.ensures.moves)
     c.requires.brings
 
 pub returns-in-Waits-clause-moves : goal.returns-in-Waits-clause-moves
 returns-in-Waits-clause-moves g c =
-    let x = began g (goal.at.returns-in-Waits-clause-moves g c).After-unpark c.in-Waits.waiting c.in-Waits.is in
+    let x = began g (goal.at.returns-in-Waits-clause-moves g c).After-unpark-in-Otherwise c.in-Waits.waiting
+    (begun_so g (goal.at.returns-in-Waits-clause-moves g c).After-first_turn-turn) c.in-Waits.is in
     let same = begun_free (g.P.Parking.did c.args.parking.now) (at_point c.args.pass.now x.0)
-    c.begin_when_full-turn.new.pass c.args.request c.args.how
-    (same_at c.args.pass.now c.begin_when_full-turn.new.pass x.0 c.begin_when_full-turn.ensures.same) x.1.0 in
-    moves_since g.L.Load.is_counted g.L.Load.amount c.args.load.now c.begin_when_full-turn.new.load c.wait.new.load
-    (free_of c.args.pass.now) (free_of c.begin_when_full-turn.new.pass) (free_of c.wait.new.pass)
-    (stays g.L.Load.is_counted g.L.Load.amount c.args.load.now c.begin_when_full-turn.new.load
-    (free_of c.args.pass.now) (free_of c.begin_when_full-turn.new.pass) same c.begin_when_full-turn.ensures.moves)
+    c.step_first.new.pass c.args.request c.args.how
+    (same_at c.args.pass.now c.step_first.new.pass x.0 c.step_first.ensures.same) x.1.0 in
+    moves_since g.L.Load.is_counted g.L.Load.amount c.args.load.now c.step_first.new.load c.wait.new.load
+    (free_of c.args.pass.now) (free_of c.step_first.new.pass) (free_of c.wait.new.pass)
+    (stays g.L.Load.is_counted g.L.Load.amount c.args.load.now c.step_first.new.load
+    (free_of c.args.pass.now) (free_of c.step_first.new.pass) same c.step_first.ensures.moves)
     same c.wait.ensures.moves
+
+pub first_turn-turn-requires : goal.first_turn-turn-requires
+first_turn-turn-requires g c =
+    awake_in c.args.when_full c.args.pass.now c.step_first.new.pass c.args.request c.args.how false
+    c.in-Otherwise.answer
+    (step_in_as c.args.when_full c.args.pass.now c.step_first.new.pass c.step-step.result _ _ c.step-step.ensures
+    c.in-Otherwise.ensures.stepped)
+
+pub step_first-requires-clause-brings : goal.step_first-requires-clause-brings
+step_first-requires-clause-brings g c =
+    subst (λ (n : ℕ). Brings g.L.Load.is_counted (g.L.Load.amount c.args.load.now) n)
+    (sym (ap given_by c.step-step.ensures ∙ step_gives_none c.args.request c.args.how false)) c.requires.brings
+
+-- a step that was done at once is that of the request
+done_so : (g : _) (c : In-Done g) → IsStepIn c.args.when_full c.args.pass.now
+    (step_by c.args.request c.args.how false)
+    (Ok (Recorded (entry_at_once c.args.pass.now.seat (step_by c.args.request c.args.how false)) c.in-Done.named))
+    c.step_first.new.pass
+done_so g c =
+    subst (λ (z : Step). IsStepIn c.args.when_full c.args.pass.now z
+    (Ok (Recorded (entry_at_once c.args.pass.now.seat z) c.in-Done.named)) c.step_first.new.pass) c.step-step.ensures
+    c.in-Done.ensures.stepped
+
+pub unpark-requires : goal.unpark-requires
+unpark-requires g c =
+    let seats = g.P.Parking.seats c.args.parking.now in
+    let lock : c.step_first.new.pass.lock ≡ c.args.self.now = c.step_first.ensures.same.lock ∙ c.requires.is_of in
+    place_in c.args.when_full c.args.pass.now c.step_first.new.pass (step_by c.args.request c.args.how false)
+    (Ok (Recorded (entry_at_once c.args.pass.now.seat (step_by c.args.request c.args.how false)) c.in-Done.named))
+    seats (done_so g (goal.at.unpark-requires g c).In-Done) c.step_first.ensures.shows
+    (subst (λ (l : LockId). l.header.seats ≤ seats) (sym lock) c.requires.places)
+
+pub returns-in-Done-clause-begins : goal.returns-in-Done-clause-begins
+returns-in-Done-clause-begins g c =
+    after_in c.args.when_full c.args.pass.now c.step-step.result
+    (Ok (Recorded (entry_at_once c.args.pass.now.seat c.step-step.result) c.in-Done.named)) c.step_first.new.pass
+    c.in-Done.ensures.stepped
+
+pub returns-in-Done-clause-made : goal.returns-in-Done-clause-made
+returns-in-Done-clause-made g c =
+    let did = g.P.Parking.did c.args.parking.now in
+    let at = goal.at.returns-in-Done-clause-made g c in
+    let is : c.at_entry.result ≡ None = search rules in
+    subst (λ (e : Entry). IsCallIn c.args.when_full did c.args.pass.now c.args.request c.args.how (Ok e)
+    c.step_first.new.pass)
+    (sym (c.entry_at_once.ensures
+    ∙ (ap (λ i. entry_at_once i c.step-step.result) (c.seat.ensures ∙ c.step_first.ensures.same.seat)
+    ∙ ap (entry_at_once c.args.pass.now.seat) c.step-step.ensures)))
+    (made_at_once c.args.when_full did c.args.pass.now c.step_first.new.pass c.args.request c.args.how c.in-Done.named
+    (found_none did c.args.pass.now.seat c.args.how c.at_entry.result c.at_entry.ensures.asked is)
+    (done_so g at.In-Done) c.unpark.ensures)

@@ -1,0 +1,142 @@
+-- What a section of the lock leaves on the fast way.
+use Rattle.std.proofs.Common.{◌≡◌, inl, ℕ, ◌+◌, Bool, false, [], ◌∷◌, Option, Result, Ok, Err, refl, sym, ap, ◌∙◌, subst}
+use Rattle.history.specs.declared.entry.Entry.{Entry}
+use Rattle.history.specs.declared.fault.Fault.{Fault}
+use Rattle.history.specs.declared.step.Answer.{Answer}
+use Rattle.history.specs.declared.step.Answer.TheVariants.{Recorded, Sleep}
+use Rattle.history.specs.declared.step.Step.{Step}
+use Rattle.history.specs.declared.step.Step.TheVariants.{Acquire, Try, TryFair, Give}
+use Rattle.history.specs.Entries.{ended_calls}
+use Rattle.history.specs.Phase.{waits}
+use Rattle.frame.specs.AtOnce.{entry_at_once}
+use Rattle.frame.specs.Core.{CoreView, counts_of, made_by}
+use Rattle.permit.specs.Deed.{Deed}
+use Rattle.word_lock.specs.Point.{Follows}
+use Rattle.word_lock.specs.Ticket.{Ticket, after_lock, first_seat}
+use Rattle.monitor.specs.Lawful.{point_of, IsLawfulCore}
+use Rattle.monitor.specs.Load.{Moves, free_of}
+use Rattle.monitor.specs.Acquire.{WasNotInterrupted}
+use Rattle.monitor.specs.Machine.{begins_wait, begun, first_turn, next_by, step_by}
+use Rattle.monitor.specs.Room.{IsCallIn, IsEnteredIn, IsStepIn}
+use Rattle.monitor.specs.Shown.{Shown, IsPass, IsSound, shown}
+use Rattle.monitor.specs.Stepping.{IsUnparked}
+use Rattle.monitor.specs.inner.CoreSteps.{IsCoreStep, IsCoreStepBy}
+use Rattle.monitor.specs.inner.Stepping.{entry_in, named_in}
+use Rattle.monitor.specs.declared.how.How.{How}
+use Rattle.monitor.specs.declared.machine.Request.{Request}
+use Rattle.monitor.specs.declared.machine.Request.TheVariants as request
+use Rattle.monitor.specs.declared.room.WhenFull.{WhenFull}
+use Rattle.monitor.specs.declared.room.WhenFull.TheVariants.{Refuse, Trim}
+use Rattle.monitor.proofs.Rooms.{Around, around_step, follows_room, moves_in, moves_step, pass_in, sectioned_in, step_in, true_in}
+use Rattle.monitor.proofs.RoomTurns.{ends_in, entered_err, entered_ok, no_sleep_in}
+use Rattle.monitor.proofs.Sections.{owed_shown, sectioned, section_pass, section_step, section_true}
+use Rattle.monitor.proofs.Taking.{follows_made}
+
+-- a step that recorded its entry found room
+pub found_room : (wf : WhenFull) (moved : CoreView → Type 0) (v w : CoreView) (i : ℕ) (step : Step) (e : Entry)
+    (name : Option ℕ) → IsCoreStep v i step (Ok (Recorded e name)) w → moved v →
+    IsCoreStepBy wf moved v i step (Ok (Recorded e name)) w
+found_room Refuse moved v w i step e name s m = (s, m)
+found_room Trim moved v w i step e name s m = inl (s, m, λ q. cc)
+
+-- each entry that is made at once ends a call
+ends_one : (i : ℕ) (step : Step) → ended_calls (entry_at_once i step ∷ []) ≡ 1
+ends_one i (Acquire m n) = refl
+ends_one i (TryFair m n) = refl
+ends_one i (Try m n) = refl
+ends_one i (Give m n) = refl
+ends_one i _ = refl
+
+pub one_more : (i : ℕ) (step : Step) (name : Option ℕ) (next share : ℕ) → next ≡ 1 + share →
+    next ≡ ended_calls (made_by (Ok (Recorded (entry_at_once i step) name))) + share
+one_more i step name next share is = is ∙ sym (ap (λ k. k + share) (ends_one i step))
+
+pub follows_by : (wf : WhenFull) (t o : Ticket) (moved : CoreView → Type 0) (v w : CoreView) (seat share : ℕ)
+    (step : Step) (r : Result Answer Fault) → o ≡ after_lock t (point_of v) → IsPass t seat share → IsLawfulCore v →
+    IsLawfulCore w → IsCoreStepBy wf moved v seat step r w → Follows (first_seat o.logs) o.seen (point_of w)
+follows_by Refuse t o moved v w seat share step r taken was kept left s =
+    follows_made t o v w seat share step r taken was kept left s.0.answered
+follows_by Trim t o moved v w seat share step r taken was kept left s =
+    follows_room t o moved v w seat share step r taken was kept left s
+
+-- the pass afterwards
+pub record Went (wf : WhenFull) (t n : Ticket) (w : CoreView) (seat share next : ℕ) (step : Step)
+    (r : Result Answer Fault) : Type 0 where
+  pub pass : IsPass n seat next
+  pub shows : IsSound (shown n seat next)
+  pub stepped : IsStepIn wf (shown t seat share) step r (shown n seat next)
+  pub seen : n.seen ≡ point_of w
+
+pub went : (wf : WhenFull) (t o n : Ticket) (v w : CoreView) (seat share : ℕ) (a : Around t o n v w seat share)
+    (moved : CoreView → Type 0) (step : Step) (r : Result Answer Fault) → IsCoreStepBy wf moved v seat step r w →
+    (next : ℕ) → next ≡ ended_calls (made_by r) + share → Went wf t n w seat share next step r
+went Refuse t o n v w seat share a moved step r s next is =
+    let x = around_step t o n v w seat share step r a s.0 in
+    record {
+      pass = section_pass t o n (point_of v) (point_of w) seat share step r x next is;
+      shows = section_true t o n (point_of v) (point_of w) seat share step r x next is;
+      stepped = section_step t o n (point_of v) (point_of w) seat share step r x next
+          (owed_shown v seat step r a.kept s.0.owed);
+      seen = (sectioned t o n (point_of v) (point_of w) seat share step r x).seen;
+    }
+went Trim t o n v w seat share a moved step r s next is =
+    record {
+      pass = pass_in t o n v w seat share a moved step r s next is;
+      shows = true_in t o n v w seat share a moved step r s next is;
+      stepped = step_in t o n v w seat share a moved step r s next;
+      seen = (sectioned_in t o n v w seat share a moved step r s).seen;
+    }
+
+-- and what changed hands
+pub moves_by : (wf : WhenFull) (t o n : Ticket) (v w : CoreView) (seat share next : ℕ)
+    (a : Around t o n v w seat share) {A : Type 0} (counted : Bool) (amount : A → ℕ) (x y : A) (step : Step)
+    (r : Result Answer Fault) →
+    IsCoreStepBy wf (λ z. Moves counted amount x (counts_of z).free y (counts_of w).free) v seat step r w →
+    Moves counted amount x (free_of (shown t seat share)) y (free_of (shown n seat next))
+moves_by Refuse t o n v w seat share next a counted amount x y step r s =
+    moves_step t o n v w seat share a counted amount x y step r r s.0 s.1
+moves_by Trim t o n v w seat share next a counted amount x y step r s =
+    moves_in t o n v w seat share a counted amount x y step r s
+
+-- a step of an idle seat, with its entry or a fault
+pub entered_in : (wf : WhenFull) (did : Deed → Type 0) (old new : Shown) (step : Step) (r : Result Answer Fault) →
+    waits step ≡ false → IsUnparked did (named_in r) → IsStepIn wf old step r new →
+    IsEnteredIn wf did old step (entry_in r) new
+entered_in wf did old new step (Ok (Recorded e name)) idle woken s = entered_ok wf did old new step e name woken s
+entered_in wf did old new step (Ok Sleep) idle woken s =
+    absurd (no_sleep_in wf old new step (Ok Sleep) idle s refl)
+entered_in wf did old new step (Err f) idle woken s = entered_err wf did old new step f s
+
+-- a call that was done at once
+no_wait : (q : Request) (i : ℕ) (step : Step) → begins_wait q (entry_at_once i step).word ≡ false
+no_wait (request.Acquire a b) i (Acquire m n) = refl
+no_wait (request.Acquire a b) i (TryFair m n) = refl
+no_wait (request.Acquire a b) i (Try m n) = refl
+no_wait (request.Acquire a b) i (Give m n) = refl
+no_wait (request.Acquire a b) i _ = refl
+no_wait (request.AwaitOn c) i (Acquire m n) = refl
+no_wait (request.AwaitOn c) i (TryFair m n) = refl
+no_wait (request.AwaitOn c) i (Try m n) = refl
+no_wait (request.AwaitOn c) i (Give m n) = refl
+no_wait (request.AwaitOn c) i _ = refl
+
+pub made_at_once : (wf : WhenFull) (did : Deed → Type 0) (old new : Shown) (q : Request) (how : How) (name : Option ℕ) →
+    WasNotInterrupted did old.seat how →
+    IsStepIn wf old (step_by q how false) (Ok (Recorded (entry_at_once old.seat (step_by q how false)) name)) new →
+    IsUnparked did name → IsCallIn wf did old q how (Ok (entry_at_once old.seat (step_by q how false))) new
+made_at_once wf did old new q how name none s woken =
+    let e = entry_at_once old.seat (step_by q how false) in
+    ends_in wf did old new q how 0 (first_turn q how 0 false (Ok (Recorded e name))) (Ok e) false none
+    (Ok (Recorded e name), s, refl) woken
+    (ap (λ b. next_by b (begun q how 0) e) (no_wait q old.seat (step_by q how false)))
+
+-- where nothing was done before it
+pub from_none : {A : Type 0} (wf : WhenFull) (counted : Bool) (amount : A → ℕ) (x z y : A) (v u w : CoreView) (i : ℕ)
+    (step : Step) (r : Result Answer Fault) → u ≡ v → z ≡ x →
+    IsCoreStepBy wf (λ k. Moves counted amount z (counts_of k).free y (counts_of w).free) u i step r w →
+    IsCoreStepBy wf (λ k. Moves counted amount x (counts_of k).free y (counts_of w).free) v i step r w
+from_none wf counted amount x z y v u w i step r same stays s =
+    subst (λ a. IsCoreStepBy wf (λ k. Moves counted amount a (counts_of k).free y (counts_of w).free) v i step r w)
+    stays
+    (subst (λ (b : CoreView). IsCoreStepBy wf (λ k. Moves counted amount z (counts_of k).free y (counts_of w).free) b i
+    step r w) same s)

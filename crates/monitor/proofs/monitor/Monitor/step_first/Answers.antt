@@ -1,0 +1,22 @@
+use Rattle.std.proofs.Common.{ap, subst}
+use Rattle.monitor.specs.Load.{free_of}
+use Rattle.monitor.specs.Room.{IsStepIn}
+use Rattle.monitor.specs.Shown.{Shown}
+use Rattle.monitor.proofs.Freeing.{brings_still, moves_since}
+use Rattle.monitor.proofs.monitor.Monitor.step_first.Goals as goal
+
+pub step_later-requires-clause-brings : goal.step_later-requires-clause-brings
+step_later-requires-clause-brings g c =
+    brings_still g.L.Load.is_counted g.L.Load.amount c.args.load.now c.step_at_once.new.load _
+    (λ _. c.in-Busy.ensures.busy tt) c.requires.brings
+
+pub returns-in-Busy-clause-stepped : goal.returns-in-Busy-clause-stepped
+returns-in-Busy-clause-stepped g c =
+    subst (λ (p : Shown). IsStepIn c.args.when_full p c.args.step c.step_later.result c.step_later.new.pass)
+    c.in-Busy.ensures.stepped c.step_later.ensures.stepped
+
+pub returns-in-Busy-clause-moves : goal.returns-in-Busy-clause-moves
+returns-in-Busy-clause-moves g c =
+    moves_since g.L.Load.is_counted g.L.Load.amount c.args.load.now c.step_at_once.new.load c.step_later.new.load
+    (free_of c.args.pass.now) (free_of c.step_at_once.new.pass) (free_of c.step_later.new.pass)
+    (λ _. c.in-Busy.ensures.busy tt) (ap free_of c.in-Busy.ensures.stepped) c.step_later.ensures.moves

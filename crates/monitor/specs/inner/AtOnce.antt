@@ -1,0 +1,36 @@
+-- What a step of the fast way leaves.
+use Rattle.std.specs.Prelude.{◌≡◌, Ok}
+use Rattle.history.specs.declared.step.Answer.TheVariants.{Recorded}
+use Rattle.history.specs.declared.step.Step.{Step}
+use Rattle.frame.specs.AtOnce.{entry_at_once}
+use Rattle.monitor.specs.Room.{IsStepIn}
+use Rattle.monitor.specs.Shown.{Shown}
+use Rattle.monitor.specs.declared.at_once.AtOnce.{AtOnce}
+use Rattle.monitor.specs.declared.at_once.AtOnce.TheVariants as once
+use Rattle.monitor.specs.declared.at_once.First.{First}
+use Rattle.monitor.specs.declared.at_once.First.TheVariants as first
+use Rattle.monitor.specs.declared.room.WhenFull.{WhenFull}
+
+-- the step was made; if it was done at once, its entry is that of such a step; or nothing has changed
+abbrev pub IsStepAtOnce : WhenFull → Shown → Step → AtOnce → Shown → Type 0
+IsStepAtOnce w old step (once.Done name) new =
+    IsStepIn w old step (Ok (Recorded (entry_at_once old.seat step) name)) new
+IsStepAtOnce w old step (once.Otherwise r) new = IsStepIn w old step r new
+IsStepAtOnce w old step once.Busy new = new ≡ old
+
+-- the same of a step that waits for the object
+abbrev pub IsStepFirst : WhenFull → Shown → Step → First → Shown → Type 0
+IsStepFirst w old step (first.Done name) new =
+    IsStepIn w old step (Ok (Recorded (entry_at_once old.seat step) name)) new
+IsStepFirst w old step (first.Otherwise r) new = IsStepIn w old step r new
+
+-- who slept at the object was woken, unless it was busy
+abbrev pub Wakes : AtOnce → Type 0 → Type 0
+Wakes (once.Done name) woken = woken
+Wakes (once.Otherwise r) woken = woken
+Wakes once.Busy woken = Unit {0}
+
+abbrev pub IsBusy : AtOnce → Type 0
+IsBusy (once.Done name) = ⊥
+IsBusy (once.Otherwise r) = ⊥
+IsBusy once.Busy = Unit {0}
