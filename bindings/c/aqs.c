@@ -1,11 +1,14 @@
 /* aqs.c: parking, and the calls of aqs.h over the turns of aqs_core.h. No proof covers this file.
 
-   Three parts:
+   Five parts:
    - parking: a place for each thread, with its permit and its interrupt. Here alone threads sleep and wake.
+   - numbers: which thread has which number, and so which place.
+   - seats: which thread has which seat of an object, and for how long.
    - turns: what a caller owes after each turn of the proved code.
    - the calls: one line each.
-   A fault in this file can lose a wake, or answer a wrong status, so that a thread goes on without the lock. It
-   can't make a history illegal: in the history the lock has one owner at most. */
+   A fault in the seats can give one seat to two threads, which the proofs exclude: then nothing holds. Any
+   other fault in this file can lose a wake, or answer a wrong status, so that a thread goes on without the
+   lock. It can't make a history illegal: in the history the lock has one owner at most. */
 #ifndef _GNU_SOURCE
 #define _GNU_SOURCE
 #endif
@@ -13,33 +16,61 @@
 
 #include "aqs_core.h"
 
+#include <errno.h>
 #include <linux/futex.h>
 #include <pthread.h>
 #include <sched.h>
 #include <stdatomic.h>
+#include <stdbool.h>
 #include <stdlib.h>
+#include <string.h>
+#include <sys/mman.h>
 #include <sys/syscall.h>
 #include <time.h>
 #include <unistd.h>
 
-/* What is called seldom stays out of the short ways. */
+/* What is called seldom stays out of the short ways, and what they are made of in them. */
 #define COLD __attribute__((noinline, cold))
+#define SHORT static inline __attribute__((always_inline))
 
-/* ThreadSanitizer doesn't see into the library: a turn orders what its thread does before and after it. */
-#if defined(__SANITIZE_THREAD__)
-#define AQS_TSAN 1
-#elif defined(__has_feature)
-#if __has_feature(thread_sanitizer)
-#define AQS_TSAN 1
+/* Tools that look for races don't see into the library, or don't know what it does. They are told that a turn
+   orders what its thread does before and after it. ThreadSanitizer's functions are there if the program has
+   it, and helgrind's requests are made if the program runs on valgrind. */
+extern void __tsan_acquire(void *) __attribute__((weak));
+extern void __tsan_release(void *) __attribute__((weak));
+
+#if defined(__has_include)
+#if __has_include(<valgrind/helgrind.h>)
+#include <valgrind/helgrind.h>
+#define IS_ON_VALGRIND() (RUNNING_ON_VALGRIND != 0)
 #endif
 #endif
-#ifdef AQS_TSAN
-void __tsan_acquire(void *);
-void __tsan_release(void *);
-#else
-#define __tsan_acquire(address) ((void)(address))
-#define __tsan_release(address) ((void)(address))
+#ifndef IS_ON_VALGRIND
+#define IS_ON_VALGRIND() false
+#define ANNOTATE_HAPPENS_BEFORE(object) ((void)(object))
+#define ANNOTATE_HAPPENS_AFTER(object) ((void)(object))
 #endif
+
+/* Whether such a tool is there: known before the first object is opened. */
+static bool is_watched;
+
+static COLD void tell_watchers_before(void *object) {
+    if (__tsan_release) __tsan_release(object);
+    ANNOTATE_HAPPENS_BEFORE(object);
+}
+
+static COLD void tell_watchers_after(void *object) {
+    if (__tsan_acquire) __tsan_acquire(object);
+    ANNOTATE_HAPPENS_AFTER(object);
+}
+
+SHORT void tell_before(void *object) {
+    if (is_watched) tell_watchers_before(object);
+}
+
+SHORT void tell_after(void *object) {
+    if (is_watched) tell_watchers_after(object);
+}
 
 /* Tells the processor that the thread only looks. */
 static inline void relax(void) {
@@ -57,14 +88,29 @@ enum { PERMIT = 1, INTERRUPT = 2, SLEEPS = 4 };
 
 typedef struct {
     _Alignas(64) _Atomic uint32_t word;
+    _Atomic uint64_t holds; /* of all objects together. Only the thread of the place counts them */
+    pid_t process, thread;  /* whose it is, by the system's ids. thread 0: nobody's. Under `numbering` */
 } place_t;
 
-static place_t places[AQS_THREADS];
-
-static uint64_t now_in_milliseconds(void) {
+/* What the clock shows, rounded up to a millisecond: a time that is counted from here on is never up too
+   early. */
+static uint64_t moment_in_milliseconds(void) {
     struct timespec now;
     clock_gettime(CLOCK_MONOTONIC, &now);
-    return (uint64_t)now.tv_sec * 1000 + (uint64_t)now.tv_nsec / 1000000;
+    return (uint64_t)now.tv_sec * 1000 + ((uint64_t)now.tv_nsec + 999999) / 1000000;
+}
+
+/* The moment of a number of milliseconds. Each number has one: time_t has 64 bits. */
+static struct timespec moment_of(uint64_t milliseconds) {
+    return (struct timespec){(time_t)(milliseconds / 1000), (long)(milliseconds % 1000) * 1000000};
+}
+
+/* Whether the clock shows this moment or a later one, to the nanosecond. */
+static bool is_reached(const struct timespec *moment) {
+    struct timespec now;
+    clock_gettime(CLOCK_MONOTONIC, &now);
+    if (now.tv_sec != moment->tv_sec) return now.tv_sec > moment->tv_sec;
+    return now.tv_nsec >= moment->tv_nsec;
 }
 
 static void wake(place_t *place) {
@@ -87,117 +133,226 @@ static bool take(place_t *place, uint32_t signal) {
     return (atomic_load(&place->word) & signal) && (atomic_fetch_and(&place->word, ~signal) & signal);
 }
 
-/* How many times a thread looks for its signal before it sleeps. Two threads that look hand over in 0.1 microseconds, and
-   two that sleep in 5 to 6. */
-enum { LOOKS = 500 };
+/* How many times a thread looks for its signal before it sleeps. Two threads that look hand over in 0.1
+   microseconds, and two that sleep in 5 to 6. A fair object goes from thread to thread at each release, so
+   there a thread lets others run after some looks, and looks on. */
+enum { LOOKS = 500, LOOKS_IF_FAIR = 100, YIELDS = 100 };
 
-static bool comes_soon(place_t *place, uint32_t awaited) {
-    for (int i = 0; i < LOOKS; i++) {
+static bool comes_soon(place_t *place, uint32_t awaited, bool is_fair) {
+    for (int i = 0; i < (is_fair ? LOOKS_IF_FAIR : LOOKS); i++) {
         if (atomic_load(&place->word) & awaited) return true;
         relax();
+    }
+    for (int i = 0; is_fair && i < YIELDS; i++) {
+        sched_yield();
+        if (atomic_load(&place->word) & awaited) return true;
     }
     return false;
 }
 
-static void sleep_at(place_t *place, uint32_t awaited, const struct timespec *moment) {
-    if (comes_soon(place, awaited)) return;
+/* Returns whether it slept. */
+static bool sleep_at(place_t *place, uint32_t awaited, const struct timespec *moment, bool is_fair) {
+    if (comes_soon(place, awaited, is_fair)) return false;
     uint32_t read = atomic_fetch_or(&place->word, SLEEPS) | SLEEPS;
     if (!(read & awaited)) sleep_while(place, read, moment);
     atomic_fetch_and(&place->word, ~(uint32_t)SLEEPS);
+    return true;
 }
 
-/* Waits as an answer says, and returns how that ended. */
-static uint8_t park(place_t *place, const aqs_answer_t *answer) {
+/* Waits as an answer says, and returns how that ended, and whether the thread slept. */
+static uint8_t park(place_t *place, const aqs_answer_t *answer, bool is_fair, bool *has_slept) {
     uint32_t awaited = answer->interruptible ? PERMIT | INTERRUPT : PERMIT;
-    struct timespec moment = {(time_t)(answer->until / 1000), (long)(answer->until % 1000) * 1000000};
+    struct timespec moment = moment_of(answer->until);
     for (;;) {
         if (answer->interruptible && take(place, INTERRUPT)) return AQS_WOKE_INTERRUPT;
         if (take(place, PERMIT)) return AQS_WOKE_PERMIT;
-        if (answer->has_until && now_in_milliseconds() >= answer->until) return AQS_WOKE_DEADLINE;
-        sleep_at(place, awaited, answer->has_until ? &moment : NULL);
+        if (answer->has_until && is_reached(&moment)) return AQS_WOKE_DEADLINE;
+        *has_slept |= sleep_at(place, awaited, answer->has_until ? &moment : NULL, is_fair);
     }
 }
 
-/* Threads ------------------------------------------------------------------------------------------------ */
+/* How long a thread pauses before it asks again for a lock that isn't fair, some 5 microseconds. The thread
+   that released it goes on with what the lock guards in its cache, and may release it many times meanwhile:
+   it wakes nobody again before the thread has asked. One that slept comes late enough. */
+enum { PAUSES = 1000 };
 
-/* A bit for each number that a thread has. */
-static _Atomic uint64_t taken[AQS_THREADS / 64];
+static void let_others_go_on(void) {
+    for (int i = 0; i < PAUSES; i++) relax();
+}
+
+/* Numbers ------------------------------------------------------------------------------------------------ */
+
+/* The place of each number. The first are there from the beginning, and each later block has as many as all
+   before it. None is ever freed, so a late signal finds its place. A number is given back as its thread
+   ends, or, if that was not to be, before another block is made. `numbering` guards all of them, and the
+   openings of static objects. */
+enum { FIRST_PLACES = 256, BLOCKS = 16 };
+static place_t first_places[FIRST_PLACES];
+static place_t *_Atomic blocks[BLOCKS] = {first_places};
+static aqs_thread_t count_of_places = FIRST_PLACES, lowest; /* no number below `lowest` is free */
+static pthread_mutex_t numbering = PTHREAD_MUTEX_INITIALIZER;
 static pthread_key_t at_end;
+static bool has_key;
 static pthread_once_t once = PTHREAD_ONCE_INIT;
 
-/* The calling thread: its number, and how many holds of locks it has. One that ends with some keeps its
-   number, and its holds, for good. */
-static _Thread_local struct {
-    uint64_t holds;
-    aqs_thread_t number;
-} self = {0, AQS_THREADS};
+/* Which seat a thread had last at an object. */
+typedef struct {
+    const aqs_object_t *object;
+    uint32_t seat;
+} memory_t;
+enum { MEMORIES = 16 };
 
+/* The calling thread. It lies where the system finds it without a call, also in a shared library. */
+static _Thread_local __attribute__((tls_model("initial-exec"))) struct {
+    uint64_t mine;  /* what a seat of its own says: it is made of its number, and never 0 */
+    place_t *place; /* NULL if it has no number */
+    aqs_thread_t number;
+    memory_t memories[MEMORIES];
+} self;
+
+/* The block of a number, and the first number there. */
+static unsigned block_of(aqs_thread_t thread) {
+    return thread < FIRST_PLACES ? 0 : 24 - (unsigned)__builtin_clz(thread);
+}
+static aqs_thread_t begin_of(unsigned block) { return block ? FIRST_PLACES / 2 << block : 0; }
+
+/* NULL: no thread has had so great a number. */
+static place_t *place_of(aqs_thread_t thread) {
+    unsigned block = block_of(thread);
+    place_t *places = block < BLOCKS ? atomic_load(&blocks[block]) : NULL;
+    return places ? &places[thread - begin_of(block)] : NULL;
+}
+
+static void free_number(aqs_thread_t thread) {
+    place_of(thread)->thread = 0;
+    if (thread < lowest) lowest = thread;
+}
+
+static bool holds_nothing(const place_t *place) {
+    return atomic_load_explicit(&place->holds, memory_order_relaxed) == 0;
+}
+
+/* Called as a thread ends, once for each time that the key was set. Destructors of other keys may come later,
+   and unlock: so the thread keeps its number while it holds anything. */
 static void give_number_back(void *number) {
-    aqs_thread_t thread = (aqs_thread_t)((uintptr_t)number - 1);
-    if (self.holds == 0) atomic_fetch_and(&taken[thread / 64], ~(UINT64_C(1) << thread % 64));
-    self.number = AQS_THREADS;
+    if (!holds_nothing(self.place)) {
+        (void)pthread_setspecific(at_end, number);
+        return;
+    }
+    self.place = NULL;
+    memset(self.memories, 0, sizeof self.memories);
+    pthread_mutex_lock(&numbering);
+    free_number((aqs_thread_t)((uintptr_t)number - 1));
+    pthread_mutex_unlock(&numbering);
+}
+
+static pid_t own_id(void) { return (pid_t)syscall(SYS_gettid); }
+
+/* No number is taken while the process forks. In the child, the thread that forked is the only one left, with
+   another id. Numbers of the others stay theirs. */
+static void before_fork(void) { pthread_mutex_lock(&numbering); }
+static void after_fork(void) { pthread_mutex_unlock(&numbering); }
+static void after_fork_in_child(void) {
+    if (self.place) {
+        self.place->process = getpid();
+        self.place->thread = own_id();
+    }
+    pthread_mutex_unlock(&numbering);
 }
 
 static void prepare(void) {
-    pthread_key_create(&at_end, give_number_back);
+    is_watched = __tsan_acquire || IS_ON_VALGRIND();
+    has_key = pthread_key_create(&at_end, give_number_back) == 0;
+    (void)pthread_atfork(before_fork, after_fork, after_fork_in_child);
 }
 
-static COLD aqs_thread_t take_number(void) {
-    pthread_once(&once, prepare);
-    for (aqs_thread_t thread = 0; thread < AQS_THREADS; thread++) {
-        uint64_t bit = UINT64_C(1) << thread % 64;
-        if (!(atomic_load(&taken[thread / 64]) & bit) && !(atomic_fetch_or(&taken[thread / 64], bit) & bit)) {
-            atomic_store(&places[thread].word, 0);
-            pthread_setspecific(at_end, (void *)(uintptr_t)(thread + 1));
-            return self.number = thread;
-        }
+/* Whether the thread of a place, for which another thread asks, has ended. */
+static bool has_ended(const place_t *place, pid_t process, pid_t asks) {
+    if (place->process != process) return false;
+    if (place->thread == asks) return true;
+    return syscall(SYS_tgkill, process, place->thread, 0) != 0 && errno == ESRCH;
+}
+
+/* Threads that ended have some numbers still: those without a key, and those that made their last call after
+   the key's last destructor. One that ended with holds keeps its number for good, so that no later thread is
+   taken for it. */
+static void take_back_from_ended(pid_t process, pid_t asks) {
+    for (aqs_thread_t thread = 0; thread < count_of_places; thread++) {
+        const place_t *place = place_of(thread);
+        bool is_taken = place->thread != 0;
+        if (is_taken && holds_nothing(place) && has_ended(place, process, asks)) free_number(thread);
     }
-    return AQS_THREADS;
 }
 
-aqs_thread_t aqs_thread_self(void) {
-    return self.number < AQS_THREADS ? self.number : take_number();
+/* The least number that nobody has, or as many as there are places. */
+static aqs_thread_t least_free(void) {
+    while (lowest < count_of_places && place_of(lowest)->thread != 0) lowest++;
+    return lowest;
 }
+
+/* Makes as many places more as there are. False: memory lacks. */
+static bool make_places(void) {
+    size_t size = count_of_places * sizeof(place_t);
+    if (block_of(count_of_places) >= BLOCKS) return false;
+    void *places = mmap(NULL, size, PROT_READ | PROT_WRITE, MAP_PRIVATE | MAP_ANONYMOUS, -1, 0);
+    if (places == MAP_FAILED) return false;
+    atomic_store(&blocks[block_of(count_of_places)], places);
+    count_of_places *= 2;
+    return true;
+}
+
+/* Gives the calling thread a number and its place. False: memory lacks. */
+static COLD bool take_number(void) {
+    pid_t process = getpid(), asks = own_id();
+    pthread_once(&once, prepare);
+    pthread_mutex_lock(&numbering);
+    if (least_free() == count_of_places) take_back_from_ended(process, asks);
+    aqs_thread_t thread = least_free();
+    bool is_taken = thread < count_of_places || make_places();
+    if (is_taken) {
+        self.place = place_of(thread);
+        self.place->process = process;
+        self.place->thread = asks;
+        atomic_store(&self.place->word, 0);
+    }
+    pthread_mutex_unlock(&numbering);
+    if (!is_taken) return false;
+    self.number = thread;
+    self.mine = 2 * ((uint64_t)thread + 1);
+    if (has_key) (void)pthread_setspecific(at_end, (void *)((uintptr_t)thread + 1));
+    return true;
+}
+
+aqs_thread_t aqs_thread_self(void) { return self.place || take_number() ? self.number : AQS_NO_THREAD; }
 
 aqs_status_t aqs_thread_interrupt(aqs_thread_t thread) {
-    if (thread >= AQS_THREADS) return AQS_OUT_OF_RANGE;
-    send(&places[thread], INTERRUPT);
+    place_t *place = place_of(thread);
+    if (!place) return AQS_OUT_OF_RANGE;
+    send(place, INTERRUPT);
     return AQS_OK;
 }
 
-bool aqs_thread_interrupted(void) {
-    aqs_thread_t thread = aqs_thread_self();
-    return thread < AQS_THREADS && take(&places[thread], INTERRUPT);
-}
+bool aqs_thread_interrupted(void) { return (self.place || take_number()) && take(self.place, INTERRUPT); }
 
-/* Turns -------------------------------------------------------------------------------------------------- */
+/* Seats -------------------------------------------------------------------------------------------------- */
 
-/* Each seat's pass is used by the thread of its number alone, and lies in a line of the cache of its own. */
-typedef struct {
+/* A thread takes a seat of an object when it comes, and gives it back when it holds nothing there and waits
+   for nothing. In the history a seat is a place, and not a person. A seat lies in a line of the cache of its
+   own. */
+typedef struct aqs_seat {
     _Alignas(64) aqs_pass_t pass;
+    _Atomic uint64_t taken; /* by nobody: 0. Else the `mine` of its thread, and 1 more while that is inside */
+    place_t *_Atomic place; /* of the thread that had it last */
+    uint64_t stays;         /* why its thread keeps it, in the units below. Only that thread looks */
 } seat_t;
 
-struct aqs_object {
-    seat_t *seats;
-    uint16_t count;
-    bool trims;
-};
+enum { INSIDE = 1 };
+#define ONE_EXCLUSIVE INT64_C(1)
+#define ONE_SHARED (INT64_C(1) << 32)
+#define ONE_WAIT (INT64_C(1) << 60)
 
-struct aqs_lock {
-    aqs_object_t object;
-};
-struct aqs_rwlock {
-    aqs_object_t object;
-};
-struct aqs_sem {
-    aqs_object_t object;
-};
-struct aqs_latch {
-    aqs_object_t object;
-};
-
-/* Another call has the object. A turn is short, so try again soon, after a longer pause each time. Let others run
-   only if that doesn't help, and then sleep. */
+/* Another call has the object, or a seat. A turn is short, so try again soon, after a longer pause each time.
+   Let others run only if that doesn't help, and then sleep. */
 static void back_off(unsigned *looks) {
     if (++*looks < 30) {
         for (int left = 1 << (*looks < 6 ? *looks : 6); left > 0; left--) relax();
@@ -205,24 +360,138 @@ static void back_off(unsigned *looks) {
         sched_yield();
     } else {
         struct timespec pause = {0, 50000};
-        nanosleep(&pause, NULL);
+        syscall(SYS_nanosleep, &pause, NULL);
     }
 }
 
-static uint8_t trim(aqs_object_t *object, aqs_thread_t me, uint64_t *count) {
+/* An object that is opened at its first call has no seats before. */
+static uint16_t count_of_seats(const aqs_object_t *object) {
+    return __atomic_load_n(&object->count_, __ATOMIC_ACQUIRE);
+}
+
+SHORT memory_t *memory_of(const aqs_object_t *object) {
+    uintptr_t at = (uintptr_t)object;
+    return &self.memories[(at >> 4 ^ at >> 7) % MEMORIES];
+}
+
+/* Takes a seat that nobody has. What its last thread did with its pass is seen then. */
+SHORT bool claims(seat_t *seat) {
+    uint64_t nobody = 0;
+    if (!atomic_compare_exchange_strong_explicit(
+            &seat->taken, &nobody, self.mine | INSIDE, memory_order_acquire, memory_order_relaxed))
+        return false;
+    atomic_store_explicit(&seat->place, self.place, memory_order_relaxed);
+    return true;
+}
+
+/* Whether the calling thread, which is not inside, has the seat. Only the thread itself writes that. */
+SHORT bool is_own(const seat_t *seat) {
+    return atomic_load_explicit(&seat->taken, memory_order_relaxed) == self.mine;
+}
+
+/* The thread comes back to its seat. */
+SHORT void come_back(seat_t *seat) {
+    atomic_store_explicit(&seat->taken, self.mine | INSIDE, memory_order_relaxed);
+}
+
+/* The seat that the calling thread has, or NULL. A thread that holds nothing anywhere has none, and one that
+   remembers a seat here has no other. */
+static seat_t *own_seat(const aqs_object_t *object) {
+    const memory_t *memory = memory_of(object);
+    bool is_known = memory->object == object;
+    bool has_some = self.place && !holds_nothing(self.place);
+    uint32_t count = has_some ? count_of_seats(object) : 0, first = is_known ? memory->seat : 0;
+    for (uint32_t i = first; i < count && (i == first || !is_known); i++) {
+        if (is_own(&object->seats_[i])) return &object->seats_[i];
+    }
+    return NULL;
+}
+
+/* A seat that nobody had: the one of the thread's number, if that is free. Threads that are inside may leave
+   soon. NULL: each seat is kept. */
+static seat_t *free_seat(const aqs_object_t *object) {
+    uint32_t count = count_of_seats(object), first = self.number % count;
+    for (unsigned looks = 0;;) {
+        bool is_kept = true;
+        for (uint32_t i = 0; i < count; i++) {
+            seat_t *seat = &object->seats_[(first + i) % count];
+            uint64_t taken = atomic_load_explicit(&seat->taken, memory_order_relaxed);
+            if (taken == 0 && claims(seat)) return seat;
+            if (taken == 0 || taken & INSIDE) is_kept = false;
+        }
+        if (is_kept) return NULL;
+        back_off(&looks);
+    }
+}
+
+static aqs_status_t open_at_first_call(aqs_object_t *object);
+
+/* The thread doesn't remember a seat here, or another thread has it. */
+static COLD seat_t *come_slowly(aqs_object_t *object, aqs_status_t *status) {
+    *status = AQS_OUT_OF_MEMORY;
+    if (!self.place && !take_number()) return NULL;
+    if (count_of_seats(object) == 0 && (*status = open_at_first_call(object)) != AQS_OK) return NULL;
+    seat_t *seat = own_seat(object);
+    if (seat) come_back(seat);
+    else seat = free_seat(object);
+    *status = seat ? AQS_OK : AQS_TOO_MANY_THREADS;
+    if (!seat) return NULL;
+    atomic_store_explicit(&seat->place, self.place, memory_order_relaxed);
+    *memory_of(object) = (memory_t){object, (uint32_t)(seat - object->seats_)};
+    return seat;
+}
+
+/* The seat of the calling thread, which is inside until it departs: the one that it has, or one that was
+   free. NULL: the status says why it has none.
+
+   All that a thread does with an object lies between this and `depart`. A turn puts its pass back after it
+   has freed the object, when others may own it already and close it. So a close waits until nobody is
+   inside, and who has left touches nothing of the object until its next turn. What the turn did shows others
+   that the thread is inside: it is made by an exchange. */
+SHORT seat_t *come(aqs_object_t *object, aqs_status_t *status) {
+    const memory_t *memory = memory_of(object);
+    seat_t *seat = NULL;
+    if (memory->object == object && memory->seat < count_of_seats(object)) {
+        seat = &object->seats_[memory->seat];
+        if (is_own(seat)) come_back(seat);
+        else if (!claims(seat)) seat = NULL;
+    }
+    if (!seat) seat = come_slowly(object, status);
+    if (seat) tell_before(object);
+    return seat;
+}
+
+/* Leaves, and gives the seat back unless something keeps it. */
+SHORT void depart(aqs_object_t *object, seat_t *seat) {
+    uint64_t taken = seat->stays ? self.mine : 0;
+    tell_after(object);
+    atomic_store_explicit(&seat->taken, taken, memory_order_release);
+}
+
+/* By how much more, or less, keeps the seat. */
+SHORT void keep(seat_t *seat, int64_t more) {
+    if (more == 0) return;
+    uint64_t holds = atomic_load_explicit(&self.place->holds, memory_order_relaxed);
+    seat->stays += (uint64_t)more;
+    atomic_store_explicit(&self.place->holds, holds + (uint64_t)more, memory_order_relaxed);
+}
+
+/* Turns -------------------------------------------------------------------------------------------------- */
+
+static uint8_t trim(seat_t *seat, uint64_t *count) {
     uint8_t kind;
     unsigned looks = 0;
-    while ((kind = aqs_trim_now(&object->seats[me].pass, count)) == AQS_IS_BUSY) back_off(&looks);
+    while ((kind = aqs_trim_now(&seat->pass, count)) == AQS_IS_BUSY) back_off(&looks);
     return kind;
 }
 
 /* Whether the history was full, and was folded. A fold that finds nothing may have come right after another
    thread's. `empty` counts such folds, since the room of an object may also be too small for its threads:
    then they all find nothing. */
-static bool makes_room(aqs_object_t *object, aqs_thread_t me, uint8_t fault, unsigned *empty) {
+static bool makes_room(const aqs_object_t *object, seat_t *seat, uint8_t fault, unsigned *empty) {
     uint64_t count = 0;
-    if (fault != AQS_FAULT_HISTORY_FULL || !object->trims) return false;
-    if (trim(object, me, &count) != AQS_IS_ENTRY) return false;
+    if (fault != AQS_FAULT_HISTORY_FULL || object->keeps_) return false;
+    if (trim(seat, &count) != AQS_IS_ENTRY) return false;
     return count > 0 || ++*empty < 100;
 }
 
@@ -232,44 +501,60 @@ typedef struct {
 } tries_t;
 
 /* Whether a first turn changed nothing and is to be made again: others had the object, or it has room now. */
-static bool is_made_again(aqs_object_t *object, aqs_thread_t me, const aqs_answer_t *answer, tries_t *tries) {
+static bool
+is_made_again(const aqs_object_t *object, seat_t *seat, const aqs_answer_t *answer, tries_t *tries) {
     if (answer->kind == AQS_IS_BUSY) {
         back_off(&tries->looks);
         return true;
     }
-    return answer->kind == AQS_IS_FAULT && makes_room(object, me, answer->fault, &tries->empty);
+    return answer->kind == AQS_IS_FAULT && makes_room(object, seat, answer->fault, &tries->empty);
+}
+
+/* The proved library gets no byte that is neither true nor false. It writes the other fields before it reads
+   them. */
+SHORT void blank(aqs_answer_t *answer) {
+    answer->has_wakes = answer->again = answer->parks = answer->has_until = answer->interruptible = false;
+}
+
+/* Whom a turn names to be woken, or NULL. It is known while the thread is inside: others may close the object
+   afterwards. */
+static place_t *woken_by(const aqs_object_t *object, const aqs_answer_t *answer) {
+    if (!answer->has_wakes) return NULL;
+    return atomic_load_explicit(&object->seats_[answer->wakes].place, memory_order_relaxed);
 }
 
 /* What a caller owes after each turn. */
-static void settle(aqs_thread_t me, const aqs_answer_t *answer) {
-    if (answer->has_wakes) send(&places[answer->wakes], PERMIT);
-    if (answer->again) send(&places[me], INTERRUPT);
+static void settle(place_t *woken, const aqs_answer_t *answer) {
+    if (woken) send(woken, PERMIT);
+    if (answer->again) send(self.place, INTERRUPT);
 }
 
-/* Each turn is made between these two lines, of which only ThreadSanitizer takes note. */
-static inline void
-first_turn(aqs_object_t *object, aqs_thread_t me, const aqs_call_t *call, aqs_answer_t *answer) {
-    __tsan_release(object);
-    aqs_begin(&object->seats[me].pass, call, answer);
-    __tsan_acquire(object);
+/* A wait of a call, until its next turn. Returns how it ended. */
+static uint8_t wait_for_turn(const aqs_object_t *object, const aqs_call_t *call, const aqs_answer_t *answer) {
+    bool is_fair = object->policy_ != AQS_NONFAIR, has_slept = false;
+    if (!answer->parks) return AQS_WOKE_PERMIT;
+    uint8_t woke = park(self.place, answer, is_fair, &has_slept);
+    bool is_lock = object->kind_ == AQS_KIND_LOCK || object->kind_ == AQS_KIND_READ_WRITE;
+    bool is_late = has_slept || is_fair || woke != AQS_WOKE_PERMIT;
+    if (is_lock && call->kind == AQS_CALL_ACQUIRE && !is_late) let_others_go_on();
+    return woke;
 }
 
-static inline void one_step(aqs_object_t *object, aqs_thread_t me, aqs_step_t step, aqs_answer_t *answer) {
-    __tsan_release(object);
-    aqs_step_now(&object->seats[me].pass, step, answer);
-    __tsan_acquire(object);
-}
-
-/* The next turn of a call that waits, after its park. */
-static void next_turn(aqs_object_t *object, aqs_thread_t me, aqs_answer_t *answer) {
-    uint8_t woke = answer->parks ? park(&places[me], answer) : AQS_WOKE_PERMIT;
+/* The call waits: its park, and its next turn. The thread is inside, before and after. */
+static void next_turn(aqs_object_t *object, seat_t *seat, const aqs_call_t *call, aqs_answer_t *answer) {
+    place_t *woken = woken_by(object, answer);
+    keep(seat, ONE_WAIT);
+    depart(object, seat);
+    settle(woken, answer);
+    uint8_t woke = wait_for_turn(object, call, answer);
     unsigned looks = 0;
-    __tsan_release(object);
+    come_back(seat);
+    tell_before(object);
+    keep(seat, -ONE_WAIT);
     for (;; back_off(&looks)) {
-        aqs_go_on(&object->seats[me].pass, woke, answer);
+        aqs_go_on(&seat->pass, woke, answer);
         if (answer->kind != AQS_IS_BUSY) break;
     }
-    __tsan_acquire(object);
 }
 
 /* Answers as statuses ------------------------------------------------------------------------------------ */
@@ -319,94 +604,96 @@ const char *aqs_status_name(aqs_status_t status) {
     return number < sizeof names / sizeof names[0] ? names[number] : "no status";
 }
 
-/* One step of the calling thread, or one call. `owned` says by how many holds of a lock it changes the
+/* One step of the calling thread, or one call. `owned` says by how many holds of the object it changes the
    thread's. Most end in their first turn, and nothing is left to do: that way is short, and the other is
    elsewhere. */
 
-/* Whether a first turn gave what was asked for, and leaves nothing to do. Its entry ends no wait, and asks for
-   no interrupt to be set again. */
-static inline bool is_plain_end(const aqs_answer_t *answer) {
+/* Whether a first turn gave what was asked for, and leaves nothing to do. Its entry ends no wait, and asks
+   for no interrupt to be set again. */
+SHORT bool is_plain_end(const aqs_answer_t *answer) {
     return answer->kind == AQS_IS_ENTRY && answer->word != AQS_WORD_MISSED && answer->word != AQS_WORD_REFUSED
            && !answer->has_wakes;
 }
 
-/* The calling thread's number if it has a seat in the object, and else AQS_THREADS. */
-static inline aqs_thread_t seat_of_self(const aqs_object_t *object) {
-    aqs_thread_t me = self.number < AQS_THREADS ? self.number : take_number();
-    return me < object->count ? me : AQS_THREADS;
-}
-
-static aqs_status_t ended(const aqs_answer_t *answer, int owned) {
+/* The end of a step or a call, by its last answer. The thread is inside, and leaves. */
+static aqs_status_t
+end_turns(aqs_object_t *object, seat_t *seat, const aqs_answer_t *answer, int64_t owned) {
+    place_t *woken = woken_by(object, answer);
     aqs_status_t status = status_of(answer);
-    if (status == AQS_OK) self.holds += (uint64_t)(int64_t)owned;
+    if (status == AQS_OK) keep(seat, owned);
+    depart(object, seat);
+    settle(woken, answer);
     return status;
 }
 
 /* The rest of a step, from its first answer on. */
 static COLD aqs_status_t
-end_step(aqs_object_t *object, aqs_thread_t me, aqs_step_t step, aqs_answer_t *answer, int owned) {
+end_step(aqs_object_t *object, seat_t *seat, aqs_step_t step, aqs_answer_t *answer, int64_t owned) {
     tries_t tries = {0, 0};
-    while (is_made_again(object, me, answer, &tries)) one_step(object, me, step, answer);
-    settle(me, answer);
-    return ended(answer, owned);
+    while (is_made_again(object, seat, answer, &tries)) aqs_step_now(&seat->pass, step, answer);
+    return end_turns(object, seat, answer, owned);
 }
 
 /* The rest of a call, from its first answer on. */
 static COLD aqs_status_t
-end_call(aqs_object_t *object, aqs_thread_t me, const aqs_call_t *call, aqs_answer_t *answer, int owned) {
+end_call(aqs_object_t *object, seat_t *seat, const aqs_call_t *call, aqs_answer_t *answer, int64_t owned) {
     tries_t tries = {0, 0};
-    while (is_made_again(object, me, answer, &tries)) first_turn(object, me, call, answer);
-    settle(me, answer);
-    while (answer->kind == AQS_IS_WAITING) {
-        next_turn(object, me, answer);
-        settle(me, answer);
-    }
-    aqs_status_t status = ended(answer, owned);
+    while (is_made_again(object, seat, answer, &tries)) aqs_begin(&seat->pass, call, answer);
+    while (answer->kind == AQS_IS_WAITING) next_turn(object, seat, call, answer);
+    aqs_status_t status = end_turns(object, seat, answer, owned);
     return status == AQS_WOULD_BLOCK ? AQS_TIMED_OUT : status;
 }
 
-static inline aqs_status_t do_step(aqs_object_t *object, aqs_step_t step, int owned, uint32_t *n) {
-    aqs_thread_t me = seat_of_self(object);
-    if (me == AQS_THREADS) return AQS_TOO_MANY_THREADS;
-    aqs_answer_t answer;
-    one_step(object, me, step, &answer);
+SHORT aqs_status_t do_step(aqs_object_t *object, aqs_step_t step, int64_t owned, uint32_t *n) {
     aqs_status_t status = AQS_OK;
-    if (is_plain_end(&answer)) self.holds += (uint64_t)(int64_t)owned;
-    else status = end_step(object, me, step, &answer, owned);
+    seat_t *seat = come(object, &status);
+    if (!seat) return status;
+    aqs_answer_t answer;
+    blank(&answer);
+    aqs_step_now(&seat->pass, step, &answer);
+    if (is_plain_end(&answer)) {
+        keep(seat, owned);
+        depart(object, seat);
+    } else {
+        status = end_step(object, seat, step, &answer, owned);
+    }
     if (n && status == AQS_OK) *n = answer.n;
     return status;
 }
 
-static inline aqs_status_t do_call(aqs_object_t *object, aqs_call_t call, int owned) {
-    aqs_thread_t me = seat_of_self(object);
-    if (me == AQS_THREADS) return AQS_TOO_MANY_THREADS;
+SHORT aqs_status_t do_call(aqs_object_t *object, aqs_call_t call, int64_t owned) {
+    aqs_status_t status = AQS_OK;
+    seat_t *seat = come(object, &status);
+    if (!seat) return status;
     aqs_answer_t answer;
-    call.interrupted = call.how != AQS_HOW_PLAIN && take(&places[me], INTERRUPT);
-    call.moment = call.how == AQS_HOW_TIMED ? now_in_milliseconds() : 0;
-    first_turn(object, me, &call, &answer);
-    if (!is_plain_end(&answer)) return end_call(object, me, &call, &answer, owned);
-    self.holds += (uint64_t)(int64_t)owned;
+    blank(&answer);
+    call.interrupted = call.how != AQS_HOW_PLAIN && take(self.place, INTERRUPT);
+    call.moment = call.how == AQS_HOW_TIMED ? moment_in_milliseconds() : 0;
+    aqs_begin(&seat->pass, &call, &answer);
+    if (!is_plain_end(&answer)) return end_call(object, seat, &call, &answer, owned);
+    keep(seat, owned);
+    depart(object, seat);
     return AQS_OK;
 }
 
-static inline aqs_status_t acquire(
-    aqs_object_t *object, uint8_t mode, uint32_t n, uint8_t how, uint32_t time, int owned) {
+SHORT aqs_status_t acquire(
+    aqs_object_t *object, uint8_t mode, uint32_t n, uint8_t how, uint32_t time, int64_t owned) {
     aqs_call_t call = {.kind = AQS_CALL_ACQUIRE, .mode = mode, .n = n, .how = how, .time = time};
     return do_call(object, call, owned);
 }
 
-static inline aqs_status_t await(aqs_object_t *object, uint8_t condition, uint8_t how, uint32_t time) {
+SHORT aqs_status_t await(aqs_object_t *object, uint8_t condition, uint8_t how, uint32_t time) {
     aqs_call_t call = {.kind = AQS_CALL_AWAIT, .mode = condition, .how = how, .time = time};
     return do_call(object, call, 0);
 }
 
-static inline aqs_status_t step(aqs_object_t *object, uint8_t code, uint8_t mode, uint32_t n, int owned) {
+SHORT aqs_status_t step(aqs_object_t *object, uint8_t code, uint8_t mode, uint32_t n, int64_t owned) {
     return do_step(object, (aqs_step_t){.n = n, .code = code, .mode = mode}, owned, NULL);
 }
 
 /* Opening and closing ------------------------------------------------------------------------------------ */
 
-enum { THREADS = 64, ENTRIES = 8192 };
+enum { THREADS = AQS_THREADS, ENTRIES = 8192 };
 
 static const uint8_t core_policies[] = {AQS_CORE_NONFAIR, AQS_CORE_FAIR, AQS_CORE_STRICT};
 
@@ -426,46 +713,81 @@ static aqs_header_t header_of(uint8_t kind, int32_t number, const aqs_options_t 
 }
 
 static aqs_status_t open_seats(aqs_object_t *object, aqs_header_t header) {
-    size_t size = header.seats * sizeof(seat_t);
     aqs_pass_t *passes = calloc(header.seats, sizeof(aqs_pass_t));
-    object->seats = aligned_alloc(64, size);
-    object->count = header.seats;
+    seat_t *seats = aligned_alloc(64, header.seats * sizeof(seat_t));
     uint8_t answer = AQS_FAULT_OUT_OF_MEMORY;
-    if (passes && object->seats) answer = aqs_open(header, passes, header.seats);
-    for (size_t i = 0; answer == 0 && i < header.seats; i++) object->seats[i].pass = passes[i];
-    if (answer != 0) free(object->seats);
+    if (passes && seats) answer = aqs_open(header, passes, header.seats);
+    for (size_t i = 0; answer == 0 && i < header.seats; i++) {
+        memset(&seats[i], 0, sizeof seats[i]);
+        seats[i].pass = passes[i];
+    }
     free(passes);
-    return answer == 0 ? AQS_OK : answer == AQS_FAULT_OUT_OF_MEMORY ? AQS_OUT_OF_MEMORY : AQS_OUT_OF_RANGE;
+    if (answer != 0) {
+        free(seats);
+        return answer == AQS_FAULT_OUT_OF_MEMORY ? AQS_OUT_OF_MEMORY : AQS_OUT_OF_RANGE;
+    }
+    object->conditions_ = header.conditions;
+    object->seats_ = seats;
+    __atomic_store_n(&object->count_, header.seats, __ATOMIC_RELEASE);
+    return AQS_OK;
 }
 
-static aqs_status_t open_object(
+/* Opens an object in memory that nobody uses. */
+static aqs_status_t init_object(
     aqs_object_t *object, uint8_t kind, int32_t number, const aqs_options_t *options) {
     static const aqs_options_t defaults;
+    pthread_once(&once, prepare);
     if (!options) options = &defaults;
-    object->trims = options->when_full == AQS_TRIM;
+    *object = (aqs_object_t){.number_ = number, .kind_ = kind, .policy_ = (uint8_t)options->policy};
+    object->keeps_ = options->when_full == AQS_REFUSE;
     return open_seats(object, header_of(kind, number, options));
 }
 
-static void close_object(aqs_object_t *object) {
-    for (size_t i = 0; i < object->count; i++) aqs_drop(&object->seats[i].pass);
-    free(object->seats);
+/* Opens a static object, unless another thread just did. It has all conditions that there may be. */
+static aqs_status_t open_at_first_call(aqs_object_t *object) {
+    bool has_conditions = object->kind_ == AQS_KIND_LOCK || object->kind_ == AQS_KIND_READ_WRITE;
+    aqs_options_t options = {.conditions = has_conditions ? AQS_CONDITIONS : 0};
+    aqs_status_t status = AQS_OK;
+    pthread_mutex_lock(&numbering);
+    if (count_of_seats(object) == 0)
+        status = open_seats(object, header_of(object->kind_, object->number_, &options));
+    pthread_mutex_unlock(&numbering);
+    return status;
 }
 
-/* Opens an object of a type in memory of its own, and closes it. */
-#define OPEN(place, kind, number, options)                                                   \
-    do {                                                                                     \
-        if (!(*(place) = malloc(sizeof **(place)))) return AQS_OUT_OF_MEMORY;                \
-        aqs_status_t status_ = open_object(&(*(place))->object, (kind), (number), (options)); \
-        if (status_ != AQS_OK) {                                                             \
-            free(*(place));                                                                  \
-            *(place) = NULL;                                                                 \
-        }                                                                                    \
-        return status_;                                                                      \
+/* Afterwards the object is as it was before it was opened. */
+static void close_object(aqs_object_t *object) {
+    for (size_t i = 0; i < object->count_; i++) {
+        unsigned looks = 0;
+        seat_t *seat = &object->seats_[i];
+        while (atomic_load_explicit(&seat->taken, memory_order_acquire) & INSIDE) back_off(&looks);
+        aqs_drop(&seat->pass);
+    }
+    tell_after(object);
+    free(object->seats_);
+    object->seats_ = NULL;
+    object->count_ = object->bound_ = 0;
+}
+
+/* Opens an object of a type in memory of its own, and closes one. */
+#define OPEN(place, kind, number, options)                                                          \
+    do {                                                                                            \
+        if (!(*(place) = malloc(sizeof **(place)))) return AQS_OUT_OF_MEMORY;                       \
+        aqs_status_t status_ = init_object(&(*(place))->object_, (kind), (number), (options));       \
+        if (status_ != AQS_OK) {                                                                    \
+            free(*(place));                                                                         \
+            *(place) = NULL;                                                                        \
+        } else {                                                                                    \
+            (*(place))->object_.is_ours_ = true;                                                    \
+        }                                                                                           \
+        return status_;                                                                             \
     } while (0)
-#define CLOSE(it)                            \
-    do {                                     \
-        if (it) close_object(&(it)->object); \
-        free(it);                            \
+#define CLOSE(it)                               \
+    do {                                        \
+        if (!(it)) return;                      \
+        bool is_ours_ = (it)->object_.is_ours_; \
+        close_object(&(it)->object_);           \
+        if (is_ours_) free(it);                 \
     } while (0)
 
 /* The calls of aqs.h ------------------------------------------------------------------------------------- */
@@ -476,105 +798,158 @@ enum { PLAIN = AQS_HOW_PLAIN, INTERRUPTIBLE = AQS_HOW_INTERRUPTIBLE, TIMED = AQS
 aqs_status_t aqs_lock_open(aqs_lock_t **lock, const aqs_options_t *options) {
     OPEN(lock, AQS_KIND_LOCK, 0, options);
 }
+aqs_status_t aqs_lock_init(aqs_lock_t *lock, const aqs_options_t *options) {
+    return init_object(&lock->object_, AQS_KIND_LOCK, 0, options);
+}
 void aqs_lock_close(aqs_lock_t *lock) { CLOSE(lock); }
-aqs_status_t aqs_lock_lock(aqs_lock_t *lock) { return acquire(&lock->object, X, 1, PLAIN, 0, 1); }
+aqs_status_t aqs_lock_lock(aqs_lock_t *lock) { return acquire(&lock->object_, X, 1, PLAIN, 0, 1); }
 aqs_status_t aqs_lock_lock_interruptibly(aqs_lock_t *lock) {
-    return acquire(&lock->object, X, 1, INTERRUPTIBLE, 0, 1);
+    return acquire(&lock->object_, X, 1, INTERRUPTIBLE, 0, 1);
 }
 aqs_status_t aqs_lock_timedlock(aqs_lock_t *lock, uint32_t ms) {
-    return acquire(&lock->object, X, 1, TIMED, ms, 1);
+    return acquire(&lock->object_, X, 1, TIMED, ms, 1);
 }
-aqs_status_t aqs_lock_trylock(aqs_lock_t *lock) { return step(&lock->object, AQS_STEP_TRY, X, 1, 1); }
-aqs_status_t aqs_lock_unlock(aqs_lock_t *lock) { return step(&lock->object, AQS_STEP_GIVE, X, 1, -1); }
+aqs_status_t aqs_lock_trylock(aqs_lock_t *lock) { return step(&lock->object_, AQS_STEP_TRY, X, 1, 1); }
+aqs_status_t aqs_lock_unlock(aqs_lock_t *lock) { return step(&lock->object_, AQS_STEP_GIVE, X, 1, -1); }
 aqs_status_t aqs_lock_wait(aqs_lock_t *lock, uint8_t condition) {
-    return await(&lock->object, condition, PLAIN, 0);
+    return await(&lock->object_, condition, PLAIN, 0);
 }
 aqs_status_t aqs_lock_wait_interruptibly(aqs_lock_t *lock, uint8_t condition) {
-    return await(&lock->object, condition, INTERRUPTIBLE, 0);
+    return await(&lock->object_, condition, INTERRUPTIBLE, 0);
 }
 aqs_status_t aqs_lock_timedwait(aqs_lock_t *lock, uint8_t condition, uint32_t ms) {
-    return await(&lock->object, condition, TIMED, ms);
+    return await(&lock->object_, condition, TIMED, ms);
 }
 aqs_status_t aqs_lock_signal(aqs_lock_t *lock, uint8_t condition) {
-    return step(&lock->object, AQS_STEP_SIGNAL, condition, 0, 0);
+    return step(&lock->object_, AQS_STEP_SIGNAL, condition, 0, 0);
 }
 aqs_status_t aqs_lock_signal_all(aqs_lock_t *lock, uint8_t condition) {
-    return step(&lock->object, AQS_STEP_SIGNAL_ALL, condition, 0, 0);
+    return step(&lock->object_, AQS_STEP_SIGNAL_ALL, condition, 0, 0);
 }
 
 aqs_status_t aqs_rwlock_open(aqs_rwlock_t **lock, const aqs_options_t *options) {
     OPEN(lock, AQS_KIND_READ_WRITE, 0, options);
 }
+aqs_status_t aqs_rwlock_init(aqs_rwlock_t *lock, const aqs_options_t *options) {
+    return init_object(&lock->object_, AQS_KIND_READ_WRITE, 0, options);
+}
 void aqs_rwlock_close(aqs_rwlock_t *lock) { CLOSE(lock); }
-aqs_status_t aqs_rwlock_rdlock(aqs_rwlock_t *lock) { return acquire(&lock->object, S, 1, PLAIN, 0, 1); }
+aqs_status_t aqs_rwlock_rdlock(aqs_rwlock_t *lock) {
+    return acquire(&lock->object_, S, 1, PLAIN, 0, ONE_SHARED);
+}
 aqs_status_t aqs_rwlock_rdlock_interruptibly(aqs_rwlock_t *lock) {
-    return acquire(&lock->object, S, 1, INTERRUPTIBLE, 0, 1);
+    return acquire(&lock->object_, S, 1, INTERRUPTIBLE, 0, ONE_SHARED);
 }
 aqs_status_t aqs_rwlock_timedrdlock(aqs_rwlock_t *lock, uint32_t ms) {
-    return acquire(&lock->object, S, 1, TIMED, ms, 1);
+    return acquire(&lock->object_, S, 1, TIMED, ms, ONE_SHARED);
 }
-aqs_status_t aqs_rwlock_tryrdlock(aqs_rwlock_t *lock) { return step(&lock->object, AQS_STEP_TRY, S, 1, 1); }
-aqs_status_t aqs_rwlock_rdunlock(aqs_rwlock_t *lock) { return step(&lock->object, AQS_STEP_GIVE, S, 1, -1); }
-aqs_status_t aqs_rwlock_wrlock(aqs_rwlock_t *lock) { return acquire(&lock->object, X, 1, PLAIN, 0, 1); }
+aqs_status_t aqs_rwlock_tryrdlock(aqs_rwlock_t *lock) {
+    return step(&lock->object_, AQS_STEP_TRY, S, 1, ONE_SHARED);
+}
+aqs_status_t aqs_rwlock_rdunlock(aqs_rwlock_t *lock) {
+    return step(&lock->object_, AQS_STEP_GIVE, S, 1, -ONE_SHARED);
+}
+aqs_status_t aqs_rwlock_wrlock(aqs_rwlock_t *lock) { return acquire(&lock->object_, X, 1, PLAIN, 0, 1); }
 aqs_status_t aqs_rwlock_wrlock_interruptibly(aqs_rwlock_t *lock) {
-    return acquire(&lock->object, X, 1, INTERRUPTIBLE, 0, 1);
+    return acquire(&lock->object_, X, 1, INTERRUPTIBLE, 0, 1);
 }
 aqs_status_t aqs_rwlock_timedwrlock(aqs_rwlock_t *lock, uint32_t ms) {
-    return acquire(&lock->object, X, 1, TIMED, ms, 1);
+    return acquire(&lock->object_, X, 1, TIMED, ms, 1);
 }
-aqs_status_t aqs_rwlock_trywrlock(aqs_rwlock_t *lock) { return step(&lock->object, AQS_STEP_TRY, X, 1, 1); }
-aqs_status_t aqs_rwlock_wrunlock(aqs_rwlock_t *lock) { return step(&lock->object, AQS_STEP_GIVE, X, 1, -1); }
+aqs_status_t aqs_rwlock_trywrlock(aqs_rwlock_t *lock) { return step(&lock->object_, AQS_STEP_TRY, X, 1, 1); }
+aqs_status_t aqs_rwlock_wrunlock(aqs_rwlock_t *lock) { return step(&lock->object_, AQS_STEP_GIVE, X, 1, -1); }
 aqs_status_t aqs_rwlock_wait(aqs_rwlock_t *lock, uint8_t condition) {
-    return await(&lock->object, condition, PLAIN, 0);
+    return await(&lock->object_, condition, PLAIN, 0);
 }
 aqs_status_t aqs_rwlock_wait_interruptibly(aqs_rwlock_t *lock, uint8_t condition) {
-    return await(&lock->object, condition, INTERRUPTIBLE, 0);
+    return await(&lock->object_, condition, INTERRUPTIBLE, 0);
 }
 aqs_status_t aqs_rwlock_timedwait(aqs_rwlock_t *lock, uint8_t condition, uint32_t ms) {
-    return await(&lock->object, condition, TIMED, ms);
+    return await(&lock->object_, condition, TIMED, ms);
 }
 aqs_status_t aqs_rwlock_signal(aqs_rwlock_t *lock, uint8_t condition) {
-    return step(&lock->object, AQS_STEP_SIGNAL, condition, 0, 0);
+    return step(&lock->object_, AQS_STEP_SIGNAL, condition, 0, 0);
 }
 aqs_status_t aqs_rwlock_signal_all(aqs_rwlock_t *lock, uint8_t condition) {
-    return step(&lock->object, AQS_STEP_SIGNAL_ALL, condition, 0, 0);
+    return step(&lock->object_, AQS_STEP_SIGNAL_ALL, condition, 0, 0);
 }
 
 aqs_status_t aqs_sem_open(aqs_sem_t **semaphore, int32_t permits, const aqs_options_t *options) {
     OPEN(semaphore, AQS_KIND_SEMAPHORE, permits, options);
 }
+aqs_status_t aqs_sem_init(aqs_sem_t *semaphore, int32_t permits, const aqs_options_t *options) {
+    return init_object(&semaphore->object_, AQS_KIND_SEMAPHORE, permits, options);
+}
 void aqs_sem_close(aqs_sem_t *semaphore) { CLOSE(semaphore); }
 aqs_status_t aqs_sem_acquire(aqs_sem_t *semaphore, uint32_t n) {
-    return acquire(&semaphore->object, S, n, PLAIN, 0, 0);
+    return acquire(&semaphore->object_, S, n, PLAIN, 0, 0);
 }
 aqs_status_t aqs_sem_acquire_interruptibly(aqs_sem_t *semaphore, uint32_t n) {
-    return acquire(&semaphore->object, S, n, INTERRUPTIBLE, 0, 0);
+    return acquire(&semaphore->object_, S, n, INTERRUPTIBLE, 0, 0);
 }
 aqs_status_t aqs_sem_timedacquire(aqs_sem_t *semaphore, uint32_t n, uint32_t ms) {
-    return acquire(&semaphore->object, S, n, TIMED, ms, 0);
+    return acquire(&semaphore->object_, S, n, TIMED, ms, 0);
 }
 aqs_status_t aqs_sem_tryacquire(aqs_sem_t *semaphore, uint32_t n) {
-    return step(&semaphore->object, AQS_STEP_TRY, S, n, 0);
+    return step(&semaphore->object_, AQS_STEP_TRY, S, n, 0);
 }
 aqs_status_t aqs_sem_release(aqs_sem_t *semaphore, uint32_t n) {
-    return step(&semaphore->object, AQS_STEP_GIVE, S, n, 0);
+    return step(&semaphore->object_, AQS_STEP_GIVE, S, n, 0);
 }
 aqs_status_t aqs_sem_drain(aqs_sem_t *semaphore, uint32_t *n) {
-    return do_step(&semaphore->object, (aqs_step_t){.code = AQS_STEP_DRAIN}, 0, n);
+    return do_step(&semaphore->object_, (aqs_step_t){.code = AQS_STEP_DRAIN}, 0, n);
 }
 
+/* The number of a latch's header: -1, which none has, if the count is too great. */
+static int32_t number_of(uint32_t count) { return count <= INT32_MAX ? (int32_t)count : -1; }
+
 aqs_status_t aqs_latch_open(aqs_latch_t **latch, uint32_t count, const aqs_options_t *options) {
-    OPEN(latch, AQS_KIND_LATCH, count <= INT32_MAX ? (int32_t)count : -1, options);
+    OPEN(latch, AQS_KIND_LATCH, number_of(count), options);
+}
+aqs_status_t aqs_latch_init(aqs_latch_t *latch, uint32_t count, const aqs_options_t *options) {
+    return init_object(&latch->object_, AQS_KIND_LATCH, number_of(count), options);
 }
 void aqs_latch_close(aqs_latch_t *latch) { CLOSE(latch); }
-aqs_status_t aqs_latch_count_down(aqs_latch_t *latch) { return step(&latch->object, AQS_STEP_GIVE, S, 1, 0); }
-aqs_status_t aqs_latch_await(aqs_latch_t *latch) { return acquire(&latch->object, S, 1, PLAIN, 0, 0); }
+aqs_status_t aqs_latch_count_down(aqs_latch_t *latch) { return step(&latch->object_, AQS_STEP_GIVE, S, 1, 0); }
+aqs_status_t aqs_latch_await(aqs_latch_t *latch) { return acquire(&latch->object_, S, 1, PLAIN, 0, 0); }
 aqs_status_t aqs_latch_await_interruptibly(aqs_latch_t *latch) {
-    return acquire(&latch->object, S, 1, INTERRUPTIBLE, 0, 0);
+    return acquire(&latch->object_, S, 1, INTERRUPTIBLE, 0, 0);
 }
 aqs_status_t aqs_latch_timedawait(aqs_latch_t *latch, uint32_t ms) {
-    return acquire(&latch->object, S, 1, TIMED, ms, 0);
+    return acquire(&latch->object_, S, 1, TIMED, ms, 0);
 }
+
+/* Without statuses --------------------------------------------------------------------------------------- */
+
+COLD void aqs_or_abort(aqs_status_t status, const char *call) {
+    if (status == AQS_OK) return;
+    fprintf(stderr, "%s: %s\n", call, aqs_status_name(status));
+    abort();
+}
+
+/* A call, with what it takes, and with what it is given. */
+#define OR_ABORT(call, takes, given)                     \
+    void call##_or_abort takes {                         \
+        aqs_status_t status_ = call given;               \
+        if (status_ != AQS_OK) aqs_or_abort(status_, #call); \
+    }
+
+OR_ABORT(aqs_lock_lock, (aqs_lock_t *lock), (lock))
+OR_ABORT(aqs_lock_unlock, (aqs_lock_t *lock), (lock))
+OR_ABORT(aqs_lock_wait, (aqs_lock_t *lock, uint8_t condition), (lock, condition))
+OR_ABORT(aqs_lock_signal, (aqs_lock_t *lock, uint8_t condition), (lock, condition))
+OR_ABORT(aqs_lock_signal_all, (aqs_lock_t *lock, uint8_t condition), (lock, condition))
+OR_ABORT(aqs_rwlock_rdlock, (aqs_rwlock_t *lock), (lock))
+OR_ABORT(aqs_rwlock_rdunlock, (aqs_rwlock_t *lock), (lock))
+OR_ABORT(aqs_rwlock_wrlock, (aqs_rwlock_t *lock), (lock))
+OR_ABORT(aqs_rwlock_wrunlock, (aqs_rwlock_t *lock), (lock))
+OR_ABORT(aqs_rwlock_wait, (aqs_rwlock_t *lock, uint8_t condition), (lock, condition))
+OR_ABORT(aqs_rwlock_signal, (aqs_rwlock_t *lock, uint8_t condition), (lock, condition))
+OR_ABORT(aqs_rwlock_signal_all, (aqs_rwlock_t *lock, uint8_t condition), (lock, condition))
+OR_ABORT(aqs_sem_acquire, (aqs_sem_t *semaphore, uint32_t n), (semaphore, n))
+OR_ABORT(aqs_sem_release, (aqs_sem_t *semaphore, uint32_t n), (semaphore, n))
+OR_ABORT(aqs_latch_count_down, (aqs_latch_t *latch), (latch))
+OR_ABORT(aqs_latch_await, (aqs_latch_t *latch), (latch))
 
 /* Looks -------------------------------------------------------------------------------------------------- */
 
@@ -587,43 +962,67 @@ static aqs_status_t status_of_kind(uint8_t kind) {
 }
 
 aqs_status_t aqs_sem_getvalue(aqs_sem_t *semaphore, int64_t *permits) {
-    aqs_object_t *object = &semaphore->object;
-    aqs_thread_t me = seat_of_self(object);
-    if (me == AQS_THREADS) return AQS_TOO_MANY_THREADS;
+    aqs_object_t *object = &semaphore->object_;
+    aqs_status_t status = AQS_OK;
+    seat_t *seat = come(object, &status);
+    if (!seat) return status;
     uint8_t kind;
     unsigned looks = 0;
-    while ((kind = aqs_available_now(&object->seats[me].pass, permits)) == AQS_IS_BUSY) back_off(&looks);
+    while ((kind = aqs_available_now(&seat->pass, permits)) == AQS_IS_BUSY) back_off(&looks);
+    depart(object, seat);
     return status_of_kind(kind);
 }
 
 aqs_status_t aqs_latch_getcount(aqs_latch_t *latch, uint32_t *count) {
-    aqs_object_t *object = &latch->object;
-    aqs_thread_t me = seat_of_self(object);
-    if (me == AQS_THREADS) return AQS_TOO_MANY_THREADS;
+    aqs_object_t *object = &latch->object_;
+    aqs_status_t status = AQS_OK;
+    seat_t *seat = come(object, &status);
+    if (!seat) return status;
     uint8_t kind;
     unsigned looks = 0;
-    while ((kind = aqs_count_now(&object->seats[me].pass, count)) == AQS_IS_BUSY) back_off(&looks);
+    while ((kind = aqs_count_now(&seat->pass, count)) == AQS_IS_BUSY) back_off(&looks);
+    depart(object, seat);
     return status_of_kind(kind);
 }
 
+/* Why the calling thread keeps its seat: its holds. They are counted here, by the answers of the proved
+   library. */
+static uint64_t stays_of_self(const aqs_object_t *object) {
+    const seat_t *seat = own_seat(object);
+    return seat ? seat->stays : 0;
+}
+
+uint32_t aqs_lock_holds(aqs_lock_t *lock) { return (uint32_t)stays_of_self(&lock->object_); }
+aqs_bool_t aqs_lock_is_mine(aqs_lock_t *lock) { return aqs_lock_holds(lock) > 0; }
+uint32_t aqs_rwlock_write_holds(aqs_rwlock_t *lock) { return (uint32_t)stays_of_self(&lock->object_); }
+uint32_t aqs_rwlock_read_holds(aqs_rwlock_t *lock) {
+    return (uint32_t)(stays_of_self(&lock->object_) % ONE_WAIT / ONE_SHARED);
+}
+aqs_bool_t aqs_rwlock_is_mine(aqs_rwlock_t *lock) { return aqs_rwlock_write_holds(lock) > 0; }
+
+aqs_policy_t aqs_object_policy(const aqs_object_t *object) { return (aqs_policy_t)object->policy_; }
+
 /* Histories ---------------------------------------------------------------------------------------------- */
 
-aqs_object_t *aqs_lock_object(aqs_lock_t *lock) { return &lock->object; }
-aqs_object_t *aqs_rwlock_object(aqs_rwlock_t *lock) { return &lock->object; }
-aqs_object_t *aqs_sem_object(aqs_sem_t *semaphore) { return &semaphore->object; }
-aqs_object_t *aqs_latch_object(aqs_latch_t *latch) { return &latch->object; }
+aqs_object_t *aqs_lock_object(aqs_lock_t *lock) { return &lock->object_; }
+aqs_object_t *aqs_rwlock_object(aqs_rwlock_t *lock) { return &lock->object_; }
+aqs_object_t *aqs_sem_object(aqs_sem_t *semaphore) { return &semaphore->object_; }
+aqs_object_t *aqs_latch_object(aqs_latch_t *latch) { return &latch->object_; }
 
 aqs_status_t aqs_history_text(aqs_object_t *object, char *buffer, size_t size, size_t *length) {
-    aqs_thread_t me = aqs_thread_self();
-    if (me >= object->count) return AQS_TOO_MANY_THREADS;
-    uint8_t nothing[1], kind;
+    aqs_status_t status = AQS_OK;
+    seat_t *seat = come(object, &status);
+    if (!seat) return status;
+    uint8_t nothing[1] = {0}, kind;
     uint8_t *out = size ? (uint8_t *)buffer : nothing;
     uint64_t long_ = 0;
     unsigned looks = 0;
-    while ((kind = aqs_text_now(&object->seats[me].pass, out, size, &long_)) == AQS_IS_BUSY) back_off(&looks);
+    while ((kind = aqs_text_now(&seat->pass, out, size, &long_)) == AQS_IS_BUSY) back_off(&looks);
+    depart(object, seat);
+    status = status_of_kind(kind);
+    if (status != AQS_OK) return status;
     *length = (size_t)long_;
-    aqs_status_t status = status_of_kind(kind);
-    return status == AQS_OK && long_ > size ? AQS_NO_SPACE : status;
+    return long_ > size ? AQS_NO_SPACE : AQS_OK;
 }
 
 aqs_status_t aqs_history_write(aqs_object_t *object, FILE *file) {
@@ -640,10 +1039,12 @@ aqs_status_t aqs_history_write(aqs_object_t *object, FILE *file) {
 }
 
 aqs_status_t aqs_history_trim(aqs_object_t *object, uint64_t *count) {
-    aqs_thread_t me = aqs_thread_self();
-    if (me >= object->count) return AQS_TOO_MANY_THREADS;
+    aqs_status_t status = AQS_OK;
+    seat_t *seat = come(object, &status);
+    if (!seat) return status;
     uint64_t folded = 0;
-    uint8_t kind = trim(object, me, &folded);
+    uint8_t kind = trim(seat, &folded);
+    depart(object, seat);
     if (count && kind == AQS_IS_ENTRY) *count = folded;
     return kind == AQS_IS_FAULT ? AQS_HISTORY_FULL : status_of_kind(kind);
 }

@@ -1,36 +1,87 @@
-// aqs.hpp: the synchronisers of aqs.h for C++17. A header alone; link with aqs.
+// aqs.hpp: the synchronisers of aqs.h for C++11 and later. A header alone; link with aqs.
 //
 //   aqs::mutex mutex;                        // reentrant; std::lock_guard and std::unique_lock take it
 //   aqs::condition not_empty = mutex.condition();
 //   { std::unique_lock guard(mutex); not_empty.wait(guard, [&] { return !queue.empty(); }); }
 //
 //   aqs::shared_mutex table_mutex;           // std::shared_lock too
+//   aqs::plain_mutex plain;                  // not reentrant
 //   aqs::semaphore permits(3);
 //   aqs::latch ready(4);
+//   aqs::barrier all_came(4);
+//   aqs::condition_variable changed;         // of any lock of these, bound to it while threads wait
+//
+// Locks, semaphores and latches without options may be static: they open at their first call, by constant
+// initialisation. One in use can't be moved, and so has no move.
 //
 // What can't be done throws aqs::error, which has the status. Timeouts, interrupts and tries return false.
+// With AQS_NO_EXCEPTIONS, or if the compiler makes no exceptions, what can't be done ends the program.
+//
+// A time may be of any length: one that is longer than a call of aqs.h takes is waited for in pieces.
 #ifndef AQS_HPP
 #define AQS_HPP
 
 #include "aqs.h"
 
 #include <chrono>
+#include <cmath>
+#include <cstddef>
 #include <cstdint>
 #include <mutex>
-#include <stdexcept>
+#include <ratio>
 #include <string>
-#include <utility>
+#include <system_error>
+
+#if !defined(AQS_NO_EXCEPTIONS) && defined(__GNUC__) && !defined(__EXCEPTIONS)
+#define AQS_NO_EXCEPTIONS
+#endif
 
 namespace aqs {
 
-// A call that couldn't be made. The object is as it was.
-class error : public std::runtime_error {
-public:
-    explicit error(aqs_status_t status) : std::runtime_error(aqs_status_name(status)), status_(status) {}
-    aqs_status_t status() const noexcept { return status_; }
+class condition_variable;
 
-private:
-    aqs_status_t status_;
+namespace detail {
+
+class status_category : public std::error_category {
+public:
+    const char *name() const noexcept override { return "aqs"; }
+    std::string message(int status) const override {
+        return aqs_status_name(static_cast<aqs_status_t>(status));
+    }
+
+    std::error_condition default_error_condition(int status) const noexcept override {
+        switch (status) {
+            case AQS_TIMED_OUT: return std::errc::timed_out;
+            case AQS_INTERRUPTED: return std::errc::interrupted;
+            case AQS_WOULD_BLOCK: return std::errc::resource_unavailable_try_again;
+            case AQS_NOT_OWNER: return std::errc::operation_not_permitted;
+            case AQS_TOO_MANY_HOLDS: return std::errc::resource_unavailable_try_again;
+            case AQS_TOO_MANY_PERMITS: return std::errc::value_too_large;
+            case AQS_HOLDS_READ: return std::errc::resource_deadlock_would_occur;
+            case AQS_NO_SUCH_CONDITION: return std::errc::invalid_argument;
+            case AQS_BAD_AMOUNT: return std::errc::invalid_argument;
+            case AQS_OUT_OF_MEMORY: return std::errc::not_enough_memory;
+            case AQS_OUT_OF_RANGE: return std::errc::invalid_argument;
+            case AQS_TOO_MANY_THREADS: return std::errc::resource_unavailable_try_again;
+            case AQS_IO_ERROR: return std::errc::io_error;
+            default: return std::error_condition(status, *this);
+        }
+    }
+};
+
+}  // namespace detail
+
+// The statuses as codes of errors. They compare with those of std::errc that mean the same.
+inline const std::error_category &category() noexcept {
+    static const detail::status_category the_category;
+    return the_category;
+}
+
+// A call that couldn't be made. The object is as it was.
+class error : public std::system_error {
+public:
+    explicit error(aqs_status_t status) : std::system_error(std::error_code(status, category())) {}
+    aqs_status_t status() const noexcept { return static_cast<aqs_status_t>(code().value()); }
 };
 
 // How an object is opened. What isn't set has its default (aqs.h).
@@ -47,7 +98,11 @@ struct options : aqs_options_t {
 namespace detail {
 
 inline void check(aqs_status_t status) {
+#ifdef AQS_NO_EXCEPTIONS
+    aqs_or_abort(status, "aqs.hpp");
+#else
     if (status != AQS_OK) throw error(status);
+#endif
 }
 
 // Whether it has what it asked for; false where it may end without.
@@ -57,16 +112,36 @@ inline bool check_taken(aqs_status_t status) {
     return true;
 }
 
-// A time as milliseconds, rounded up: from 0, up to some 49 days.
-template <class Rep, class Period>
-std::uint32_t milliseconds(const std::chrono::duration<Rep, Period> &time) {
-    auto whole = std::chrono::ceil<std::chrono::milliseconds>(time).count();
-    return whole <= 0 ? 0 : whole > UINT32_MAX ? UINT32_MAX : static_cast<std::uint32_t>(whole);
+// Times in milliseconds. No duration is too long for this type.
+typedef std::chrono::duration<long double, std::milli> milliseconds;
+
+// What one call of aqs.h may wait of a time: rounded up, from 0 to some 49 days.
+inline std::uint32_t piece_of(milliseconds time) {
+    if (!(time.count() > 0)) return 0;
+    return time.count() < UINT32_MAX ? static_cast<std::uint32_t>(std::ceil(time.count())) : UINT32_MAX;
 }
 
-template <class Clock, class Duration>
-std::uint32_t milliseconds_until(const std::chrono::time_point<Clock, Duration> &moment) {
-    return milliseconds(moment - Clock::now());
+// Makes a call with a time, and again with what is left of it.
+template <class Call>
+aqs_status_t for_time(milliseconds time, Call call) {
+    for (;;) {
+        const std::uint32_t piece = piece_of(time);
+        const aqs_status_t status = call(piece);
+        time -= milliseconds(piece);
+        if (status != AQS_TIMED_OUT || !(time.count() > 0)) return status;
+    }
+}
+
+// Makes a call with the time that a moment is away, and again until the clock shows the moment.
+template <class Clock, class Duration, class Call>
+aqs_status_t until_moment(const std::chrono::time_point<Clock, Duration> &moment, Call call) {
+    for (;;) {
+        const auto now = Clock::now();
+        const bool is_over = !(now < moment);
+        const milliseconds awaited = moment.time_since_epoch(), shown = now.time_since_epoch();
+        const aqs_status_t status = call(is_over ? 0 : piece_of(awaited - shown));
+        if (status != AQS_TIMED_OUT || !(Clock::now() < moment)) return status;
+    }
 }
 
 // The text of an object's history since its last trim.
@@ -90,7 +165,7 @@ inline std::uint64_t trim(aqs_object_t *object) {
 
 }  // namespace detail
 
-// A condition of a lock or of the write side of a read-write lock. It lasts as long as that.
+// A condition of a lock or of the write side of a read-write lock, by its number. It lasts as long as that.
 template <class Lock>
 class basic_condition {
 public:
@@ -107,15 +182,31 @@ public:
     // False if the time was up, or the thread was interrupted. It owns the lock again.
     template <class Rep, class Period>
     bool wait_for(std::unique_lock<Lock> &guard, const std::chrono::duration<Rep, Period> &time) {
-        return owned(guard).timed_wait(number_, detail::milliseconds(time));
+        return owned(guard).timed_wait(number_, time);
     }
 
+    template <class Clock, class Duration>
+    bool wait_until(std::unique_lock<Lock> &guard, const std::chrono::time_point<Clock, Duration> &moment) {
+        return owned(guard).timed_wait_until(number_, moment);
+    }
+
+    // What the predicate says, at the end of the time at the latest.
     template <class Rep, class Period, class Predicate>
     bool wait_for(
         std::unique_lock<Lock> &guard, const std::chrono::duration<Rep, Period> &time, Predicate holds) {
-        auto moment = std::chrono::steady_clock::now() + time;
+        const auto begin = std::chrono::steady_clock::now();
         while (!holds()) {
-            if (!owned(guard).timed_wait(number_, detail::milliseconds_until(moment))) return holds();
+            const detail::milliseconds past = std::chrono::steady_clock::now() - begin;
+            if (!owned(guard).timed_wait(number_, detail::milliseconds(time) - past)) return holds();
+        }
+        return true;
+    }
+
+    template <class Clock, class Duration, class Predicate>
+    bool wait_until(std::unique_lock<Lock> &guard, const std::chrono::time_point<Clock, Duration> &moment,
+                    Predicate holds) {
+        while (!holds()) {
+            if (!wait_until(guard, moment)) return holds();
         }
         return true;
     }
@@ -130,7 +221,7 @@ public:
 
 private:
     Lock &owned(std::unique_lock<Lock> &guard) {
-        if (!guard.owns_lock() || guard.mutex() != lock_) throw error(AQS_NOT_OWNER);
+        if (!guard.owns_lock() || guard.mutex() != lock_) detail::check(AQS_NOT_OWNER);
         return *lock_;
     }
 
@@ -141,177 +232,455 @@ private:
 // A reentrant lock, which std::lock_guard, std::unique_lock and std::scoped_lock take.
 class mutex {
 public:
-    explicit mutex(const options &how = options()) { detail::check(aqs_lock_open(&lock_, &how)); }
-    ~mutex() { aqs_lock_close(lock_); }
+    typedef aqs_lock_t *native_handle_type;
+
+    constexpr mutex() noexcept : lock_ AQS_LOCK_INIT {}
+    explicit mutex(const options &how) : lock_ AQS_LOCK_INIT {
+        detail::check(aqs_lock_init(&lock_, &how));
+    }
+    ~mutex() { aqs_lock_close(&lock_); }
     mutex(const mutex &) = delete;
     mutex &operator=(const mutex &) = delete;
 
-    void lock() { detail::check(aqs_lock_lock(lock_)); }
-    bool lock_interruptibly() { return detail::check_taken(aqs_lock_lock_interruptibly(lock_)); }
-    bool try_lock() { return detail::check_taken(aqs_lock_trylock(lock_)); }
-    void unlock() { detail::check(aqs_lock_unlock(lock_)); }
+    void lock() { detail::check(aqs_lock_lock(&lock_)); }
+    bool lock_interruptibly() { return detail::check_taken(aqs_lock_lock_interruptibly(&lock_)); }
+    bool try_lock() { return detail::check_taken(aqs_lock_trylock(&lock_)); }
+    void unlock() { detail::check(aqs_lock_unlock(&lock_)); }
 
     template <class Rep, class Period>
     bool try_lock_for(const std::chrono::duration<Rep, Period> &time) {
-        return detail::check_taken(aqs_lock_timedlock(lock_, detail::milliseconds(time)));
+        return detail::check_taken(detail::for_time(time, timed_lock{&lock_}));
     }
 
     template <class Clock, class Duration>
     bool try_lock_until(const std::chrono::time_point<Clock, Duration> &moment) {
-        return detail::check_taken(aqs_lock_timedlock(lock_, detail::milliseconds_until(moment)));
+        return detail::check_taken(detail::until_moment(moment, timed_lock{&lock_}));
     }
 
     basic_condition<mutex> condition(std::uint8_t number = 0) { return {*this, number}; }
-    std::string history() const { return detail::history(aqs_lock_object(lock_)); }
-    std::uint64_t trim() { return detail::trim(aqs_lock_object(lock_)); }
-    aqs_lock_t *native_handle() noexcept { return lock_; }
+    std::string history() const { return detail::history(aqs_lock_object(&lock_)); }
+    std::uint64_t trim() { return detail::trim(aqs_lock_object(&lock_)); }
+    // Whether the calling thread owns it, and how often. They record nothing.
+    bool is_mine() const noexcept { return aqs_lock_is_mine(&lock_); }
+    std::uint32_t holds() const noexcept { return aqs_lock_holds(&lock_); }
+    aqs_policy_t policy() const noexcept { return aqs_object_policy(aqs_lock_object(&lock_)); }
+    native_handle_type native_handle() noexcept { return &lock_; }
 
 private:
     friend class basic_condition<mutex>;
-    void wait(std::uint8_t number) { detail::check(aqs_lock_wait(lock_, number)); }
-    bool wait_interruptibly(std::uint8_t number) {
-        return detail::check_taken(aqs_lock_wait_interruptibly(lock_, number));
-    }
-    bool timed_wait(std::uint8_t number, std::uint32_t time) {
-        return detail::check_taken(aqs_lock_timedwait(lock_, number, time));
-    }
-    void signal(std::uint8_t number) { detail::check(aqs_lock_signal(lock_, number)); }
-    void signal_all(std::uint8_t number) { detail::check(aqs_lock_signal_all(lock_, number)); }
+    friend class condition_variable;
+    aqs_lock_t *as_lock() noexcept { return &lock_; }
 
-    aqs_lock_t *lock_ = nullptr;
+    struct timed_lock {
+        aqs_lock_t *lock;
+        aqs_status_t operator()(std::uint32_t time) { return aqs_lock_timedlock(lock, time); }
+    };
+    struct timed_await {
+        aqs_lock_t *lock;
+        std::uint8_t condition;
+        aqs_status_t operator()(std::uint32_t time) { return aqs_lock_timedwait(lock, condition, time); }
+    };
+
+    void wait(std::uint8_t number) { detail::check(aqs_lock_wait(&lock_, number)); }
+    bool wait_interruptibly(std::uint8_t number) {
+        return detail::check_taken(aqs_lock_wait_interruptibly(&lock_, number));
+    }
+    bool timed_wait(std::uint8_t number, detail::milliseconds time) {
+        return detail::check_taken(detail::for_time(time, timed_await{&lock_, number}));
+    }
+    template <class Moment>
+    bool timed_wait_until(std::uint8_t number, const Moment &moment) {
+        return detail::check_taken(detail::until_moment(moment, timed_await{&lock_, number}));
+    }
+    void signal(std::uint8_t number) { detail::check(aqs_lock_signal(&lock_, number)); }
+    void signal_all(std::uint8_t number) { detail::check(aqs_lock_signal_all(&lock_, number)); }
+
+    mutable aqs_lock_t lock_;
+};
+
+// A lock that isn't reentrant. A second lock by its owner throws, and a second try returns false.
+class plain_mutex {
+public:
+    typedef aqs_mutex_t *native_handle_type;
+
+    constexpr plain_mutex() noexcept : mutex_ AQS_MUTEX_INIT {}
+    explicit plain_mutex(const options &how) : mutex_ AQS_MUTEX_INIT {
+        detail::check(aqs_mutex_init(&mutex_, &how));
+    }
+    ~plain_mutex() { aqs_mutex_close(&mutex_); }
+    plain_mutex(const plain_mutex &) = delete;
+    plain_mutex &operator=(const plain_mutex &) = delete;
+
+    void lock() { detail::check(aqs_mutex_lock(&mutex_)); }
+    bool lock_interruptibly() { return detail::check_taken(aqs_mutex_lock_interruptibly(&mutex_)); }
+    bool try_lock() { return detail::check_taken(aqs_mutex_trylock(&mutex_)); }
+    void unlock() { detail::check(aqs_mutex_unlock(&mutex_)); }
+
+    template <class Rep, class Period>
+    bool try_lock_for(const std::chrono::duration<Rep, Period> &time) {
+        return detail::check_taken(detail::for_time(time, timed_lock{&mutex_}));
+    }
+
+    template <class Clock, class Duration>
+    bool try_lock_until(const std::chrono::time_point<Clock, Duration> &moment) {
+        return detail::check_taken(detail::until_moment(moment, timed_lock{&mutex_}));
+    }
+
+    basic_condition<plain_mutex> condition(std::uint8_t number = 0) { return {*this, number}; }
+    std::string history() const { return detail::history(aqs_mutex_object(&mutex_)); }
+    std::uint64_t trim() { return detail::trim(aqs_mutex_object(&mutex_)); }
+    // Whether the calling thread owns it. It records nothing.
+    bool is_mine() const noexcept { return aqs_mutex_is_mine(&mutex_); }
+    aqs_policy_t policy() const noexcept { return aqs_object_policy(aqs_mutex_object(&mutex_)); }
+    native_handle_type native_handle() noexcept { return &mutex_; }
+
+private:
+    friend class basic_condition<plain_mutex>;
+    friend class condition_variable;
+    aqs_lock_t *as_lock() noexcept { return aqs_mutex_as_lock(&mutex_); }
+
+    struct timed_lock {
+        aqs_mutex_t *lock;
+        aqs_status_t operator()(std::uint32_t time) { return aqs_mutex_timedlock(lock, time); }
+    };
+    struct timed_await {
+        aqs_mutex_t *lock;
+        std::uint8_t condition;
+        aqs_status_t operator()(std::uint32_t time) { return aqs_mutex_timedwait(lock, condition, time); }
+    };
+
+    void wait(std::uint8_t number) { detail::check(aqs_mutex_wait(&mutex_, number)); }
+    bool wait_interruptibly(std::uint8_t number) {
+        return detail::check_taken(aqs_mutex_wait_interruptibly(&mutex_, number));
+    }
+    bool timed_wait(std::uint8_t number, detail::milliseconds time) {
+        return detail::check_taken(detail::for_time(time, timed_await{&mutex_, number}));
+    }
+    template <class Moment>
+    bool timed_wait_until(std::uint8_t number, const Moment &moment) {
+        return detail::check_taken(detail::until_moment(moment, timed_await{&mutex_, number}));
+    }
+    void signal(std::uint8_t number) { detail::check(aqs_mutex_signal(&mutex_, number)); }
+    void signal_all(std::uint8_t number) { detail::check(aqs_mutex_signal_all(&mutex_, number)); }
+
+    mutable aqs_mutex_t mutex_;
 };
 
 // A read-write lock, which std::shared_lock takes too. Both sides are reentrant.
 class shared_mutex {
 public:
-    explicit shared_mutex(const options &how = options()) { detail::check(aqs_rwlock_open(&lock_, &how)); }
-    ~shared_mutex() { aqs_rwlock_close(lock_); }
+    typedef aqs_rwlock_t *native_handle_type;
+
+    constexpr shared_mutex() noexcept : lock_ AQS_RWLOCK_INIT {}
+    explicit shared_mutex(const options &how) : lock_ AQS_RWLOCK_INIT {
+        detail::check(aqs_rwlock_init(&lock_, &how));
+    }
+    ~shared_mutex() { aqs_rwlock_close(&lock_); }
     shared_mutex(const shared_mutex &) = delete;
     shared_mutex &operator=(const shared_mutex &) = delete;
 
-    void lock() { detail::check(aqs_rwlock_wrlock(lock_)); }
-    bool lock_interruptibly() { return detail::check_taken(aqs_rwlock_wrlock_interruptibly(lock_)); }
-    bool try_lock() { return detail::check_taken(aqs_rwlock_trywrlock(lock_)); }
-    void unlock() { detail::check(aqs_rwlock_wrunlock(lock_)); }
+    void lock() { detail::check(aqs_rwlock_wrlock(&lock_)); }
+    bool lock_interruptibly() { return detail::check_taken(aqs_rwlock_wrlock_interruptibly(&lock_)); }
+    bool try_lock() { return detail::check_taken(aqs_rwlock_trywrlock(&lock_)); }
+    void unlock() { detail::check(aqs_rwlock_wrunlock(&lock_)); }
 
     template <class Rep, class Period>
     bool try_lock_for(const std::chrono::duration<Rep, Period> &time) {
-        return detail::check_taken(aqs_rwlock_timedwrlock(lock_, detail::milliseconds(time)));
+        return detail::check_taken(detail::for_time(time, timed_write{&lock_}));
     }
 
     template <class Clock, class Duration>
     bool try_lock_until(const std::chrono::time_point<Clock, Duration> &moment) {
-        return detail::check_taken(aqs_rwlock_timedwrlock(lock_, detail::milliseconds_until(moment)));
+        return detail::check_taken(detail::until_moment(moment, timed_write{&lock_}));
     }
 
-    void lock_shared() { detail::check(aqs_rwlock_rdlock(lock_)); }
-    bool lock_shared_interruptibly() { return detail::check_taken(aqs_rwlock_rdlock_interruptibly(lock_)); }
-    bool try_lock_shared() { return detail::check_taken(aqs_rwlock_tryrdlock(lock_)); }
-    void unlock_shared() { detail::check(aqs_rwlock_rdunlock(lock_)); }
+    void lock_shared() { detail::check(aqs_rwlock_rdlock(&lock_)); }
+    bool lock_shared_interruptibly() { return detail::check_taken(aqs_rwlock_rdlock_interruptibly(&lock_)); }
+    bool try_lock_shared() { return detail::check_taken(aqs_rwlock_tryrdlock(&lock_)); }
+    void unlock_shared() { detail::check(aqs_rwlock_rdunlock(&lock_)); }
 
     template <class Rep, class Period>
     bool try_lock_shared_for(const std::chrono::duration<Rep, Period> &time) {
-        return detail::check_taken(aqs_rwlock_timedrdlock(lock_, detail::milliseconds(time)));
+        return detail::check_taken(detail::for_time(time, timed_read{&lock_}));
     }
 
     template <class Clock, class Duration>
     bool try_lock_shared_until(const std::chrono::time_point<Clock, Duration> &moment) {
-        return detail::check_taken(aqs_rwlock_timedrdlock(lock_, detail::milliseconds_until(moment)));
+        return detail::check_taken(detail::until_moment(moment, timed_read{&lock_}));
     }
 
     basic_condition<shared_mutex> condition(std::uint8_t number = 0) { return {*this, number}; }
-    std::string history() const { return detail::history(aqs_rwlock_object(lock_)); }
-    std::uint64_t trim() { return detail::trim(aqs_rwlock_object(lock_)); }
-    aqs_rwlock_t *native_handle() noexcept { return lock_; }
+    std::string history() const { return detail::history(aqs_rwlock_object(&lock_)); }
+    std::uint64_t trim() { return detail::trim(aqs_rwlock_object(&lock_)); }
+    // Whether the calling thread has the write side, and how often it has each side. They record nothing.
+    bool is_mine() const noexcept { return aqs_rwlock_is_mine(&lock_); }
+    std::uint32_t write_holds() const noexcept { return aqs_rwlock_write_holds(&lock_); }
+    std::uint32_t read_holds() const noexcept { return aqs_rwlock_read_holds(&lock_); }
+    aqs_policy_t policy() const noexcept { return aqs_object_policy(aqs_rwlock_object(&lock_)); }
+    native_handle_type native_handle() noexcept { return &lock_; }
 
 private:
     friend class basic_condition<shared_mutex>;
-    void wait(std::uint8_t number) { detail::check(aqs_rwlock_wait(lock_, number)); }
-    bool wait_interruptibly(std::uint8_t number) {
-        return detail::check_taken(aqs_rwlock_wait_interruptibly(lock_, number));
-    }
-    bool timed_wait(std::uint8_t number, std::uint32_t time) {
-        return detail::check_taken(aqs_rwlock_timedwait(lock_, number, time));
-    }
-    void signal(std::uint8_t number) { detail::check(aqs_rwlock_signal(lock_, number)); }
-    void signal_all(std::uint8_t number) { detail::check(aqs_rwlock_signal_all(lock_, number)); }
 
-    aqs_rwlock_t *lock_ = nullptr;
+    struct timed_write {
+        aqs_rwlock_t *lock;
+        aqs_status_t operator()(std::uint32_t time) { return aqs_rwlock_timedwrlock(lock, time); }
+    };
+    struct timed_read {
+        aqs_rwlock_t *lock;
+        aqs_status_t operator()(std::uint32_t time) { return aqs_rwlock_timedrdlock(lock, time); }
+    };
+    struct timed_await {
+        aqs_rwlock_t *lock;
+        std::uint8_t condition;
+        aqs_status_t operator()(std::uint32_t time) { return aqs_rwlock_timedwait(lock, condition, time); }
+    };
+
+    void wait(std::uint8_t number) { detail::check(aqs_rwlock_wait(&lock_, number)); }
+    bool wait_interruptibly(std::uint8_t number) {
+        return detail::check_taken(aqs_rwlock_wait_interruptibly(&lock_, number));
+    }
+    bool timed_wait(std::uint8_t number, detail::milliseconds time) {
+        return detail::check_taken(detail::for_time(time, timed_await{&lock_, number}));
+    }
+    template <class Moment>
+    bool timed_wait_until(std::uint8_t number, const Moment &moment) {
+        return detail::check_taken(detail::until_moment(moment, timed_await{&lock_, number}));
+    }
+    void signal(std::uint8_t number) { detail::check(aqs_rwlock_signal(&lock_, number)); }
+    void signal_all(std::uint8_t number) { detail::check(aqs_rwlock_signal_all(&lock_, number)); }
+
+    mutable aqs_rwlock_t lock_;
+};
+
+// A condition as an object: std::condition_variable for mutex and plain_mutex. It belongs to no lock until a
+// thread waits, and those who wait at a time wait with one lock (aqs_cond_t in aqs.h). Nobody wakes without a
+// notice. Any thread may notify: one that doesn't own the lock acquires it for that.
+class condition_variable {
+public:
+    typedef aqs_cond_t *native_handle_type;
+
+    constexpr condition_variable() noexcept : condition_ AQS_COND_INIT {}
+    condition_variable(const condition_variable &) = delete;
+    condition_variable &operator=(const condition_variable &) = delete;
+
+    template <class Lock>
+    void wait(std::unique_lock<Lock> &guard) {
+        detail::check(aqs_cond_wait(&condition_, owned(guard)));
+    }
+
+    template <class Lock, class Predicate>
+    void wait(std::unique_lock<Lock> &guard, Predicate holds) {
+        while (!holds()) wait(guard);
+    }
+
+    // False if the time was up, or the thread was interrupted. It owns the lock again.
+    template <class Lock, class Rep, class Period>
+    bool wait_for(std::unique_lock<Lock> &guard, const std::chrono::duration<Rep, Period> &time) {
+        return detail::check_taken(detail::for_time(time, timed_wait{&condition_, owned(guard)}));
+    }
+
+    template <class Lock, class Clock, class Duration>
+    bool wait_until(std::unique_lock<Lock> &guard, const std::chrono::time_point<Clock, Duration> &moment) {
+        return detail::check_taken(detail::until_moment(moment, timed_wait{&condition_, owned(guard)}));
+    }
+
+    // What the predicate says, at the end of the time at the latest.
+    template <class Lock, class Rep, class Period, class Predicate>
+    bool wait_for(
+        std::unique_lock<Lock> &guard, const std::chrono::duration<Rep, Period> &time, Predicate holds) {
+        const auto begin = std::chrono::steady_clock::now();
+        while (!holds()) {
+            const detail::milliseconds past = std::chrono::steady_clock::now() - begin;
+            if (!wait_for(guard, detail::milliseconds(time) - past)) return holds();
+        }
+        return true;
+    }
+
+    template <class Lock, class Clock, class Duration, class Predicate>
+    bool wait_until(std::unique_lock<Lock> &guard, const std::chrono::time_point<Clock, Duration> &moment,
+                    Predicate holds) {
+        while (!holds()) {
+            if (!wait_until(guard, moment)) return holds();
+        }
+        return true;
+    }
+
+    // False if the thread was interrupted.
+    template <class Lock>
+    bool wait_interruptibly(std::unique_lock<Lock> &guard) {
+        return detail::check_taken(aqs_cond_wait_interruptibly(&condition_, owned(guard)));
+    }
+
+    void notify_one() { detail::check(aqs_cond_signal(&condition_)); }
+    void notify_all() { detail::check(aqs_cond_signal_all(&condition_)); }
+    native_handle_type native_handle() noexcept { return &condition_; }
+
+private:
+    struct timed_wait {
+        aqs_cond_t *condition;
+        aqs_lock_t *lock;
+        aqs_status_t operator()(std::uint32_t time) { return aqs_cond_timedwait(condition, lock, time); }
+    };
+
+    template <class Lock>
+    static aqs_lock_t *owned(std::unique_lock<Lock> &guard) {
+        if (!guard.owns_lock()) detail::check(AQS_NOT_OWNER);
+        return guard.mutex()->as_lock();
+    }
+
+    aqs_cond_t condition_;
 };
 
 class semaphore {
 public:
-    explicit semaphore(std::int32_t permits, const options &how = options()) {
-        detail::check(aqs_sem_open(&semaphore_, permits, &how));
+    typedef aqs_sem_t *native_handle_type;
+
+    constexpr explicit semaphore(std::int32_t permits) : semaphore_ AQS_SEM_INIT(permits) {}
+    semaphore(std::int32_t permits, const options &how) : semaphore_ AQS_SEM_INIT(permits) {
+        detail::check(aqs_sem_init(&semaphore_, permits, &how));
     }
-    ~semaphore() { aqs_sem_close(semaphore_); }
+    ~semaphore() { aqs_sem_close(&semaphore_); }
     semaphore(const semaphore &) = delete;
     semaphore &operator=(const semaphore &) = delete;
 
-    void acquire(std::uint32_t n = 1) { detail::check(aqs_sem_acquire(semaphore_, n)); }
+    // The most permits that can be free.
+    static constexpr std::ptrdiff_t max() noexcept { return INT32_MAX; }
+
+    void acquire(std::uint32_t n = 1) { detail::check(aqs_sem_acquire(&semaphore_, n)); }
     bool acquire_interruptibly(std::uint32_t n = 1) {
-        return detail::check_taken(aqs_sem_acquire_interruptibly(semaphore_, n));
+        return detail::check_taken(aqs_sem_acquire_interruptibly(&semaphore_, n));
     }
-    bool try_acquire(std::uint32_t n = 1) { return detail::check_taken(aqs_sem_tryacquire(semaphore_, n)); }
+    bool try_acquire(std::uint32_t n = 1) { return detail::check_taken(aqs_sem_tryacquire(&semaphore_, n)); }
 
     template <class Rep, class Period>
     bool try_acquire_for(const std::chrono::duration<Rep, Period> &time, std::uint32_t n = 1) {
-        return detail::check_taken(aqs_sem_timedacquire(semaphore_, n, detail::milliseconds(time)));
+        return detail::check_taken(detail::for_time(time, timed_acquire{&semaphore_, n}));
     }
 
-    void release(std::uint32_t n = 1) { detail::check(aqs_sem_release(semaphore_, n)); }
+    template <class Clock, class Duration>
+    bool try_acquire_until(const std::chrono::time_point<Clock, Duration> &moment, std::uint32_t n = 1) {
+        return detail::check_taken(detail::until_moment(moment, timed_acquire{&semaphore_, n}));
+    }
+
+    void release(std::uint32_t n = 1) { detail::check(aqs_sem_release(&semaphore_, n)); }
 
     std::uint32_t drain() {
         std::uint32_t n = 0;
-        detail::check(aqs_sem_drain(semaphore_, &n));
+        detail::check(aqs_sem_drain(&semaphore_, &n));
         return n;
     }
 
-    /* The free permits, which may be below 0. */
+    // The free permits, which may be below 0.
     std::int64_t available() {
         std::int64_t permits = 0;
-        detail::check(aqs_sem_getvalue(semaphore_, &permits));
+        detail::check(aqs_sem_getvalue(&semaphore_, &permits));
         return permits;
     }
 
-    std::string history() const { return detail::history(aqs_sem_object(semaphore_)); }
-    std::uint64_t trim() { return detail::trim(aqs_sem_object(semaphore_)); }
-    aqs_sem_t *native_handle() noexcept { return semaphore_; }
+    std::string history() const { return detail::history(aqs_sem_object(&semaphore_)); }
+    std::uint64_t trim() { return detail::trim(aqs_sem_object(&semaphore_)); }
+    native_handle_type native_handle() noexcept { return &semaphore_; }
 
 private:
-    aqs_sem_t *semaphore_ = nullptr;
+    struct timed_acquire {
+        aqs_sem_t *semaphore;
+        std::uint32_t n;
+        aqs_status_t operator()(std::uint32_t time) { return aqs_sem_timedacquire(semaphore, n, time); }
+    };
+
+    mutable aqs_sem_t semaphore_;
 };
 
 class latch {
 public:
-    explicit latch(std::uint32_t count, const options &how = options()) {
-        detail::check(aqs_latch_open(&latch_, count, &how));
+    typedef aqs_latch_t *native_handle_type;
+
+    constexpr explicit latch(std::uint32_t count) : latch_ AQS_LATCH_INIT(number_of(count)) {}
+    latch(std::uint32_t count, const options &how) : latch_ AQS_LATCH_INIT(number_of(count)) {
+        detail::check(aqs_latch_init(&latch_, count, &how));
     }
-    ~latch() { aqs_latch_close(latch_); }
+    ~latch() { aqs_latch_close(&latch_); }
     latch(const latch &) = delete;
     latch &operator=(const latch &) = delete;
 
-    void count_down() { detail::check(aqs_latch_count_down(latch_)); }
-    void wait() { detail::check(aqs_latch_await(latch_)); }
-    bool wait_interruptibly() { return detail::check_taken(aqs_latch_await_interruptibly(latch_)); }
+    // The highest count.
+    static constexpr std::ptrdiff_t max() noexcept { return INT32_MAX; }
+
+    // Counts down by one, as often as n says. Others may count between.
+    void count_down(std::uint32_t n = 1) {
+        for (; n > 0; n--) detail::check(aqs_latch_count_down(&latch_));
+    }
+    void wait() { detail::check(aqs_latch_await(&latch_)); }
+    bool wait_interruptibly() { return detail::check_taken(aqs_latch_await_interruptibly(&latch_)); }
+    // Whether the count is 0. It records nothing.
+    bool try_wait() { return count() == 0; }
+    void arrive_and_wait(std::uint32_t n = 1) {
+        count_down(n);
+        wait();
+    }
 
     template <class Rep, class Period>
     bool wait_for(const std::chrono::duration<Rep, Period> &time) {
-        return detail::check_taken(aqs_latch_timedawait(latch_, detail::milliseconds(time)));
+        return detail::check_taken(detail::for_time(time, timed_await{&latch_}));
+    }
+
+    template <class Clock, class Duration>
+    bool wait_until(const std::chrono::time_point<Clock, Duration> &moment) {
+        return detail::check_taken(detail::until_moment(moment, timed_await{&latch_}));
     }
 
     std::uint32_t count() {
         std::uint32_t count = 0;
-        detail::check(aqs_latch_getcount(latch_, &count));
+        detail::check(aqs_latch_getcount(&latch_, &count));
         return count;
     }
 
-    std::string history() const { return detail::history(aqs_latch_object(latch_)); }
-    std::uint64_t trim() { return detail::trim(aqs_latch_object(latch_)); }
-    aqs_latch_t *native_handle() noexcept { return latch_; }
+    std::string history() const { return detail::history(aqs_latch_object(&latch_)); }
+    std::uint64_t trim() { return detail::trim(aqs_latch_object(&latch_)); }
+    native_handle_type native_handle() noexcept { return &latch_; }
 
 private:
-    aqs_latch_t *latch_ = nullptr;
+    static constexpr std::int32_t number_of(std::uint32_t count) {
+        return count <= INT32_MAX ? static_cast<std::int32_t>(count) : (detail::check(AQS_OUT_OF_RANGE), 0);
+    }
+
+    struct timed_await {
+        aqs_latch_t *latch;
+        aqs_status_t operator()(std::uint32_t time) { return aqs_latch_timedawait(latch, time); }
+    };
+
+    mutable aqs_latch_t latch_;
+};
+
+// Lets a number of threads go on when all of them have come, again and again.
+class barrier {
+public:
+    typedef aqs_barrier_t *native_handle_type;
+
+    explicit barrier(std::uint32_t parties, const options &how = options()) {
+        detail::check(aqs_barrier_open(&barrier_, parties, &how));
+    }
+    ~barrier() { aqs_barrier_close(barrier_); }
+    barrier(const barrier &) = delete;
+    barrier &operator=(const barrier &) = delete;
+
+    // The most threads.
+    static constexpr std::ptrdiff_t max() noexcept { return AQS_THREADS; }
+
+    // Returns whether this thread was the last that came.
+    bool arrive_and_wait() {
+        bool is_last = false;
+        detail::check(aqs_barrier_wait(barrier_, &is_last));
+        return is_last;
+    }
+
+    std::string history() const { return detail::history(aqs_barrier_object(barrier_)); }
+    std::uint64_t trim() { return detail::trim(aqs_barrier_object(barrier_)); }
+    native_handle_type native_handle() noexcept { return barrier_; }
+
+private:
+    aqs_barrier_t *barrier_ = nullptr;
 };
 
 using condition = basic_condition<mutex>;

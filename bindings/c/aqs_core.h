@@ -5,11 +5,12 @@
    - A pass is all bytes 0 (AQS_NO_PASS), or was written by a call of this library. C neither reads nor
      changes what is in it, and makes no copy: to move a pass, copy it and set the old one to AQS_NO_PASS.
    - Each pass is used by one call at a time. It may go to another thread: a lock, a thread's start or join,
-     or a seq_cst atomic then orders its calls.
+     or an atomic that one thread releases and the other acquires then orders its calls.
    - Pointers are aligned and not null, and what they point to is nobody else's during the call.
+   - The memory of an answer has 0 or 1 in each field of type bool, also before the call.
    - No call is made from a signal handler, nor from the forked child of a process with threads.
-   - malloc, realloc and free come from one allocator. Everything else is tested: a number out of range has
-     an answer, and changes nothing. */
+   - malloc, realloc and free come from one allocator, whose blocks are aligned to 16 bytes.
+   Everything else is tested: a number out of range has an answer, and changes nothing. */
 #ifndef AQS_CORE_H
 #define AQS_CORE_H
 
@@ -75,7 +76,9 @@ enum { AQS_WOKE_PERMIT, AQS_WOKE_DEADLINE, AQS_WOKE_INTERRUPT };
    - AQS_IS_NO_CODE, AQS_IS_NO_PASS, AQS_IS_NO_ENTRY, AQS_IS_IN_CALL, AQS_IS_IN_NO_CALL: nothing has changed.
    After an entry, a fault or AQS_IS_WAITING the caller owes, in this order: to unpark the seat `wakes` if
    has_wakes; to set its own interrupt if `again`; to park and go on if the call waits. After any other kind
-   has_wakes, again and parks are false. */
+   has_wakes, again and parks are false. parks, has_until, until and interruptible mean nothing unless the
+   kind is AQS_IS_WAITING, nor has_until, until and interruptible unless it parks. `wakes` means nothing
+   unless has_wakes. */
 typedef struct {
     uint64_t until;
     uint32_t n;
@@ -105,40 +108,43 @@ enum {
    number of the header is out of range or `count` isn't the number of seats. */
 uint8_t aqs_open(aqs_header_t header, aqs_pass_t *places, size_t count);
 
-/* Makes one step, and writes what it came to. AQS_IS_IN_CALL: the seat is in a call that waits. AQS_IS_NO_CODE:
-   these are the numbers of no step. */
+/* Makes one step, and writes what it came to. AQS_IS_IN_CALL: the seat is in a call that waits.
+   AQS_IS_NO_CODE: these are the numbers of no step. */
 void aqs_step_now(aqs_pass_t *pass, aqs_step_t step, aqs_answer_t *answer);
 
 /* Makes the first turn of a call that may wait. AQS_IS_IN_CALL: the seat is in another. AQS_IS_NO_CODE: these
    are the numbers of no call. */
 void aqs_begin(aqs_pass_t *pass, const aqs_call_t *call, aqs_answer_t *answer);
 
-/* Makes the next turn of a call that waits. woke: AQS_WOKE_*, how its park ended; any of them if it didn't park.
-   AQS_IS_IN_NO_CALL: the seat is in none. AQS_IS_NO_CODE: no park ends so. */
+/* Makes the next turn of a call that waits. woke: AQS_WOKE_*, how its park ended; any of them if it didn't
+   park. AQS_IS_IN_NO_CALL: the seat is in none. AQS_IS_NO_CODE: no park ends so. */
 void aqs_go_on(aqs_pass_t *pass, uint8_t woke, aqs_answer_t *answer);
 
 /* Writes the entry of a number since the last trim, counted from 0, or AQS_IS_NO_ENTRY. */
 void aqs_entry_now(aqs_pass_t *pass, uint64_t number, aqs_answer_t *answer);
 
 /* Writes the text of the history since the last trim, as `aqs audit` reads it, if it fits in `size`, and its
-   length in any case: returns AQS_IS_ENTRY. Or returns AQS_IS_BUSY, AQS_IS_NO_PASS, or AQS_IS_FAULT if memory
-   lacks, and *length is as it was. `out` is not null, even if `size` is 0. */
+   length in any case: returns AQS_IS_ENTRY. If it doesn't fit, `out` is as it was. Or returns AQS_IS_BUSY,
+   AQS_IS_NO_PASS, or AQS_IS_FAULT if memory lacks, and `out` and *length are as they were. `out` is not null,
+   even if `size` is 0. */
 uint8_t aqs_text_now(aqs_pass_t *pass, uint8_t *out, size_t size, uint64_t *length);
 
 /* Folds all entries, so that their room comes back, and writes their number: returns AQS_IS_ENTRY. What the
-   object does next is the same as before. Or returns AQS_IS_BUSY, AQS_IS_NO_PASS, or AQS_IS_FAULT if more than
-   10^15 entries would have been folded. */
+   object does next is the same as before. Or returns AQS_IS_BUSY, AQS_IS_NO_PASS, or AQS_IS_FAULT if more
+   than 10^15 entries would have been folded, and *count is as it was. */
 uint8_t aqs_trim_now(aqs_pass_t *pass, uint64_t *count);
 
-/* Writes the free permits of a semaphore, which may be below 0, or 0 of any other object: returns AQS_IS_ENTRY. Or
-   returns AQS_IS_BUSY or AQS_IS_NO_PASS, and *permits is as it was. */
+/* Writes the free permits of a semaphore, which may be below 0, or 0 of any other object: returns
+   AQS_IS_ENTRY. Or returns AQS_IS_BUSY or AQS_IS_NO_PASS, and *permits is as it was. */
 uint8_t aqs_available_now(aqs_pass_t *pass, int64_t *permits);
 
 /* Writes the count of a latch, or 0 of any other object: returns AQS_IS_ENTRY. Or returns AQS_IS_BUSY or
    AQS_IS_NO_PASS, and *count is as it was. */
 uint8_t aqs_count_now(aqs_pass_t *pass, uint32_t *count);
 
-/* Gives a pass back, and leaves AQS_NO_PASS. The object is freed with the last of its passes. */
+/* Gives a pass back, and leaves AQS_NO_PASS. The object is freed with the last of its passes. A seat whose
+   call waits stands in its queue for good then, and what others ask for after it may never be granted: so let
+   each call end first, unless all passes of the object are given back. What the seat holds stays held. */
 void aqs_drop(aqs_pass_t *pass);
 
 #ifdef __cplusplus

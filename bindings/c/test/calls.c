@@ -351,7 +351,7 @@ static void latches(void) {
 
 static aqs_status_t own_and_end(void *lock) { return aqs_lock_lock(lock); }
 
-/* A thread that ends as owner keeps its number: nobody is taken for the owner. */
+/* A thread that ends as owner keeps its seat: nobody is taken for the owner. */
 static void owners_that_end(void) {
     aqs_lock_t *lock;
     IS(aqs_lock_open(&lock, NULL), AQS_OK);
@@ -414,7 +414,12 @@ static void options_and_statuses(void) {
     IS(aqs_latch_open(&latch, 2147483648u, NULL), AQS_OUT_OF_RANGE);
     IS(aqs_sem_open(&semaphore, 1, &(aqs_options_t){.conditions = 1}), AQS_OUT_OF_RANGE);
     IS(aqs_lock_open(&lock, &(aqs_options_t){.threads = 1}), AQS_OK);
+    IS(aqs_lock_lock(lock), AQS_OK);
     IS(in_other(try_lock, lock), AQS_TOO_MANY_THREADS);
+    IS(aqs_lock_unlock(lock), AQS_OK);
+    IS(in_other(try_lock, lock), AQS_OK);
+    IS(in_other(own_and_end, lock), AQS_OK);
+    IS(aqs_lock_trylock(lock), AQS_TOO_MANY_THREADS);
     aqs_lock_close(lock);
     IS(aqs_thread_interrupt(AQS_THREADS), AQS_OUT_OF_RANGE);
     CHECK(strcmp(aqs_status_name(AQS_OK), "AQS_OK") == 0);
@@ -485,7 +490,7 @@ static void numbers(void) {
 int main(int count, char **words) {
     CHECK(count == 2);
     folder = words[1];
-    alarm(60);
+    alarm(100);
     locks();
     conditions();
     read_write_locks();

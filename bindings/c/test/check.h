@@ -4,6 +4,7 @@
 
 #include "aqs.h"
 
+#include <stdbool.h>
 #include <stdio.h>
 #include <stdlib.h>
 #include <unistd.h>

@@ -56,6 +56,15 @@ static void guards() {
     CHECK(mutex.trim() > 0);
 }
 
+// What the predicate says when the time is up counts, though nobody notified.
+template <class Condition, class Guard>
+static void looks_at_the_end(Condition &condition, Guard &guard) {
+    int looks = 0;
+    CHECK(condition.wait_for(guard, 2ms, [&] { return ++looks == 2; }));
+    looks = 0;
+    CHECK(condition.wait_until(guard, std::chrono::steady_clock::now() + 2ms, [&] { return ++looks == 2; }));
+}
+
 static void queues() {
     aqs::mutex mutex(aqs::options().keeps_history().has_conditions(2));
     aqs::condition not_empty = mutex.condition(0), not_full = mutex.condition(1);
@@ -82,6 +91,7 @@ static void queues() {
     CHECK(!not_empty.wait_for(guard, 10ms));
     CHECK(!not_empty.wait_for(guard, 10ms, [] { return false; }));
     CHECK(not_empty.wait_for(guard, 10ms, [] { return true; }));
+    looks_at_the_end(not_empty, guard);
     CHECK(guard.owns_lock());
     keep("guards-queue", mutex.history());
 }
@@ -113,6 +123,9 @@ static void readers() {
         CHECK(!mutex.try_lock() && !mutex.try_lock_for(5ms));
         CHECK(mutex.try_lock_shared_for(5ms));
         mutex.unlock_shared();
+        CHECK(mutex.try_lock_shared_until(std::chrono::steady_clock::now() + 5ms));
+        CHECK(mutex.read_holds() == 1);
+        mutex.unlock_shared();
     }).join();
     keep("guards-shared", mutex.history());
 }
@@ -125,16 +138,171 @@ static void others() {
     permits.release(5);
     CHECK(permits.available() == 5);
     CHECK(permits.drain() == 5);
+    CHECK(!permits.try_acquire_until(std::chrono::steady_clock::now() + 5ms));
+    permits.release(7);
+    CHECK(permits.try_acquire(2) && permits.available() == 5);
+    CHECK(permits.try_acquire_for(5ms, 2) && permits.available() == 3);
+    CHECK(permits.try_acquire_until(std::chrono::steady_clock::now(), 3) && permits.available() == 0);
+    CHECK(aqs::semaphore::max() == 2147483647);
     keep("guards-semaphore", permits.history());
     aqs::latch latch(2, aqs::options().keeps_history());
     std::thread waiter([&] { latch.wait(); });
     CHECK(!latch.wait_for(5ms));
+    latch.count_down(0);
+    CHECK(latch.count() == 2);
     latch.count_down();
     CHECK(latch.count() == 1);
     latch.count_down();
     waiter.join();
     CHECK(latch.wait_for(1h));
+    CHECK(latch.wait_until(std::chrono::steady_clock::now()));
     keep("guards-latch", latch.history());
+    aqs::latch meets(3);
+    CHECK(!meets.try_wait());
+    std::thread other([&] { meets.arrive_and_wait(); });
+    meets.arrive_and_wait(2);
+    CHECK(meets.try_wait() && meets.count() == 0);
+    other.join();
+}
+
+static void over_a_lock() {
+    aqs::plain_mutex mutex(aqs::options().keeps_history());
+    auto comes = mutex.condition();
+    bool is_set = false;
+    std::thread setter([&] {
+        std::lock_guard guard(mutex);
+        is_set = true;
+        comes.notify_one();
+    });
+    std::unique_lock guard(mutex);
+    comes.wait(guard, [&] { return is_set; });
+    CHECK(mutex.is_mine() && !mutex.try_lock() && !comes.wait_for(guard, 1ms));
+    guard.unlock();
+    CHECK(!mutex.is_mine() && mutex.try_lock_for(1ms));
+    mutex.unlock();
+    setter.join();
+    keep("guards-plain-mutex", mutex.history());
+    CHECK(status_of([] { aqs::plain_mutex once; once.lock(); once.lock(); }) == AQS_TOO_MANY_HOLDS);
+    aqs::barrier barrier(3, aqs::options().keeps_history());
+    std::atomic<int> came{0}, lasts{0};
+    auto come = [&] {
+        came++;
+        lasts += barrier.arrive_and_wait();
+        CHECK(came == 3);
+    };
+    std::thread one(come), two(come);
+    come();
+    one.join();
+    two.join();
+    CHECK(lasts == 1);
+    keep("guards-barrier", barrier.history());
+}
+
+// Objects without options are there before any constructor runs.
+static aqs::mutex static_mutex;
+static aqs::plain_mutex static_plain;
+static aqs::shared_mutex static_shared;
+static aqs::semaphore static_permits(2);
+static aqs::latch static_latch(1);
+static aqs::condition_variable static_changed;
+
+static void static_objects() {
+    std::vector<std::thread> threads;
+    int count = 0;
+    for (int t = 0; t < 3; t++) {
+        threads.emplace_back([&] {
+            std::scoped_lock guard(static_mutex, static_plain);
+            static_shared.lock();
+            count++;
+            static_shared.unlock();
+            static_permits.release();
+        });
+    }
+    for (auto &thread : threads) thread.join();
+    CHECK(count == 3 && static_permits.available() == 5);
+    CHECK(!static_latch.try_wait());
+    static_latch.arrive_and_wait();
+    keep("guards-static", static_mutex.history());
+}
+
+static void questions() {
+    aqs::mutex mutex(aqs::options().strict());
+    aqs::plain_mutex plain;
+    aqs::shared_mutex shared(aqs::options().fair());
+    CHECK(mutex.policy() == AQS_STRICT && plain.policy() == AQS_NONFAIR && shared.policy() == AQS_FAIR);
+    CHECK(!mutex.is_mine() && mutex.holds() == 0 && !plain.is_mine() && !shared.is_mine());
+    {
+        std::lock_guard one(mutex), two(mutex);
+        std::lock_guard write(shared);
+        std::shared_lock read(shared);
+        CHECK(mutex.is_mine() && mutex.holds() == 2);
+        CHECK(shared.is_mine() && shared.write_holds() == 1 && shared.read_holds() == 1);
+        std::thread([&] {
+            CHECK(!mutex.is_mine() && mutex.holds() == 0 && shared.read_holds() == 0);
+        }).join();
+    }
+    CHECK(!mutex.is_mine() && mutex.holds() == 0 && shared.write_holds() == 0 && shared.read_holds() == 0);
+}
+
+template <class Lock>
+static void condition_objects(const std::string &name) {
+    Lock mutex(aqs::options().keeps_history().has_conditions(2));
+    aqs::condition_variable not_empty, not_full;
+    std::queue<int> queue;
+    long sum = 0;
+    std::thread consumer([&] {
+        for (int i = 0; i < 1000; i++) {
+            {
+                std::unique_lock<Lock> guard(mutex);
+                not_empty.wait(guard, [&] { return !queue.empty(); });
+                sum += queue.front();
+                queue.pop();
+            }
+            not_full.notify_one();
+        }
+    });
+    for (int i = 0; i < 1000; i++) {
+        std::unique_lock<Lock> guard(mutex);
+        not_full.wait(guard, [&] { return queue.size() < 4; });
+        queue.push(i);
+        not_empty.notify_all();
+    }
+    consumer.join();
+    CHECK(sum == 1000L * 999 / 2);
+    std::unique_lock<Lock> guard(mutex);
+    CHECK(!not_empty.wait_for(guard, 5ms));
+    CHECK(!not_empty.wait_until(guard, std::chrono::steady_clock::now() + 5ms));
+    CHECK(!not_empty.wait_for(guard, 5ms, [] { return false; }));
+    CHECK(!not_empty.wait_until(guard, std::chrono::steady_clock::now(), [] { return false; }));
+    CHECK(not_empty.wait_for(guard, 5ms, [] { return true; }));
+    IS(aqs_thread_interrupt(aqs_thread_self()), AQS_OK);
+    CHECK(!not_empty.wait_interruptibly(guard));
+    looks_at_the_end(not_empty, guard);
+    CHECK(guard.owns_lock() && mutex.is_mine());
+    keep(name, mutex.history());
+}
+
+// What std::errc calls the same.
+static void codes() {
+    const struct {
+        aqs_status_t status;
+        std::errc code;
+    } of[] = {
+        {AQS_TIMED_OUT, std::errc::timed_out},
+        {AQS_INTERRUPTED, std::errc::interrupted},
+        {AQS_WOULD_BLOCK, std::errc::resource_unavailable_try_again},
+        {AQS_NOT_OWNER, std::errc::operation_not_permitted},
+        {AQS_TOO_MANY_HOLDS, std::errc::resource_unavailable_try_again},
+        {AQS_TOO_MANY_PERMITS, std::errc::value_too_large},
+        {AQS_HOLDS_READ, std::errc::resource_deadlock_would_occur},
+        {AQS_NO_SUCH_CONDITION, std::errc::invalid_argument},
+        {AQS_BAD_AMOUNT, std::errc::invalid_argument},
+        {AQS_OUT_OF_MEMORY, std::errc::not_enough_memory},
+        {AQS_OUT_OF_RANGE, std::errc::invalid_argument},
+        {AQS_TOO_MANY_THREADS, std::errc::resource_unavailable_try_again},
+        {AQS_IO_ERROR, std::errc::io_error},
+    };
+    for (const auto &it : of) CHECK(aqs::error(it.status).code() == it.code);
 }
 
 static void errors() {
@@ -147,7 +315,38 @@ static void errors() {
               mutex.condition().wait(guard);
           })
           == AQS_NOT_OWNER);
+    CHECK(status_of([] {
+              aqs::mutex mutex;
+              std::unique_lock guard(mutex, std::defer_lock);
+              static_changed.wait(guard);
+          })
+          == AQS_NOT_OWNER);
+    CHECK(status_of([] {
+              aqs::mutex mutex, other;
+              std::unique_lock guard(mutex), of_other(other);
+              mutex.condition().wait_for(of_other, 1ms);
+          })
+          == AQS_NOT_OWNER);
+    CHECK(status_of([] {
+              aqs::plain_mutex one;
+              aqs::mutex other(aqs::options().has_conditions(1));
+              std::unique_lock guard(other);
+              other.condition(1).notify_one();
+          })
+          == AQS_NO_SUCH_CONDITION);
+    CHECK(status_of([] { aqs::latch latch(2147483648u); }) == AQS_OUT_OF_RANGE);
     CHECK(status_of([] { aqs::semaphore permits(1); permits.acquire(3000000000u); }) == AQS_BAD_AMOUNT);
+    // The standard's locks throw such errors too, and their users look at the code.
+    try {
+        aqs::mutex mutex;
+        mutex.unlock();
+        CHECK(false);
+    } catch (const std::system_error &error) {
+        CHECK(error.code() == std::errc::operation_not_permitted);
+        CHECK(error.code() != std::errc::timed_out);
+        CHECK(error.code().category() == aqs::category());
+        CHECK(std::string(error.code().category().name()) == "aqs");
+    }
 }
 
 int main(int count, char **words) {
@@ -158,6 +357,12 @@ int main(int count, char **words) {
     queues();
     readers();
     others();
+    over_a_lock();
+    static_objects();
+    questions();
+    condition_objects<aqs::mutex>("guards-conditions");
+    condition_objects<aqs::plain_mutex>("guards-plain-conditions");
     errors();
+    codes();
     std::puts("guards: good");
 }

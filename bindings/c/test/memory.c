@@ -1,43 +1,7 @@
-/* memory.c: what the calls of aqs.h return and leave if an allocation fails. The linker puts the functions
-   below in the place of malloc and the like (see the Makefile). */
+/* memory.c: what the calls of aqs.h return and leave if an allocation fails. */
 #include "check.h"
 
-#include <limits.h>
-
-void *__real_malloc(size_t size);
-void *__real_calloc(size_t count, size_t size);
-void *__real_realloc(void *old, size_t size);
-void *__real_aligned_alloc(size_t alignment, size_t size);
-void __real_free(void *block);
-
-/* How many allocations still succeed, how many were asked for, and how many blocks are held. */
-static long left = LONG_MAX, asked, held;
-
-static bool fails(void) {
-    asked++;
-    if (left == 0) return true;
-    left--;
-    return false;
-}
-
-static void *counted(void *block) {
-    held += block != NULL;
-    return block;
-}
-
-void *__wrap_malloc(size_t size) { return fails() ? NULL : counted(__real_malloc(size)); }
-void *__wrap_calloc(size_t count, size_t size) { return fails() ? NULL : counted(__real_calloc(count, size)); }
-void *__wrap_aligned_alloc(size_t alignment, size_t size) {
-    return fails() ? NULL : counted(__real_aligned_alloc(alignment, size));
-}
-void *__wrap_realloc(void *old, size_t size) {
-    if (fails()) return NULL;
-    return old ? __real_realloc(old, size) : counted(__real_realloc(old, size));
-}
-void __wrap_free(void *block) {
-    held -= block != NULL;
-    __real_free(block);
-}
+#include "heap.h"
 
 /* An object that can be opened and closed. */
 typedef aqs_status_t (*open_t)(void **object, const aqs_options_t *options);

@@ -18,7 +18,7 @@ static unsigned next(unsigned *seed) { return *seed = *seed * 1664525u + 1013904
 static void *interrupt_all(void *none) {
     unsigned seed = 7;
     while (!atomic_load(&is_over)) {
-        aqs_thread_interrupt((aqs_thread_t)(next(&seed) >> 8) % (unsigned)threads);
+        IS(aqs_thread_interrupt((aqs_thread_t)((next(&seed) >> 8) % (unsigned)threads)), AQS_OK);
         usleep(200);
     }
     return none;

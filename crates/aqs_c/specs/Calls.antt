@@ -1,5 +1,5 @@
 -- What a call of C leaves, and what it is answered.
-use Rattle.std.specs.Prelude.{◌≡◌, ◌⊎◌, ◌≤◌, ℕ, ℤ, Bool, List, Option, Some, None, IsSome, Result, Ok, Err, length, take, reverse, slice_get}
+use Rattle.std.specs.Prelude.{◌≡◌, ◌⊎◌, ◌≤◌, ◌<◌, ℕ, ℤ, Bool, List, Option, Some, None, IsSome, Result, Ok, Err, length, take, reverse, slice_get}
 use Rattle.deciding.specs.Balance.{available}
 use Rattle.history.specs.Counts.{count}
 use Rattle.history.specs.declared.entry.Entry.{Entry}
@@ -132,34 +132,40 @@ IsPassEntry (Some old) number a new = (seat : Seated) × (new ≡ Some seat) × 
 abbrev pub text_seen : Shown → List ℕ
 text_seen p = history_text p.seen.base p.seen.entries
 
--- The object was busy; or a text was refused; or its length, and the text where it fits.
-abbrev pub IsSeatText : Seated → ℕ → Seated → List ℕ → List ℕ → ℕ → Type 0
-IsSeatText old kind new out written long =
-    ((kind ≡ 3) × (new ≡ old))
-    ⊎ ((kind ≡ 2) × IsSeatLook old new)
-    ⊎ ((kind ≡ 0) × IsSeatLook old new × (long ≡ length (text_seen new.pass))
-    × (long ≤ length out → take long written ≡ text_seen new.pass))
+-- what a text leaves of the memory for it: it stands there if it fits, and else nothing has changed
+abbrev pub IsPut : List ℕ → List ℕ → List ℕ → Type 0
+IsPut text out written =
+    (length text ≤ length out → take (length text) written ≡ text) × (length out < length text → written ≡ out)
 
-abbrev pub IsPassText : Option Seated → ℕ → Option Seated → List ℕ → List ℕ → ℕ → Type 0
-IsPassText None kind new out written long = (kind ≡ 5) × (new ≡ None)
-IsPassText (Some old) kind new out written long =
-    (seat : Seated) × (new ≡ Some seat) × IsSeatText old kind seat out written long
+-- The object was busy; or a text was refused; or its length, and the text if it fits. Else memory and length are as they
+-- were.
+abbrev pub IsSeatText : Seated → ℕ → Seated → List ℕ → List ℕ → ℕ → ℕ → Type 0
+IsSeatText old kind new out written before long =
+    ((kind ≡ 3) × (new ≡ old) × (written ≡ out) × (long ≡ before))
+    ⊎ ((kind ≡ 2) × IsSeatLook old new × (written ≡ out) × (long ≡ before))
+    ⊎ ((kind ≡ 0) × IsSeatLook old new × (long ≡ length (text_seen new.pass)) × IsPut (text_seen new.pass) out written)
+
+abbrev pub IsPassText : Option Seated → ℕ → Option Seated → List ℕ → List ℕ → ℕ → ℕ → Type 0
+IsPassText None kind new out written before long = (kind ≡ 5) × (new ≡ None) × (written ≡ out) × (long ≡ before)
+IsPassText (Some old) kind new out written before long =
+    (seat : Seated) × (new ≡ Some seat) × IsSeatText old kind seat out written before long
 
 -- a fold, as the monitor promises it, of which nothing else changes
 pub record IsSeatTrim (old : Seated) (r : Result ℕ Fault) (new : Seated) : Type 0 where
   pub trimmed : IsTrim old.pass r new.pass
   pub waiting : new.waiting ≡ old.waiting
 
--- the object was busy, or it had too many entries, or that number was folded
-abbrev pub IsSeatFold : Seated → ℕ → ℕ → Seated → Type 0
-IsSeatFold old kind count new =
-    ((kind ≡ 3) × (new ≡ old))
-    ⊎ ((kind ≡ 2) × (f : Fault) × IsSeatTrim old (Err f) new)
+-- The object was busy, or it had too many entries, or that number was folded. Else the number is as it was.
+abbrev pub IsSeatFold : Seated → ℕ → ℕ → ℕ → Seated → Type 0
+IsSeatFold old kind before count new =
+    ((kind ≡ 3) × (new ≡ old) × (count ≡ before))
+    ⊎ ((kind ≡ 2) × ((f : Fault) × IsSeatTrim old (Err f) new) × (count ≡ before))
     ⊎ ((kind ≡ 0) × IsSeatTrim old (Ok count) new)
 
-abbrev pub IsPassTrim : Option Seated → ℕ → ℕ → Option Seated → Type 0
-IsPassTrim None kind count new = (kind ≡ 5) × (new ≡ None)
-IsPassTrim (Some old) kind count new = (seat : Seated) × (new ≡ Some seat) × IsSeatFold old kind count seat
+abbrev pub IsPassTrim : Option Seated → ℕ → ℕ → ℕ → Option Seated → Type 0
+IsPassTrim None kind before count new = (kind ≡ 5) × (new ≡ None) × (count ≡ before)
+IsPassTrim (Some old) kind before count new =
+    (seat : Seated) × (new ≡ Some seat) × IsSeatFold old kind before count seat
 
 -- the free permits and the count in what a pass has seen
 abbrev pub permits_seen : Shown → ℤ

@@ -132,7 +132,8 @@ pub extern "C" fn aqs_entry_now(
 }
 
 /// The text of the history since the last trim, if no other call has the object. Returns 0, and `length` is
-/// the length of the text, which is written if it fits. Otherwise it returns the kind of an answer.
+/// the length of the text, which is written if it fits. Otherwise it returns the kind of an answer, and
+/// `length` is as it was. If no text is written, `out` is as it was.
 #[unsafe(no_mangle)]
 pub extern "C" fn aqs_text_now(
     alloc: Global,
@@ -140,7 +141,7 @@ pub extern "C" fn aqs_text_now(
     out: &mut [u8],
     length: &mut u64,
 ) -> u8
-    ensures { IsPassText pass.old.held.value result pass.new.held.value out.old out.new length.new }
+    ensures { IsPassText pass.old.held.value result pass.new.held.value out.old out.new length.old length.new }
 {
     match pass.take(alloc) {
         None => NO_PASS,
@@ -161,10 +162,10 @@ pub extern "C" fn aqs_text_now(
 }
 
 /// Folds all entries into the base, if no other call has the object, so that their room is free again.
-/// Returns 0, and `count` is how many. Otherwise it returns the kind of an answer.
+/// Returns 0, and `count` is how many. Otherwise it returns the kind of an answer, and `count` is as it was.
 #[unsafe(no_mangle)]
 pub extern "C" fn aqs_trim_now(alloc: Global, pass: &mut AqsPass, count: &mut u64) -> u8
-    ensures { IsPassTrim pass.old.held.value result count.new pass.new.held.value }
+    ensures { IsPassTrim pass.old.held.value result count.old count.new pass.new.held.value }
 {
     match pass.take(alloc) {
         None => NO_PASS,

@@ -1,7 +1,8 @@
 //! A history as a text, and a text in memory that C owns.
-ghost use Rattle.std.specs.Prelude.{◌≡◌, ◌≤◌, length, take, Some, IfOk};
+ghost use Rattle.std.specs.Prelude.{◌≡◌, Some, IfOk};
 ghost use Rattle.std.specs.Option.{IsSomeAnd};
 ghost use Rattle.history_text.specs.Pieces.{history_text};
+ghost use Rattle.aqs_c.specs.Calls.{IsPut};
 ghost use Rattle.aqs_c.specs.inner.Texts.{IsTextOf};
 
 use history::entries::History;
@@ -25,7 +26,7 @@ pub(crate) fn text_of(alloc: Global, history: &History) -> Result<Vec<u8>, Fault
 
 /// Writes the text if it fits, and nothing otherwise.
 pub(crate) fn put_text(out: &mut [u8], text: &[u8])
-    ensures { length text.now ≤ length out.old → take (length text.now) out.new ≡ text.now }
+    ensures { IsPut text.now out.old out.new }
 {
     if text.len() <= out.len() {
         out[..text.len()].copy_from_slice(text);

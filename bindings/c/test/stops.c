@@ -1,0 +1,327 @@
+/* stops.c: one thread is stopped at each instruction of a call in turn, another makes its calls meanwhile,
+   and then the first goes on. So each order of two calls is tried in which one thread is stopped once: no
+   wake, interrupt or permit is lost, and memory that a close has freed is used by nobody.
+
+   One run of the call is traced: the processor traps after each instruction. In each later run one
+   instruction that it had is replaced by a breakpoint. This is for x86-64, as the library is. */
+#include "heap.h"
+
+#define NEW_ADDRESSES 0 /* who uses an object after its close uses freed memory */
+#include "play.h"
+
+#include <sched.h>
+#include <signal.h>
+#include <sys/mman.h>
+#include <ucontext.h>
+
+enum { PLACES = 20000, OTHERS = 5, SOON = 400, CORE = 40 };
+enum { TRAPS = 0x100, BREAKPOINT = 0xcc };
+
+/* Traps ------------------------------------------------------------------------------------------------ */
+
+extern char __executable_start, etext;
+
+static uint8_t *places[PLACES], *set_at, was;
+static int count_of_places;
+static atomic_bool is_set, traces, is_stopped, goes_on;
+static greg_t return_to, stack_at;
+static _Thread_local bool is_traced, is_main;
+
+static void note_place(uint8_t *at) {
+    if (at < (uint8_t *)&__executable_start || at >= (uint8_t *)&etext) return;
+    for (int i = 0; i < count_of_places; i++) {
+        if (places[i] == at) return;
+    }
+    if (count_of_places < PLACES) places[count_of_places++] = at;
+}
+
+static void stay(void) {
+    atomic_store(&is_stopped, true);
+    while (!atomic_load(&goes_on)) sched_yield();
+}
+
+static void on_trap(int number, siginfo_t *info, void *context) {
+    greg_t *now = ((ucontext_t *)context)->uc_mcontext.gregs;
+    (void)number, (void)info;
+    if (is_traced) {
+        is_traced = now[REG_RIP] != return_to || now[REG_RSP] <= stack_at;
+        if (is_traced) note_place((uint8_t *)now[REG_RIP]);
+        else now[REG_EFL] &= ~(greg_t)TRAPS;
+        return;
+    }
+    now[REG_RIP]--;
+    if (!atomic_exchange(&is_set, false)) return; /* two came to it at a time */
+    *set_at = was;
+    if (!atomic_load(&traces)) {
+        if (!is_main) stay(); /* a function of the C library that both call is no place for a stop */
+        return;
+    }
+    return_to = *(greg_t *)now[REG_RSP], stack_at = now[REG_RSP];
+    is_traced = true;
+    now[REG_EFL] |= TRAPS;
+    note_place(set_at);
+}
+
+static void set(uint8_t *at, bool is_trace) {
+    set_at = at, was = *at;
+    atomic_store(&traces, is_trace);
+    atomic_store(&is_stopped, false);
+    atomic_store(&goes_on, false);
+    atomic_store(&is_set, true);
+    *(volatile uint8_t *)at = BREAKPOINT;
+}
+
+static void unset(void) {
+    if (atomic_exchange(&is_set, false)) *set_at = was;
+    atomic_store(&goes_on, true);
+}
+
+static void prepare(void) {
+    is_main = true;
+    char *begin = (char *)((uintptr_t)&__executable_start & ~(uintptr_t)4095);
+    struct sigaction action = {.sa_sigaction = on_trap, .sa_flags = SA_SIGINFO};
+    CHECK(mprotect(begin, (size_t)(&etext - begin), PROT_READ | PROT_WRITE | PROT_EXEC) == 0);
+    CHECK(sigaction(SIGTRAP, &action, NULL) == 0);
+}
+
+/* Calls of two threads --------------------------------------------------------------------------------- */
+
+/* What holds at the end, where that depends on who came first. */
+enum { NOTHING_MORE, INTERRUPT_OR_OK, PERMIT_OR_TIME };
+
+typedef struct {
+    const char *object, *before, *stopped; /* a call of thread 0 */
+    void *entry;                           /* the function */
+    const char *others[OTHERS];            /* calls of thread 1 */
+    aqs_status_t ends; /* how the call of thread 0 ends, or that of thread 1 if that is not AQS_OK */
+    aqs_status_t other_ends;
+    int also;
+    const char *after;
+} stop_t;
+
+static const stop_t rows[] = {
+    {"semaphore nonfair seats 2 permits 0 cap 64", "", "release 1", (void *)aqs_sem_release, {"acquire 1"},
+     AQS_OK, AQS_OK, 0, "0 getvalue = 0"},
+    {"semaphore nonfair seats 1 permits 0 cap 64", "", "release 1", (void *)aqs_sem_release, {"release 1"},
+     AQS_OK, AQS_OK, 0, "1 getvalue = 2"},
+    {"semaphore fair seats 2 permits 0 cap 64", "", "acquire 1", (void *)aqs_sem_acquire, {"release 1"},
+     AQS_OK, AQS_OK, 0, "0 getvalue = 0"},
+    {"semaphore fair seats 2 permits 0 cap 64", "", "acquire_interruptibly 1",
+     (void *)aqs_sem_acquire_interruptibly, {"interrupt 0"}, AQS_INTERRUPTED, AQS_OK, 0, "0 getvalue = 0"},
+    {"semaphore fair seats 2 permits 0 cap 64", "", "interrupt 1", (void *)aqs_thread_interrupt,
+     {"acquire_interruptibly 1"}, AQS_OK, AQS_INTERRUPTED, 0, "0 getvalue = 0"},
+    {"semaphore fair seats 2 permits 0 cap 64", "", "acquire_interruptibly 1",
+     (void *)aqs_sem_acquire_interruptibly, {"interrupt 0", "release 1"}, AQS_OK, AQS_OK, INTERRUPT_OR_OK,
+     ""},
+    {"semaphore fair seats 2 permits 0 cap 64", "", "acquire_interruptibly 1",
+     (void *)aqs_sem_acquire_interruptibly, {"release 1", "interrupt 0"}, AQS_OK, AQS_OK, INTERRUPT_OR_OK,
+     ""},
+    {"semaphore fair seats 2 permits 0 cap 64", "", "timedacquire 1 1", (void *)aqs_sem_timedacquire,
+     {"release 1"}, AQS_OK, AQS_OK, PERMIT_OR_TIME, ""},
+    {"lock fair seats 2 conditions 1 cap 64", "0 lock = OK", "unlock", (void *)aqs_lock_unlock, {"lock"},
+     AQS_OK, AQS_OK, 0, "0 trylock = WOULD_BLOCK; 1 unlock = OK"},
+    {"lock fair seats 2 conditions 1 cap 64", "0 lock = OK", "wait 0", (void *)aqs_lock_wait,
+     {"lock", "signal 0", "unlock"}, AQS_OK, AQS_OK, 0, "0 unlock = OK"},
+    {"lock fair seats 2 conditions 1 cap 64", "0 lock = OK", "wait_interruptibly 0",
+     (void *)aqs_lock_wait_interruptibly, {"lock", "interrupt 0", "signal 0", "unlock"}, AQS_OK, AQS_OK,
+     INTERRUPT_OR_OK, "0 unlock = OK"},
+    {"rw fair seats 2 conditions 1 cap 64", "0 wrlock = OK", "wrunlock", (void *)aqs_rwlock_wrunlock,
+     {"rdlock"}, AQS_OK, AQS_OK, 0, "0 trywrlock = WOULD_BLOCK; 1 rdunlock = OK"},
+    {"latch seats 2 count 1 cap 64", "", "count_down", (void *)aqs_latch_count_down, {"await", "close"},
+     AQS_OK, AQS_OK, 0, NULL},
+    {"lock nonfair seats 2 conditions 1 cap 64", "0 lock = OK", "unlock", (void *)aqs_lock_unlock,
+     {"lock", "unlock", "close"}, AQS_OK, AQS_OK, 0, NULL},
+    {"semaphore nonfair seats 2 permits 0 cap 64", "", "release 1", (void *)aqs_sem_release,
+     {"acquire 1", "close"}, AQS_OK, AQS_OK, 0, NULL},
+    {"rw nonfair seats 2 conditions 1 cap 64", "0 rdlock = OK", "rdunlock", (void *)aqs_rwlock_rdunlock,
+     {"wrlock", "wrunlock", "close"}, AQS_OK, AQS_OK, 0, NULL},
+};
+
+static void ask_line(kind_t kind, player_t *it, const char *line) {
+    char word[40] = "";
+    unsigned a = 0, b = 0;
+    sscanf(line, "%39s %u %u", word, &a, &b);
+    ask(it, call_of(kind, word), a, b);
+}
+
+/* Waits a little, until a call has ended, or its thread sleeps, or stops. Returns whether it ended. */
+static bool ends_soon(const player_t *it, const atomic_bool *stops, int microseconds) {
+    int64_t until = nanoseconds(CLOCK_MONOTONIC) + microseconds * INT64_C(1000);
+    for (int seen = 0; seen < 2 && nanoseconds(CLOCK_MONOTONIC) < until;) {
+        if (!atomic_load(&it->in_call)) return true;
+        if (stops && atomic_load(stops)) return false;
+        seen = atomic_load(&it->has_begun) && is_asleep(it) ? seen + 1 : 0;
+        sched_yield();
+    }
+    return false;
+}
+
+/* Makes the calls of thread 1, until one doesn't end soon, or in the end for good. Returns how many were
+ * begun. */
+static int make_others(kind_t kind, const stop_t *row, int begun, bool is_for_good) {
+    player_t *other = &players[1];
+    for (;; begun++) {
+        if (begun > 0) {
+            if (is_for_good ? !ends(other, LIMIT) : !ends_soon(other, NULL, SOON)) {
+                if (is_for_good) FAIL("%s doesn't end", row->others[begun - 1]);
+                return begun;
+            }
+            if (other->status != row->other_ends)
+                FAIL("%s is %s", row->others[begun - 1], aqs_status_name(other->status));
+        }
+        if (begun == OTHERS || !row->others[begun]) return begun;
+        ask_line(kind, other, row->others[begun]);
+    }
+}
+
+static void check_end(kind_t kind, const stop_t *row) {
+    player_t *it = &players[0];
+    if (!ends(it, LIMIT)) FAIL("it doesn't end");
+    bool is_ok = it->status == AQS_OK;
+    if (row->also == INTERRUPT_OR_OK) {
+        if (!is_ok && it->status != AQS_INTERRUPTED) FAIL("it is %s", aqs_status_name(it->status));
+        play_lines(kind, is_ok ? "0 interrupted = 1" : "0 interrupted = 0");
+        if (kind == SEM) play_lines(kind, is_ok ? "0 getvalue = 0" : "0 getvalue = 1");
+    } else if (row->also == PERMIT_OR_TIME) {
+        if (!is_ok && it->status != AQS_TIMED_OUT) FAIL("it is %s", aqs_status_name(it->status));
+        play_lines(kind, is_ok ? "0 getvalue = 0" : "0 getvalue = 1");
+    } else if (it->status != row->ends) {
+        FAIL("it is %s", aqs_status_name(it->status));
+    }
+}
+
+/* When thread 1 begins: as thread 0 is stopped, before thread 0 begins, or while it waits, to be stopped only
+ * then. */
+enum { AT_THE_STOP, FIRST, WHILE_IT_WAITS };
+
+static void run(const stop_t *row, uint8_t *at, bool is_trace, int when) {
+    char shown[100];
+    kind_t kind = open_part(row->object);
+    play_name = row->object;
+    play_lines(kind, row->before);
+    snprintf(shown, sizeof shown, "%s, stopped at %p", row->stopped, (void *)at);
+    play_line = shown;
+    int begun = when == FIRST ? make_others(kind, row, 0, false) : 0;
+    if (when != WHILE_IT_WAITS) set(at, is_trace);
+    ask_line(kind, &players[0], row->stopped);
+    ends_soon(&players[0], when != WHILE_IT_WAITS && !is_trace ? &is_stopped : NULL, LIMIT * 1000);
+    if (when == WHILE_IT_WAITS) {
+        set(at, false);
+        ask_line(kind, &players[1], row->others[begun++]);
+        ends_soon(&players[1], NULL, SOON);
+        ends_soon(&players[0], &is_stopped, SOON);
+    }
+    begun = make_others(kind, row, begun, false);
+    unset();
+    make_others(kind, row, begun, true);
+    check_end(kind, row);
+    if (!row->after) return;
+    play_lines(kind, row->after);
+    close_it(kind);
+}
+
+/* Whether a place is in aqs.c, whose last function this is. Behind it the linker puts the proved library. */
+static bool is_own(const uint8_t *at) { return at < (uint8_t *)aqs_history_trim + 256; }
+
+/* Each place of aqs.c, and some of the proved library's. */
+static void stop_everywhere(const stop_t *row) {
+    count_of_places = 0;
+    run(row, row->entry, true, AT_THE_STOP);
+    run(row, row->entry, true, FIRST);
+    CHECK(count_of_places > 5);
+    for (int i = 0; i < count_of_places; i++) {
+        if (is_own(places[i]) || i % CORE == 0) run(row, places[i], false, AT_THE_STOP);
+        if (is_own(places[i]) && i % 8 == 0) run(row, places[i], false, FIRST);
+        if (is_own(places[i]) && row->also == INTERRUPT_OR_OK) run(row, places[i], false, WHILE_IT_WAITS);
+    }
+}
+
+/* Numbers of threads ----------------------------------------------------------------------------------- */
+
+static atomic_int alive, numbers[2];
+
+static void *take_number(void *to) {
+    atomic_store((atomic_int *)to, aqs_thread_self());
+    while (atomic_load(&alive)) usleep(20);
+    return NULL;
+}
+
+/* Two threads get two numbers, one of them stopped at this place of its first call. */
+static void take_two(uint8_t *at, bool is_trace) {
+    pthread_t threads[2];
+    atomic_store(&alive, 1);
+    set(at, is_trace);
+    for (int i = 0; i < 2; i++) {
+        atomic_store(&numbers[i], -1);
+        CHECK(pthread_create(&threads[i], NULL, take_number, &numbers[i]) == 0);
+        for (int looks = 0; looks < 60; looks++) {
+            if (atomic_load(&numbers[i]) >= 0 || (i == 0 && atomic_load(&is_stopped))) break;
+            usleep(20);
+        }
+    }
+    unset();
+    for (int i = 0; i < 2; i++) {
+        while (atomic_load(&numbers[i]) < 0) usleep(20);
+    }
+    int one = atomic_load(&numbers[0]), two = atomic_load(&numbers[1]);
+    if (one == two || one < PLAYERS || two < PLAYERS) FAIL("two threads have numbers %d and %d", one, two);
+    atomic_store(&alive, 0);
+    for (int i = 0; i < 2; i++) CHECK(pthread_join(threads[i], NULL) == 0);
+}
+
+static void numbers_everywhere(void) {
+    play_name = "aqs_thread_self", play_line = "at each place";
+    count_of_places = 0;
+    take_two((uint8_t *)aqs_thread_self, true);
+    for (int i = 0; i < count_of_places; i++) take_two(places[i], false);
+}
+
+/* Seats ------------------------------------------------------------------------------------------------ */
+
+/* No thread remembers a seat of any of these: each is used once. */
+enum { LOCKS = 4000 };
+static aqs_rwlock_t locks[LOCKS];
+static int count_of_locks;
+
+/* Two threads come for one seat, one of them stopped at this place of its call. Each gets a seat of its own.
+   */
+static void claim_two(uint8_t *at, bool is_trace) {
+    CHECK(count_of_locks < LOCKS);
+    rwlock = &locks[count_of_locks++];
+    object = aqs_rwlock_object(rwlock);
+    IS(aqs_rwlock_init(rwlock, &(aqs_options_t){.threads = 2, .history = 64}), AQS_OK);
+    set(at, is_trace);
+    ask(&players[0], RW_rdlock, 0, 0);
+    ends_soon(&players[0], is_trace ? NULL : &is_stopped, LIMIT * 1000);
+    ask(&players[2], RW_rdlock, 0, 0);
+    ends_soon(&players[2], NULL, SOON);
+    unset();
+    for (int i = 0; i < 3; i += 2) {
+        if (!ends(&players[i], LIMIT)) FAIL("thread %d doesn't end", i);
+        if (players[i].status != AQS_OK) FAIL("thread %d gets %s", i, aqs_status_name(players[i].status));
+    }
+    play_lines(RW, "0 text = OK; 0 rdunlock = OK; 2 rdunlock = OK; 0 rdunlock = NOT_OWNER");
+    if (!strstr(text, "\n0 0 got s 1\n1 1 got s 1\nend") && !strstr(text, "\n0 1 got s 1\n1 0 got s 1\nend"))
+        FAIL("two threads have one seat:\n%s", text);
+    aqs_rwlock_close(rwlock);
+}
+
+static void seats_everywhere(void) {
+    play_name = "aqs_rwlock_rdlock", play_line = "at each place";
+    count_of_places = 0;
+    claim_two((uint8_t *)aqs_rwlock_rdlock, true);
+    for (int i = 0; i < count_of_places; i++) {
+        if (is_own(places[i])) claim_two(places[i], false);
+    }
+}
+
+int main(void) {
+    alarm(100);
+    has_own_pages = true;
+    start_players();
+    prepare();
+    numbers_everywhere();
+    seats_everywhere();
+    for (size_t i = 0; i < sizeof rows / sizeof rows[0]; i++) stop_everywhere(&rows[i]);
+    return good("stops");
+}
