@@ -1,21 +1,35 @@
-/* aqs_jni.c: the native methods of aqs.Native, over aqs.h. */
+/* aqs_jni.c: the native methods of aqs.Native, over aqs.h.
+
+   `keep` is the object of Java that has the handle `at`. The native frame holds it, so that it isn't
+   collected, and the handle not closed, during a call. */
 #include "aqs.h"
 
 #include <jni.h>
+#include <stdbool.h>
 #include <stdlib.h>
+
+_Static_assert(
+    AQS_OK == 0 && AQS_TIMED_OUT == 1 && AQS_INTERRUPTED == 2 && AQS_WOULD_BLOCK == 3 && AQS_NOT_OWNER == 4 &&
+        AQS_TOO_MANY_HOLDS == 5 && AQS_TOO_MANY_PERMITS == 6 && AQS_HOLDS_READ == 7 && AQS_BAD_AMOUNT == 9 &&
+        AQS_OUT_OF_MEMORY == 11 && AQS_OUT_OF_RANGE == 12,
+    "the statuses are those of Native.java");
 
 #define NATIVE(result, name) JNIEXPORT result JNICALL Java_aqs_Native_##name
 
 enum { LOCK, READ_WRITE, SEMAPHORE, LATCH };
+enum {
+    WAITS_TO_LOCK, WAITS_ON_CONDITION, WAITS_TO_READ, WAITS_TO_WRITE, WAITS_ON_WRITERS_CONDITION,
+    WAITS_FOR_PERMITS, WAITS_FOR_LATCH
+};
 
-static void *pointer(jlong object) { return (void *)(uintptr_t)object; }
+static void *pointer(jlong at) { return (void *)(uintptr_t)at; }
 
-static aqs_object_t *object_of(jint kind, jlong object) {
+static aqs_object_t *object_of(jint kind, jlong at) {
     switch (kind) {
-        case LOCK: return aqs_lock_object(pointer(object));
-        case READ_WRITE: return aqs_rwlock_object(pointer(object));
-        case SEMAPHORE: return aqs_sem_object(pointer(object));
-        default: return aqs_latch_object(pointer(object));
+        case LOCK: return aqs_lock_object(pointer(at));
+        case READ_WRITE: return aqs_rwlock_object(pointer(at));
+        case SEMAPHORE: return aqs_sem_object(pointer(at));
+        default: return aqs_latch_object(pointer(at));
     }
 }
 
@@ -51,98 +65,123 @@ NATIVE(jlong, open)(JNIEnv *env, jclass class, jint kind, jint number, jint poli
     return status == AQS_OK ? (jlong)(uintptr_t)object : -(jlong)status;
 }
 
-NATIVE(void, close)(JNIEnv *env, jclass class, jint kind, jlong object) {
+NATIVE(void, close)(JNIEnv *env, jclass class, jint kind, jlong at) {
     (void)env, (void)class;
     switch (kind) {
-        case LOCK: aqs_lock_close(pointer(object)); break;
-        case READ_WRITE: aqs_rwlock_close(pointer(object)); break;
-        case SEMAPHORE: aqs_sem_close(pointer(object)); break;
-        default: aqs_latch_close(pointer(object));
+        case LOCK: aqs_lock_close(pointer(at)); break;
+        case READ_WRITE: aqs_rwlock_close(pointer(at)); break;
+        case SEMAPHORE: aqs_sem_close(pointer(at)); break;
+        default: aqs_latch_close(pointer(at));
     }
 }
 
-NATIVE(jint, call)(JNIEnv *env, jclass class, jlong object, jint call, jint number, jint milliseconds) {
-    (void)env, (void)class;
-    void *it = pointer(object);
-    uint8_t at = (uint8_t)number;
-    uint32_t n = (uint32_t)number, ms = (uint32_t)milliseconds;
-    if (call >= 5 && call < 25 && number > UINT8_MAX) return AQS_NO_SUCH_CONDITION;
+/* A call of the object alone, and one with a number. */
+#define CALL(name, call)                                                                     \
+    NATIVE(jint, name)(JNIEnv *env, jclass class, jobject keep, jlong at) {                  \
+        (void)env, (void)class, (void)keep;                                                  \
+        return (jint)call(pointer(at));                                                      \
+    }
+#define CALL_WITH(name, call, type)                                                          \
+    NATIVE(jint, name)(JNIEnv *env, jclass class, jobject keep, jlong at, jint number) {     \
+        (void)env, (void)class, (void)keep;                                                  \
+        return (jint)call(pointer(at), (type)number);                                        \
+    }
+
+CALL(lock, aqs_lock_lock)
+CALL(tryLock, aqs_lock_trylock)
+CALL(unlock, aqs_lock_unlock)
+CALL_WITH(await, aqs_lock_wait, uint8_t)
+CALL_WITH(signal, aqs_lock_signal, uint8_t)
+CALL_WITH(signalAll, aqs_lock_signal_all, uint8_t)
+CALL(readLock, aqs_rwlock_rdlock)
+CALL(tryReadLock, aqs_rwlock_tryrdlock)
+CALL(readUnlock, aqs_rwlock_rdunlock)
+CALL(writeLock, aqs_rwlock_wrlock)
+CALL(tryWriteLock, aqs_rwlock_trywrlock)
+CALL(writeUnlock, aqs_rwlock_wrunlock)
+CALL_WITH(writersAwait, aqs_rwlock_wait, uint8_t)
+CALL_WITH(writersSignal, aqs_rwlock_signal, uint8_t)
+CALL_WITH(writersSignalAll, aqs_rwlock_signal_all, uint8_t)
+CALL_WITH(acquire, aqs_sem_acquire, uint32_t)
+CALL_WITH(tryAcquire, aqs_sem_tryacquire, uint32_t)
+CALL_WITH(release, aqs_sem_release, uint32_t)
+CALL(awaitLatch, aqs_latch_await)
+CALL(countDown, aqs_latch_count_down)
+
+NATIVE(jint, interruptible)(JNIEnv *env, jclass class, jobject keep, jlong at, jint call, jint number) {
+    (void)env, (void)class, (void)keep;
+    void *it = pointer(at);
     switch (call) {
-        case 0: return aqs_lock_lock(it);
-        case 1: return aqs_lock_lock_interruptibly(it);
-        case 2: return aqs_lock_timedlock(it, ms);
-        case 3: return aqs_lock_trylock(it);
-        case 4: return aqs_lock_unlock(it);
-        case 5: return aqs_lock_wait(it, at);
-        case 6: return aqs_lock_wait_interruptibly(it, at);
-        case 7: return aqs_lock_timedwait(it, at, ms);
-        case 8: return aqs_lock_signal(it, at);
-        case 9: return aqs_lock_signal_all(it, at);
-        case 10: return aqs_rwlock_rdlock(it);
-        case 11: return aqs_rwlock_rdlock_interruptibly(it);
-        case 12: return aqs_rwlock_timedrdlock(it, ms);
-        case 13: return aqs_rwlock_tryrdlock(it);
-        case 14: return aqs_rwlock_rdunlock(it);
-        case 15: return aqs_rwlock_wrlock(it);
-        case 16: return aqs_rwlock_wrlock_interruptibly(it);
-        case 17: return aqs_rwlock_timedwrlock(it, ms);
-        case 18: return aqs_rwlock_trywrlock(it);
-        case 19: return aqs_rwlock_wrunlock(it);
-        case 20: return aqs_rwlock_wait(it, at);
-        case 21: return aqs_rwlock_wait_interruptibly(it, at);
-        case 22: return aqs_rwlock_timedwait(it, at, ms);
-        case 23: return aqs_rwlock_signal(it, at);
-        case 24: return aqs_rwlock_signal_all(it, at);
-        case 25: return aqs_sem_acquire(it, n);
-        case 26: return aqs_sem_acquire_interruptibly(it, n);
-        case 27: return aqs_sem_timedacquire(it, n, ms);
-        case 28: return aqs_sem_tryacquire(it, n);
-        case 29: return aqs_sem_release(it, n);
-        case 30: return aqs_latch_count_down(it);
-        case 31: return aqs_latch_await(it);
-        case 32: return aqs_latch_await_interruptibly(it);
-        case 33: return aqs_latch_timedawait(it, ms);
-        default: return AQS_MISUSE;
+        case WAITS_TO_LOCK: return aqs_lock_lock_interruptibly(it);
+        case WAITS_ON_CONDITION: return aqs_lock_wait_interruptibly(it, (uint8_t)number);
+        case WAITS_TO_READ: return aqs_rwlock_rdlock_interruptibly(it);
+        case WAITS_TO_WRITE: return aqs_rwlock_wrlock_interruptibly(it);
+        case WAITS_ON_WRITERS_CONDITION: return aqs_rwlock_wait_interruptibly(it, (uint8_t)number);
+        case WAITS_FOR_PERMITS: return aqs_sem_acquire_interruptibly(it, (uint32_t)number);
+        default: return aqs_latch_await_interruptibly(it);
     }
 }
 
-NATIVE(jlong, drain)(JNIEnv *env, jclass class, jlong semaphore) {
-    (void)env, (void)class;
+NATIVE(jint, timed)(JNIEnv *env, jclass class, jobject keep, jlong at, jint call, jint number,
+                    jint milliseconds) {
+    (void)env, (void)class, (void)keep;
+    void *it = pointer(at);
+    uint32_t time = (uint32_t)milliseconds;
+    switch (call) {
+        case WAITS_TO_LOCK: return aqs_lock_timedlock(it, time);
+        case WAITS_ON_CONDITION: return aqs_lock_timedwait(it, (uint8_t)number, time);
+        case WAITS_TO_READ: return aqs_rwlock_timedrdlock(it, time);
+        case WAITS_TO_WRITE: return aqs_rwlock_timedwrlock(it, time);
+        case WAITS_ON_WRITERS_CONDITION: return aqs_rwlock_timedwait(it, (uint8_t)number, time);
+        case WAITS_FOR_PERMITS: return aqs_sem_timedacquire(it, (uint32_t)number, time);
+        default: return aqs_latch_timedawait(it, time);
+    }
+}
+
+NATIVE(jlong, drain)(JNIEnv *env, jclass class, jobject keep, jlong at) {
+    (void)env, (void)class, (void)keep;
     uint32_t n = 0;
-    aqs_status_t status = aqs_sem_drain(pointer(semaphore), &n);
+    aqs_status_t status = aqs_sem_drain(pointer(at), &n);
     return status == AQS_OK ? (jlong)n : -(jlong)status;
 }
 
-NATIVE(jint, number)(JNIEnv *env, jclass class, jint kind, jlong object, jlongArray into) {
-    (void)class;
+NATIVE(jint, number)(JNIEnv *env, jclass class, jobject keep, jint kind, jlong at, jlongArray into) {
+    (void)class, (void)keep;
     int64_t permits = 0;
     uint32_t count = 0;
-    aqs_status_t status = kind == SEMAPHORE ? aqs_sem_getvalue(pointer(object), &permits)
-                                            : aqs_latch_getcount(pointer(object), &count);
+    aqs_status_t status = kind == SEMAPHORE ? aqs_sem_getvalue(pointer(at), &permits)
+                                            : aqs_latch_getcount(pointer(at), &count);
     jlong number = kind == SEMAPHORE ? (jlong)permits : (jlong)count;
     if (status == AQS_OK) (*env)->SetLongArrayRegion(env, into, 0, 1, &number);
     return (jint)status;
 }
 
-NATIVE(jbyteArray, history)(JNIEnv *env, jclass class, jint kind, jlong object) {
-    (void)class;
+/* Where an array can't be made, an OutOfMemoryError is pending. */
+static void put_text(JNIEnv *env, jobjectArray into, const char *text, size_t length) {
+    jbyteArray array = (*env)->NewByteArray(env, (jsize)length);
+    if (!array) return;
+    (*env)->SetByteArrayRegion(env, array, 0, (jsize)length, (const jbyte *)text);
+    (*env)->SetObjectArrayElement(env, into, 0, array);
+}
+
+NATIVE(jint, history)(JNIEnv *env, jclass class, jobject keep, jint kind, jlong at, jobjectArray into) {
+    (void)class, (void)keep;
     size_t size = 4096, length = 0;
     for (;;) {
-        char *text = malloc(size);
-        if (!text) return NULL;
-        aqs_status_t status = aqs_history_text(object_of(kind, object), text, size, &length);
-        jbyteArray array = status == AQS_OK ? (*env)->NewByteArray(env, (jsize)length) : NULL;
-        if (array) (*env)->SetByteArrayRegion(env, array, 0, (jsize)length, (const jbyte *)text);
+        char *text = size <= INT32_MAX ? malloc(size) : NULL;
+        if (!text) return AQS_OUT_OF_MEMORY;
+        aqs_status_t status = aqs_history_text(object_of(kind, at), text, size, &length);
+        if (status == AQS_OK) put_text(env, into, text, length);
         free(text);
-        if (status != AQS_NO_SPACE) return array;
+        if (status != AQS_NO_SPACE) return (jint)status;
         size = length + length / 8;
     }
 }
 
-NATIVE(jlong, trim)(JNIEnv *env, jclass class, jint kind, jlong object) {
-    (void)env, (void)class;
+NATIVE(jlong, trim)(JNIEnv *env, jclass class, jobject keep, jint kind, jlong at) {
+    (void)env, (void)class, (void)keep;
     uint64_t count = 0;
-    aqs_status_t status = aqs_history_trim(object_of(kind, object), &count);
+    aqs_status_t status = aqs_history_trim(object_of(kind, at), &count);
     return status == AQS_OK ? (jlong)count : -(jlong)status;
 }
 
@@ -153,16 +192,16 @@ NATIVE(jstring, statusName)(JNIEnv *env, jclass class, jint status) {
 
 NATIVE(jint, self)(JNIEnv *env, jclass class) {
     (void)env, (void)class;
-    return aqs_thread_self();
+    aqs_thread_t self = aqs_thread_self();
+    return self != AQS_NO_THREAD ? (jint)self : -1;
 }
 
 NATIVE(jint, interrupt)(JNIEnv *env, jclass class, jint thread) {
     (void)env, (void)class;
-    if (thread < 0 || thread >= AQS_THREADS) return AQS_OUT_OF_RANGE;
-    return aqs_thread_interrupt((aqs_thread_t)thread);
+    return (jint)aqs_thread_interrupt((aqs_thread_t)thread);
 }
 
-NATIVE(jboolean, interrupted)(JNIEnv *env, jclass class) {
+NATIVE(void, clearInterrupt)(JNIEnv *env, jclass class) {
     (void)env, (void)class;
-    return aqs_thread_interrupted() ? JNI_TRUE : JNI_FALSE;
+    aqs_thread_interrupted();
 }

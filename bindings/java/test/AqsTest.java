@@ -1,26 +1,34 @@
+import aqs.AqsCountDownLatch;
+import aqs.AqsCyclicBarrier;
 import aqs.AqsException;
-import aqs.AqsLatch;
 import aqs.AqsLock;
 import aqs.AqsObject;
 import aqs.AqsOptions;
 import aqs.AqsReadWriteLock;
 import aqs.AqsSemaphore;
-import aqs.AqsThreads;
+import java.nio.charset.StandardCharsets;
 import java.nio.file.Files;
 import java.nio.file.Path;
+import java.nio.file.Paths;
 import java.util.ArrayDeque;
 import java.util.ArrayList;
+import java.util.Collections;
 import java.util.List;
-import java.util.concurrent.Callable;
+import java.util.Random;
+import java.util.concurrent.BrokenBarrierException;
 import java.util.concurrent.TimeUnit;
 import java.util.concurrent.atomic.AtomicInteger;
-import java.util.concurrent.atomic.AtomicReference;
+import java.util.concurrent.atomic.AtomicIntegerArray;
 import java.util.concurrent.locks.Condition;
+import java.util.concurrent.locks.Lock;
+import java.util.concurrent.locks.LockSupport;
+import java.util.concurrent.locks.ReentrantLock;
 
-/** Each class once: java AqsTest FOLDER, which gets the histories. */
+/** What one scenario can't say: many threads at once, and what the JDK hasn't. java AqsTest FOLDER */
 final class AqsTest {
     private static Path folder;
-    private static int count;
+
+    private AqsTest() {}
 
     interface Work {
         void run() throws Exception;
@@ -32,18 +40,37 @@ final class AqsTest {
         }
     }
 
-    static void keep(String name, AqsObject object) throws Exception {
-        String text = object.history();
-        check(text.startsWith("aqs-history "));
-        Files.writeString(folder.resolve("java-" + name + ".history"), text);
+    static void same(Object found, Object expected) {
+        if (!found.equals(expected)) {
+            throw new AssertionError(found + ", not " + expected);
+        }
+    }
+
+    static void throwing(Class<? extends Throwable> expected, Work work) {
+        try {
+            work.run();
+        } catch (Throwable found) {
+            same(found.getClass(), expected);
+            return;
+        }
+        throw new AssertionError("no " + expected);
+    }
+
+    static void refused(Work work) {
+        throwing(IllegalArgumentException.class, work);
+    }
+
+    static void keep(String name, String history) throws Exception {
+        check(history.startsWith("aqs-history "));
+        Files.write(folder.resolve("java-" + name + ".history"), history.getBytes(StandardCharsets.US_ASCII));
     }
 
     static Thread start(Work work) {
         Thread thread = new Thread(() -> {
             try {
                 work.run();
-            } catch (Throwable error) {
-                error.printStackTrace();
+            } catch (Throwable fault) {
+                fault.printStackTrace();
                 System.exit(1);
             }
         });
@@ -51,150 +78,403 @@ final class AqsTest {
         return thread;
     }
 
-    static <T> T inOther(Callable<T> call) throws Exception {
-        AtomicReference<T> found = new AtomicReference<>();
-        start(() -> found.set(call.call())).join();
-        return found.get();
-    }
-
-    static void refused(String name, Runnable call) {
-        try {
-            call.run();
-        } catch (AqsException error) {
-            check(error.getMessage().equals(name));
-            return;
+    static void join(List<Thread> threads) throws InterruptedException {
+        for (Thread thread : threads) {
+            thread.join();
         }
-        check(false);
     }
 
-    static void locks() throws Exception {
-        try (AqsLock lock = new AqsLock(new AqsOptions().fair().keepHistory())) {
+    static AqsOptions kept(boolean fair) {
+        AqsOptions how = new AqsOptions().keepHistory();
+        return fair ? how.fair() : how;
+    }
+
+    /** Threads that are interrupted all the time, while they acquire in each way. */
+    static final class Storm {
+        private static final int THREADS = 6, ROUNDS = 100, INTERRUPTS = 150;
+        private final AtomicIntegerArray owed = new AtomicIntegerArray(THREADS);
+        private final AtomicInteger sent = new AtomicInteger(), seen = new AtomicInteger();
+        private final AtomicInteger running = new AtomicInteger(THREADS);
+        private int inside, got;
+
+        interface Way {
+            boolean acquire(int kind) throws InterruptedException;
+        }
+
+        /** Each interrupt comes out once: as an exception, or as a flag that is still set. */
+        void run(Way way, Work release) throws Exception {
             List<Thread> threads = new ArrayList<>();
-            for (int t = 0; t < 4; t++) {
+            AtomicInteger acquired = new AtomicInteger();
+            for (int t = 0; t < THREADS; t++) {
+                int me = t;
                 threads.add(start(() -> {
-                    for (int i = 0; i < 500; i++) {
-                        lock.lock();
-                        lock.lock();
-                        count++;
-                        lock.unlock();
-                        lock.unlock();
+                    Random random = new Random(me);
+                    for (int i = 0; i < ROUNDS || seen.get() < INTERRUPTS; i++) {
+                        if (once(me, way, random.nextInt(4))) {
+                            acquired.incrementAndGet();
+                            inside++;
+                            check(inside == 1);
+                            got++;
+                            inside--;
+                            release.run();
+                        } else {
+                            LockSupport.parkNanos(50_000);
+                        }
+                        takeFlag(me);
                     }
+                    running.decrementAndGet();
                 }));
             }
-            for (Thread thread : threads) {
-                thread.join();
-            }
-            check(count == 2000);
-            lock.lock();
-            check(!inOther(lock::tryLock));
-            check(!inOther(() -> lock.tryLock(10, TimeUnit.MILLISECONDS)));
-            AtomicInteger number = new AtomicInteger(-1);
-            AtomicInteger interrupts = new AtomicInteger();
-            Thread waiter = start(() -> {
-                number.set(AqsThreads.current());
-                try {
-                    lock.lockInterruptibly();
-                } catch (InterruptedException end) {
-                    interrupts.incrementAndGet();
+            Random random = new Random(7);
+            while (running.get() > 0) {
+                int to = random.nextInt(THREADS);
+                if (owed.compareAndSet(to, 0, 1)) {
+                    sent.incrementAndGet();
+                    threads.get(to).interrupt();
                 }
-            });
-            while (number.get() < 0) {
+                Thread.yield();
+            }
+            join(threads);
+            same(got, acquired.get());
+            int unseen = 0;
+            for (int t = 0; t < THREADS; t++) {
+                unseen += owed.get(t);
+            }
+            same(seen.get() + unseen, sent.get());
+            check(seen.get() >= INTERRUPTS && got > ROUNDS);
+        }
+
+        private boolean once(int me, Way way, int kind) {
+            try {
+                return way.acquire(kind);
+            } catch (InterruptedException interrupt) {
+                check(!Thread.currentThread().isInterrupted());
+                see(me);
+                return false;
+            }
+        }
+
+        /** What the interrupter sent comes soon. */
+        private void takeFlag(int me) {
+            if (Thread.interrupted()) {
+                see(me);
+            }
+        }
+
+        private void see(int me) {
+            seen.incrementAndGet();
+            check(owed.compareAndSet(me, 1, 0));
+        }
+    }
+
+    static boolean acquire(Lock lock, int kind) throws InterruptedException {
+        switch (kind) {
+            case 0: lock.lock(); return true;
+            case 1: lock.lockInterruptibly(); return true;
+            case 2: return lock.tryLock(1, TimeUnit.MILLISECONDS);
+            default: return lock.tryLock();
+        }
+    }
+
+    static boolean acquire(AqsSemaphore permits, int kind) throws InterruptedException {
+        switch (kind) {
+            case 0: permits.acquireUninterruptibly(2); return true;
+            case 1: permits.acquire(2); return true;
+            case 2: return permits.tryAcquire(2, 1, TimeUnit.MILLISECONDS);
+            default: return permits.tryAcquire(2);
+        }
+    }
+
+    static void interruptedLocks(boolean fair) throws Exception {
+        try (AqsLock lock = new AqsLock(kept(fair));
+                AqsReadWriteLock sides = new AqsReadWriteLock(kept(fair));
+                AqsSemaphore permits = new AqsSemaphore(3, kept(fair))) {
+            new Storm().run(kind -> acquire(lock, kind), lock::unlock);
+            new Storm().run(kind -> acquire(sides.writeLock(), kind), sides.writeLock()::unlock);
+            new Storm().run(kind -> acquire(permits, kind), () -> permits.release(2));
+            same(permits.availablePermits(), 3);
+            check(lock.tryLock() && sides.writeLock().tryLock());
+            keep("interrupted-lock-" + fair, lock.history());
+            keep("interrupted-writers-" + fair, sides.history());
+            keep("interrupted-semaphore-" + fair, permits.history());
+        }
+    }
+
+    /**
+     * A queue over two conditions, with a producer and consumers that are interrupted and put back to work.
+     */
+    static void buffer(Lock lock) throws Exception {
+        Condition notEmpty = lock.newCondition();
+        Condition notFull = lock.newCondition();
+        ArrayDeque<Integer> items = new ArrayDeque<>();
+        AtomicInteger sum = new AtomicInteger(), left = new AtomicInteger(1200);
+        List<Thread> threads = new ArrayList<>();
+        for (int t = 0; t < 3; t++) {
+            threads.add(start(() -> {
+                for (int i = 0; i < 400; i++) {
+                    sum.addAndGet(taken(lock, notEmpty, notFull, items));
+                    left.decrementAndGet();
+                }
+            }));
+        }
+        Thread interrupter = start(() -> {
+            while (left.get() > 0) {
+                threads.forEach(Thread::interrupt);
                 Thread.sleep(1);
             }
-            AqsThreads.interrupt(number.get());
-            waiter.join();
-            check(interrupts.get() == 1);
+        });
+        for (int i = 0; i < 1200; i++) {
+            lock.lock();
+            while (items.size() == 2) {
+                notFull.awaitUninterruptibly();
+            }
+            items.add(i);
+            notEmpty.signal();
             lock.unlock();
-            refused("AQS_NOT_OWNER", lock::unlock);
-            keep("lock", lock);
-            check(lock.trim() > 4000);
+        }
+        join(threads);
+        interrupter.join();
+        same(sum.get(), 1200 * 1199 / 2);
+    }
+
+    static int taken(Lock lock, Condition notEmpty, Condition notFull, ArrayDeque<Integer> items) {
+        lock.lock();
+        try {
+            while (items.isEmpty()) {
+                try {
+                    notEmpty.await();
+                } catch (InterruptedException again) {
+                    // Who is interrupted looks again.
+                }
+            }
+            notFull.signal();
+            return items.remove();
+        } finally {
+            lock.unlock();
+        }
+    }
+
+    /** As many conditions as one likes, each with a waiter, signalled in any order. */
+    static void manyConditions(Lock lock, int number) throws Exception {
+        List<Condition> conditions = new ArrayList<>();
+        boolean[] told = new boolean[number];
+        List<Integer> order = new ArrayList<>();
+        List<Thread> threads = new ArrayList<>();
+        AtomicInteger waiting = new AtomicInteger();
+        for (int i = 0; i < number; i++) {
+            Condition condition = lock.newCondition();
+            int me = i;
+            conditions.add(condition);
+            order.add(i);
+            threads.add(start(() -> {
+                lock.lock();
+                waiting.incrementAndGet();
+                while (!told[me]) {
+                    if (me % 3 == 0) {
+                        condition.await();
+                    } else if (me % 3 == 1) {
+                        condition.awaitUninterruptibly();
+                    } else {
+                        condition.awaitNanos(TimeUnit.MINUTES.toNanos(1));
+                    }
+                }
+                lock.unlock();
+            }));
+        }
+        Collections.shuffle(order, new Random(5));
+        while (waiting.get() < number) {
+            Thread.sleep(1);
+        }
+        for (int i : order) {
+            lock.lock();
+            told[i] = true;
+            if (i % 2 == 0) {
+                conditions.get(i).signal();
+            } else {
+                conditions.get(i).signalAll();
+            }
+            lock.unlock();
+            threads.get(i).join();
+        }
+    }
+
+    /**
+     * While 16 conditions have waiters, whatever others there are, a signal wakes a waiter of its own and no
+     * other.
+     */
+    static void ownSignals(Lock lock, int number, int unused) throws Exception {
+        AtomicIntegerArray wakes = new AtomicIntegerArray(number);
+        List<Condition> conditions = new ArrayList<>();
+        List<Thread> threads = new ArrayList<>();
+        AtomicInteger waiting = new AtomicInteger();
+        for (int i = 0; i < number; i++) {
+            int me = i;
+            Condition condition = lock.newCondition();
+            for (int more = 0; more < unused; more++) {
+                lock.newCondition();
+            }
+            conditions.add(condition);
+            threads.add(start(() -> {
+                lock.lock();
+                waiting.incrementAndGet();
+                condition.await();
+                wakes.incrementAndGet(me);
+                lock.unlock();
+            }));
+        }
+        while (waiting.get() < number) {
+            Thread.sleep(1);
+        }
+        for (int i = number - 1; i >= 0; i--) {
+            lock.lock();
+            conditions.get(i).signal();
+            lock.unlock();
+            threads.get(i).join();
+            for (int other = 0; other < number; other++) {
+                same(wakes.get(other), other < i ? 0 : 1);
+            }
         }
     }
 
     static void conditions() throws Exception {
-        try (AqsLock lock = new AqsLock(new AqsOptions().conditions(2).keepHistory())) {
-            Condition notEmpty = lock.newCondition();
-            Condition notFull = lock.newCondition();
-            ArrayDeque<Integer> items = new ArrayDeque<>();
-            AtomicInteger sum = new AtomicInteger();
-            Thread consumer = start(() -> {
-                for (int i = 0; i < 500; i++) {
-                    lock.lock();
-                    while (items.isEmpty()) {
-                        notEmpty.await();
-                    }
-                    sum.addAndGet(items.remove());
-                    notFull.signal();
-                    lock.unlock();
-                }
-            });
-            for (int i = 0; i < 500; i++) {
-                lock.lock();
-                while (items.size() == 3) {
-                    notFull.awaitUninterruptibly();
-                }
-                items.add(i);
-                notEmpty.signalAll();
-                lock.unlock();
+        for (int number : new int[] {1, 2, 16}) {
+            try (AqsLock lock = new AqsLock(kept(false).conditions(number));
+                    AqsReadWriteLock sides = new AqsReadWriteLock(kept(true).conditions(number))) {
+                manyConditions(lock, 40);
+                manyConditions(sides.writeLock(), 40);
+                buffer(lock);
+                ownSignals(lock, number, 0);
+                ownSignals(sides.writeLock(), number, 3);
+                keep("conditions-" + number, lock.history());
+                keep("writers-conditions-" + number, sides.history());
             }
-            consumer.join();
-            check(sum.get() == 500 * 499 / 2);
-            lock.lock();
-            check(!notEmpty.await(5, TimeUnit.MILLISECONDS));
-            check(notEmpty.awaitNanos(1000) <= 0);
-            Condition none = lock.newCondition();
-            refused("AQS_NO_SUCH_CONDITION", none::signal);
-            lock.unlock();
-            keep("conditions", lock);
+        }
+        manyConditions(new ReentrantLock(), 40);
+        ownSignals(new ReentrantLock(), 16, 1);
+        buffer(new ReentrantLock());
+        try (AqsLock lock = new AqsLock(kept(false)); AqsLock plain = new AqsLock()) {
+            ownSignals(lock, 16, 1);
+            Condition one = lock.newCondition(), other = plain.newCondition();
+            plain.lock();
+            throwing(IllegalArgumentException.class, () -> plain.hasWaiters(one));
+            Condition foreign = new ReentrantLock().newCondition();
+            throwing(IllegalArgumentException.class, () -> plain.getWaitQueueLength(foreign));
+            throwing(NullPointerException.class, () -> plain.hasWaiters(null));
+            check(!plain.hasWaiters(other));
+            keep("own-signals", lock.history());
         }
     }
 
-    static void others() throws Exception {
-        try (AqsReadWriteLock lock = new AqsReadWriteLock(new AqsOptions().keepHistory())) {
-            lock.readLock().lock();
-            check(inOther(() -> lock.readLock().tryLock(1, TimeUnit.SECONDS) && unlocked(lock)));
-            check(!inOther(() -> lock.writeLock().tryLock()));
-            lock.readLock().unlock();
+    static void mostHolds(Lock side) {
+        for (int i = 0; i < 65535; i++) {
+            side.lock();
+        }
+        throwing(Error.class, side::lock);
+        throwing(Error.class, side::tryLock);
+        throwing(Error.class, () -> side.tryLock(1, TimeUnit.SECONDS));
+        for (int i = 0; i < 65535; i++) {
+            side.unlock();
+        }
+        throwing(IllegalMonitorStateException.class, side::unlock);
+    }
+
+    static void sides() throws Exception {
+        try (AqsReadWriteLock lock = new AqsReadWriteLock(new AqsOptions().mostEntries(1 << 18))) {
+            mostHolds(lock.readLock());
+            mostHolds(lock.writeLock());
+            Condition met = lock.writeLock().newCondition();
             lock.writeLock().lock();
-            check(!inOther(() -> lock.readLock().tryLock(5, TimeUnit.MILLISECONDS)));
-            check(!lock.writeLock().newCondition().await(5, TimeUnit.MILLISECONDS));
+            lock.readLock().lock();
+            throwing(IllegalMonitorStateException.class, met::await);
+            throwing(IllegalMonitorStateException.class, () -> met.await(1, TimeUnit.MILLISECONDS));
+            same(lock.getWriteHoldCount(), 1);
+            same(lock.getReadHoldCount(), 1);
+            same(lock.toString().substring(lock.toString().indexOf('[')), "[Write locks = 1]");
+            lock.readLock().unlock();
+            check(!met.await(1, TimeUnit.MILLISECONDS));
             lock.writeLock().unlock();
-            keep("rwlock", lock);
         }
-        try (AqsSemaphore permits = new AqsSemaphore(2, new AqsOptions().strict().keepHistory())) {
-            permits.acquireUninterruptibly(1);
-            check(!permits.tryAcquire(2));
-            check(!permits.tryAcquire(2, 5, TimeUnit.MILLISECONDS));
-            permits.release(4);
-            permits.acquire(1);
-            check(permits.availablePermits() == 4);
-            check(permits.drainPermits() == 4);
-            keep("semaphore", permits);
-        }
-        try (AqsLatch latch = new AqsLatch(2, new AqsOptions().keepHistory())) {
-            Thread waiter = start(latch::await);
-            check(!latch.await(5, TimeUnit.MILLISECONDS));
-            latch.countDown();
-            check(latch.getCount() == 1);
-            latch.countDown();
-            waiter.join();
-            latch.awaitUninterruptibly();
-            keep("latch", latch);
-        }
-        refused("AQS_OUT_OF_RANGE", () -> new AqsLock(new AqsOptions().threads(257)));
-        refused("AQS_OUT_OF_RANGE", () -> new AqsLatch(-1));
     }
 
-    static boolean unlocked(AqsReadWriteLock lock) {
-        lock.readLock().unlock();
-        return true;
+    static void options() throws Exception {
+        refused(() -> new AqsLock(new AqsOptions().threads(257)));
+        refused(() -> new AqsLock(new AqsOptions().threads(-1)));
+        refused(() -> new AqsLock(new AqsOptions().threads(65540)));
+        refused(() -> new AqsLock(new AqsOptions().conditions(17)));
+        refused(() -> new AqsReadWriteLock(new AqsOptions().conditions(257)));
+        refused(() -> new AqsReadWriteLock(new AqsOptions().conditions(-1)));
+        refused(() -> new AqsSemaphore(1, new AqsOptions().mostEntries(1)));
+        refused(() -> new AqsSemaphore(1, new AqsOptions().conditions(1)));
+        refused(() -> new AqsCountDownLatch(-1));
+        refused(() -> new AqsCyclicBarrier(0));
+        AqsLock lock = new AqsLock(new AqsOptions().strict());
+        Condition met = lock.newCondition();
+        check(lock.isFair());
+        lock.close();
+        lock.close();
+        check(lock.toString().endsWith("[Closed]"));
+        throwing(IllegalStateException.class, lock::lock);
+        throwing(IllegalStateException.class, lock::tryLock);
+        throwing(IllegalStateException.class, met::signal);
+        throwing(IllegalStateException.class, lock::history);
+        try (AqsSemaphore full = new AqsSemaphore(0, new AqsOptions().keepHistory().mostEntries(16))) {
+            check(!full.isFair());
+            full.release(100);
+            try {
+                for (int i = 0; i < 16; i++) {
+                    full.acquire();
+                }
+                check(false);
+            } catch (AqsException fault) {
+                same(fault.getMessage(), "AQS_HISTORY_FULL");
+            }
+            check(full.trim() >= 15);
+            check(full.tryAcquire());
+        }
+    }
+
+    static void barriers() throws Exception {
+        AtomicInteger met = new AtomicInteger();
+        List<String> order = Collections.synchronizedList(new ArrayList<>());
+        try (AqsCyclicBarrier barrier = new AqsCyclicBarrier(4, met::incrementAndGet, kept(true))) {
+            List<Thread> threads = new ArrayList<>();
+            AtomicInteger sum = new AtomicInteger();
+            for (int t = 0; t < 4; t++) {
+                threads.add(start(() -> {
+                    for (int i = 0; i < 100; i++) {
+                        sum.addAndGet(barrier.await());
+                        check(met.get() > i);
+                    }
+                }));
+            }
+            join(threads);
+            same(met.get(), 100);
+            same(sum.get(), 100 * (0 + 1 + 2 + 3));
+            keep("barrier", barrier.history());
+        }
+        try (AqsCyclicBarrier barrier = new AqsCyclicBarrier(2, () -> {
+            order.add("action");
+            throw new IllegalStateException();
+        })) {
+            Thread other = start(() -> throwing(BrokenBarrierException.class, barrier::await));
+            while (barrier.getNumberWaiting() < 1) {
+                Thread.sleep(1);
+            }
+            throwing(IllegalStateException.class, barrier::await);
+            other.join();
+            check(barrier.isBroken());
+            same(order.size(), 1);
+        }
     }
 
     public static void main(String[] words) throws Exception {
-        folder = Path.of(words[0]);
-        locks();
+        folder = Paths.get(words[0]);
+        options();
+        sides();
         conditions();
-        others();
+        barriers();
+        interruptedLocks(false);
+        interruptedLocks(true);
         System.out.println("java: good");
     }
 }

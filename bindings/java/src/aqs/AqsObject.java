@@ -3,108 +3,200 @@ package aqs;
 import java.nio.charset.StandardCharsets;
 import java.util.concurrent.TimeUnit;
 
-/** An object and its history. It may be closed once no thread is in a call of it, and is not called later. */
+/**
+ * An object of the library: it records its calls.
+ *
+ * <p>Each constructor, and each call but `toString` and `isFair`, throws UnsupportedOperationException if a
+ * virtual thread makes it. Each call may throw {@link AqsException}, which says what can't be as the JDK has
+ * no word for it, or OutOfMemoryError. It throws IllegalStateException if the object is closed. After an
+ * exception nothing has changed, unless the call says otherwise.
+ */
 public abstract class AqsObject implements AutoCloseable {
+    private static final long NANOSECONDS = 1_000_000;
+
     private final int kind;
-    private long object;
+    private final boolean fair;
+    private final Memory memory;
+    private volatile long at;
 
     AqsObject(int kind, int number, AqsOptions how) {
+        Callers.check();
         this.kind = kind;
-        object = checked(
-            Native.open(kind, number, how.policy, how.keeps, how.entries, how.threads, how.conditions));
+        fair = how.policy != 0;
+        boolean hasConditions = kind == Native.LOCK || kind == Native.READ_WRITE;
+        int conditions = hasConditions ? how.mostConditions() : how.conditions;
+        at = checked(Native.open(kind, number, how.policy, how.keeps, how.entries, how.threads, conditions));
+        memory = new Memory(this, kind, at);
     }
 
-    /** The text of the history since the last trim, as `aqs audit` and `aqs draw` read it. */
+    /**
+     * Returns the text of the history since the last trim, as `aqs audit` and `aqs draw` read it.
+     *
+     * @return the text
+     */
     public final String history() {
-        byte[] text = Native.history(kind, handle());
-        if (text == null) {
-            throw new OutOfMemoryError("aqs: the history");
-        }
-        return new String(text, StandardCharsets.US_ASCII);
+        byte[][] text = new byte[1][];
+        must(Native.history(this, kind, handle(), text));
+        return new String(text[0], StandardCharsets.US_ASCII);
     }
 
-    /** Forgets the recorded entries, and returns how many. */
+    /**
+     * Forgets the recorded entries. Nothing else changes.
+     *
+     * @return how many there were
+     */
     public final long trim() {
-        return checked(Native.trim(kind, handle()));
+        return checked(Native.trim(this, kind, handle()));
+    }
+
+    /**
+     * Returns whether new calls queue up after those that wait. A latch ignores it.
+     *
+     * @return whether the object was opened as fair or strict
+     */
+    public final boolean isFair() {
+        return fair;
+    }
+
+    /**
+     * Frees the native memory. No thread may be in a call of the object, and none may own it. Later calls
+     * throw IllegalStateException, but another close does nothing. An object that nobody closes is closed
+     * some time after it can't be reached any more.
+     */
+    @Override
+    public final void close() {
+        Callers.check();
+        at = 0;
+        memory.free();
+    }
+
+    /** What the class's toString appends, if it can be had. */
+    abstract String state();
+
+    /** As that of the JDK's class. It also says so if the object is closed. */
+    @Override
+    public String toString() {
+        return super.toString() + (at == 0 ? "[Closed]" : Callers.isVirtual() ? "" : state());
+    }
+
+    /** The handle for a call that this thread may make. */
+    final long handle() {
+        Callers.check();
+        long open = at;
+        if (open == 0) {
+            throw new IllegalStateException("aqs: closed");
+        }
+        return open;
     }
 
     /** The free permits of a semaphore, or the count of a latch. */
     final long number() {
         long[] into = new long[1];
-        int status = Native.number(kind, handle(), into);
-        if (status != Native.OK) {
-            throw new AqsException(status);
-        }
+        must(Native.number(this, kind, handle(), into));
         return into[0];
     }
 
-    @Override
-    public final void close() {
-        if (object != 0) {
-            Native.close(kind, object);
-            object = 0;
+    /** A call that an interrupt may end. */
+    final void interruptibly(int call, int number) throws InterruptedException {
+        long open = handle();
+        int status = Native.INTERRUPTED;
+        boolean sent = false;
+        Waits waits = Waits.enter();
+        try {
+            status = Native.interruptible(this, open, call, number);
+        } finally {
+            sent = waits.leave();
         }
+        ended(status, sent);
     }
 
-    final long handle() {
-        if (object == 0) {
-            throw new IllegalStateException("aqs: closed");
-        }
-        return object;
-    }
-
-    /** A call that must come to what it asks for. */
-    final void must(Native.Call call, int number) {
-        int status = Native.call(handle(), call.ordinal(), number, 0);
-        if (status != Native.OK) {
-            throw new AqsException(status);
-        }
-    }
-
-    /** One that an interrupt may end. */
-    final void interruptibly(Native.Call call, int number) throws InterruptedException {
-        taken(Native.call(handle(), call.ordinal(), number, 0));
-    }
-
-    /** One that may end without what it asks for: false. */
-    final boolean tried(Native.Call call, int number) {
-        int status = Native.call(handle(), call.ordinal(), number, 0);
-        if (status != Native.OK && status != Native.WOULD_BLOCK) {
-            throw new AqsException(status);
-        }
-        return status == Native.OK;
-    }
-
-    final boolean timed(Native.Call call, int number, long time, TimeUnit unit) throws InterruptedException {
-        return taken(Native.call(handle(), call.ordinal(), number, milliseconds(time, unit)));
-    }
-
-    private static boolean taken(int status) throws InterruptedException {
-        switch (status) {
-            case Native.OK:
+    /** The same, for at most this time. Returns whether it came to what it asks for. */
+    final boolean timed(int call, int number, long time, TimeUnit unit) throws InterruptedException {
+        long left = unit.toNanos(time);
+        long end = System.nanoTime() + Math.max(0, left);
+        do {
+            if (timedOnce(call, number, left)) {
                 return true;
-            case Native.TIMED_OUT:
-                return false;
-            case Native.INTERRUPTED:
-                throw new InterruptedException("aqs");
-            default:
-                throw new AqsException(status);
+            }
+            left = end - System.nanoTime();
+        } while (left > 0);
+        return false;
+    }
+
+    /**
+     * The same, but it may end before its time, as no call of the library is for longer than some 24 days.
+     */
+    final boolean timedOnce(int call, int number, long nanoseconds) throws InterruptedException {
+        long open = handle();
+        int status = Native.INTERRUPTED;
+        boolean sent = false;
+        Waits waits = Waits.enter();
+        try {
+            status = Native.timed(this, open, call, number, milliseconds(nanoseconds));
+        } finally {
+            sent = waits.leave();
+        }
+        return ended(status, sent);
+    }
+
+    /** What an interruptible call comes to. An interrupt that didn't end it stays set in the thread. */
+    private static boolean ended(int status, boolean sent) throws InterruptedException {
+        if (status == Native.INTERRUPTED) {
+            if (sent) {
+                Thread.interrupted();
+            }
+            throw new InterruptedException();
+        }
+        return status != Native.TIMED_OUT && tried(status);
+    }
+
+    /** Rounded up. */
+    private static int milliseconds(long nanoseconds) {
+        long whole = nanoseconds / NANOSECONDS + (nanoseconds % NANOSECONDS > 0 ? 1 : 0);
+        return (int) Math.max(0, Math.min(whole, Integer.MAX_VALUE));
+    }
+
+    /** Throws unless the call came to what it asks for. */
+    static void must(int status) {
+        if (status != Native.OK) {
+            throw fault(status);
         }
     }
 
-    /** Rounded up, at most some 24 days. */
-    private static int milliseconds(long time, TimeUnit unit) {
-        long whole = unit.toMillis(time);
-        if (unit.convert(whole, TimeUnit.MILLISECONDS) < time) {
-            whole++;
+    /** Whether a try came to what it asks for. */
+    static boolean tried(int status) {
+        if (status == Native.WOULD_BLOCK) {
+            return false;
         }
-        return (int) Math.max(0, Math.min(whole, Integer.MAX_VALUE));
+        must(status);
+        return true;
     }
 
     static long checked(long value) {
         if (value < 0) {
-            throw new AqsException((int) -value);
+            throw fault((int) -value);
         }
         return value;
+    }
+
+    /** What the JDK throws in such a case, or an AqsException where it has no such case. */
+    private static RuntimeException fault(int status) {
+        switch (status) {
+            case Native.NOT_OWNER:
+                return new IllegalMonitorStateException();
+            case Native.HOLDS_READ:
+                return new IllegalMonitorStateException("aqs: the thread also holds the lock to read");
+            case Native.BAD_AMOUNT:
+            case Native.OUT_OF_RANGE:
+                return new IllegalArgumentException("aqs: a number is out of range");
+            case Native.TOO_MANY_HOLDS:
+                throw new Error("Maximum lock count exceeded");
+            case Native.TOO_MANY_PERMITS:
+                throw new Error("Maximum permit count exceeded");
+            case Native.OUT_OF_MEMORY:
+                throw new OutOfMemoryError("aqs");
+            default:
+                return new AqsException(status);
+        }
     }
 }

@@ -1,46 +1,83 @@
 package aqs;
 
-/** How an object is opened. What isn't set has its default (aqs.h). */
+/** How an object is opened. What isn't set has its default. */
 public final class AqsOptions {
+    private static final int MOST_CONDITIONS = 16;
+
     int policy;
     boolean keeps;
     int entries;
     int threads;
     int conditions;
 
-    /** New calls queue up after those who wait. Tries without a time barge. */
+    /** The defaults: not fair, and a full history is forgotten. */
+    public AqsOptions() {}
+
+    /**
+     * New calls queue up after those that wait. Tries without a time barge.
+     *
+     * @return this
+     */
     public AqsOptions fair() {
         policy = 1;
         return this;
     }
 
-    /** New calls queue up after those who wait. A try fails if others wait. */
+    /**
+     * New calls queue up after those that wait. A try fails if others wait.
+     *
+     * @return this
+     */
     public AqsOptions strict() {
         policy = 2;
         return this;
     }
 
-    /** Keeps all entries of the history, and refuses new calls where it is full. */
+    /**
+     * Keeps all entries of the history, and refuses new calls where it is full.
+     *
+     * @return this
+     */
     public AqsOptions keepHistory() {
         keeps = true;
         return this;
     }
 
-    /** The most entries that are kept, at least 16. */
+    /**
+     * Sets the most entries that are kept.
+     *
+     * @param most at least 16
+     * @return this
+     */
     public AqsOptions mostEntries(int most) {
         entries = most;
         return this;
     }
 
-    /** How many threads may use it, 1 to 256. */
+    /**
+     * Sets how many threads can hold the object or wait for it at a time. Each takes memory.
+     *
+     * @param number 1 to 256
+     * @return this
+     */
     public AqsOptions threads(int number) {
         threads = number;
         return this;
     }
 
-    /** How many conditions a lock has, 1 to 16. */
+    /**
+     * Sets how many conditions of a lock may have waiters at once with no waiter woken for another's signal.
+     * Each takes memory. The default is 16.
+     *
+     * @param number 1 to 16
+     * @return this
+     */
     public AqsOptions conditions(int number) {
         conditions = number;
         return this;
+    }
+
+    int mostConditions() {
+        return conditions == 0 ? MOST_CONDITIONS : conditions;
     }
 }

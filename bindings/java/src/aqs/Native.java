@@ -1,56 +1,135 @@
 package aqs;
 
-/** The calls of libaqs, through aqs_jni.c. */
+import java.io.IOException;
+import java.io.InputStream;
+import java.nio.file.Files;
+import java.nio.file.Path;
+import java.nio.file.StandardCopyOption;
+
+/**
+ * The calls of libaqs, through aqs_jni.c. `keep` is the object whose handle `at` is: it can't be collected,
+ * and so isn't closed, while a call has it.
+ */
 final class Native {
-    static final int OK = 0;
-    static final int TIMED_OUT = 1;
-    static final int INTERRUPTED = 2;
-    static final int WOULD_BLOCK = 3;
+    /** Statuses of aqs.h. aqs_jni.c doesn't compile if they have other numbers there. */
+    static final int OK = 0, TIMED_OUT = 1, INTERRUPTED = 2, WOULD_BLOCK = 3, NOT_OWNER = 4,
+        TOO_MANY_HOLDS = 5, TOO_MANY_PERMITS = 6, HOLDS_READ = 7, BAD_AMOUNT = 9, OUT_OF_MEMORY = 11,
+        OUT_OF_RANGE = 12;
 
     /** What an object is. The numbers are those of aqs_jni.c. */
     static final int LOCK = 0, READ_WRITE = 1, SEMAPHORE = 2, LATCH = 3;
 
-    /** What a call does. The order is that of aqs_jni.c. */
-    enum Call {
-        LOCK, LOCK_INTERRUPTIBLY, TIMED_LOCK, TRY_LOCK, UNLOCK, WAIT, WAIT_INTERRUPTIBLY, TIMED_WAIT, SIGNAL,
-        SIGNAL_ALL, READ_LOCK, READ_LOCK_INTERRUPTIBLY, TIMED_READ_LOCK, TRY_READ_LOCK, READ_UNLOCK,
-        WRITE_LOCK, WRITE_LOCK_INTERRUPTIBLY, TIMED_WRITE_LOCK, TRY_WRITE_LOCK, WRITE_UNLOCK, WRITER_WAIT,
-        WRITER_WAIT_INTERRUPTIBLY, WRITER_TIMED_WAIT, WRITER_SIGNAL, WRITER_SIGNAL_ALL, ACQUIRE,
-        ACQUIRE_INTERRUPTIBLY, TIMED_ACQUIRE, TRY_ACQUIRE, RELEASE, COUNT_DOWN, AWAIT, AWAIT_INTERRUPTIBLY,
-        TIMED_AWAIT
-    }
+    /** The calls that an interrupt may end. The numbers are those of aqs_jni.c. */
+    static final int WAITS_TO_LOCK = 0, WAITS_ON_CONDITION = 1, WAITS_TO_READ = 2, WAITS_TO_WRITE = 3,
+        WAITS_ON_WRITERS_CONDITION = 4, WAITS_FOR_PERMITS = 5, WAITS_FOR_LATCH = 6;
+
+    private static final String LIBRARY = "aqsjni";
 
     static {
-        System.loadLibrary("aqsjni");
+        load();
     }
 
     private Native() {}
+
+    /** Loads the library from java.library.path, or if it isn't there, from the jar. */
+    private static void load() {
+        try {
+            System.loadLibrary(LIBRARY);
+        } catch (UnsatisfiedLinkError missing) {
+            try (InputStream packed = Native.class.getResourceAsStream(System.mapLibraryName(LIBRARY))) {
+                if (packed == null) {
+                    throw missing;
+                }
+                loadCopy(packed);
+            } catch (IOException fault) {
+                missing.addSuppressed(fault);
+                throw missing;
+            }
+        }
+    }
+
+    private static void loadCopy(InputStream packed) throws IOException {
+        Path copy = Files.createTempFile("aqs", System.mapLibraryName(LIBRARY));
+        try {
+            Files.copy(packed, copy, StandardCopyOption.REPLACE_EXISTING);
+            System.load(copy.toString());
+        } finally {
+            Files.delete(copy);
+        }
+    }
 
     /** The object's handle, or the status, made negative. */
     static native long open(
         int kind, int number, int policy, boolean keeps, int entries, int threads, int conditions);
 
-    static native void close(int kind, long object);
+    static native void close(int kind, long at);
 
-    /** A status. `number` is an amount or a condition. */
-    static native int call(long object, int call, int number, int milliseconds);
+    static native int lock(Object keep, long at);
+
+    static native int tryLock(Object keep, long at);
+
+    static native int unlock(Object keep, long at);
+
+    static native int await(Object keep, long at, int condition);
+
+    static native int signal(Object keep, long at, int condition);
+
+    static native int signalAll(Object keep, long at, int condition);
+
+    static native int readLock(Object keep, long at);
+
+    static native int tryReadLock(Object keep, long at);
+
+    static native int readUnlock(Object keep, long at);
+
+    static native int writeLock(Object keep, long at);
+
+    static native int tryWriteLock(Object keep, long at);
+
+    static native int writeUnlock(Object keep, long at);
+
+    static native int writersAwait(Object keep, long at, int condition);
+
+    static native int writersSignal(Object keep, long at, int condition);
+
+    static native int writersSignalAll(Object keep, long at, int condition);
+
+    static native int acquire(Object keep, long at, int n);
+
+    static native int tryAcquire(Object keep, long at, int n);
+
+    static native int release(Object keep, long at, int n);
+
+    static native int awaitLatch(Object keep, long at);
+
+    static native int countDown(Object keep, long at);
+
+    /** A call that an interrupt may end. `number` is an amount or a condition. */
+    static native int interruptible(Object keep, long at, int call, int number);
+
+    /** The same, for at most this time. */
+    static native int timed(Object keep, long at, int call, int number, int milliseconds);
 
     /** How many permits were free, or the status, made negative. */
-    static native long drain(long semaphore);
+    static native long drain(Object keep, long at);
 
     /** A status. It puts the free permits of a semaphore, or the count of a latch, into the first place. */
-    static native int number(int kind, long object, long[] into);
+    static native int number(Object keep, int kind, long at, long[] into);
 
-    static native byte[] history(int kind, long object);
+    /** A status. It puts the text into the first place. */
+    static native int history(Object keep, int kind, long at, byte[][] into);
 
     /** How many entries there were, or the status, made negative. */
-    static native long trim(int kind, long object);
+    static native long trim(Object keep, int kind, long at);
 
     static native String statusName(int status);
 
+    /** The calling thread's number, or -1 if all are taken. */
     static native int self();
 
+    /** Interrupts the library's calls of the thread with this number. A status. */
     static native int interrupt(int thread);
 
-    static native boolean interrupted();
+    /** Clears such an interrupt of the calling thread. */
+    static native void clearInterrupt();
 }

@@ -1,0 +1,203 @@
+package aqs;
+
+import java.lang.invoke.MethodHandle;
+import java.lang.ref.WeakReference;
+import java.util.concurrent.CountDownLatch;
+import java.util.concurrent.TimeUnit;
+import java.util.concurrent.atomic.AtomicInteger;
+
+/**
+ * What can't be seen from outside: memory that is freed, late interrupts, and the question for virtual
+ * threads. It is run with -Xcomp: compiled code doesn't keep what it won't use again.
+ */
+final class InsideTest {
+    private InsideTest() {}
+
+    static void check(boolean fact) {
+        if (!fact) {
+            throw new AssertionError();
+        }
+    }
+
+    interface Fact {
+        boolean holds();
+    }
+
+    /** Collects until the fact holds, for a while. */
+    static void becomes(Fact fact) throws InterruptedException {
+        for (int i = 0; i < 1000 && !fact.holds(); i++) {
+            System.gc();
+            Thread.sleep(10);
+        }
+        check(fact.holds());
+    }
+
+    /** What nobody closes and nobody can reach is freed. */
+    static void unreachable() throws InterruptedException {
+        int before = Memory.live();
+        for (int i = 0; i < 50; i++) {
+            new AqsLock(new AqsOptions().threads(8)).newCondition();
+            new AqsReadWriteLock(new AqsOptions().threads(8)).readLock();
+            new AqsSemaphore(1, new AqsOptions().threads(8)).tryAcquire();
+            new AqsCountDownLatch(1, new AqsOptions().threads(8)).countDown();
+        }
+        AqsLock kept = new AqsLock();
+        new AqsLock().close();
+        becomes(() -> Memory.live() == before + 1);
+        kept.lock();
+        kept.unlock();
+        kept.close();
+        check(Memory.live() == before);
+    }
+
+    /** What a condition, a side or a waiting call can reach isn't. */
+    static void reachable() throws InterruptedException {
+        int before = Memory.live();
+        java.util.concurrent.locks.Condition met = new AqsLock().newCondition();
+        java.util.concurrent.locks.Lock side = new AqsReadWriteLock().writeLock();
+        AtomicInteger ends = new AtomicInteger();
+        Thread[] waiters = new Thread[4];
+        for (int i = 0; i < waiters.length; i++) {
+            int kind = i;
+            waiters[i] = new Thread(() -> {
+                try {
+                    waitForNothing(kind);
+                } catch (InterruptedException end) {
+                    ends.incrementAndGet();
+                }
+            });
+            waiters[i].setDaemon(true);
+            waiters[i].start();
+        }
+        becomes(() -> Memory.live() == before + 2 + waiters.length);
+        // What is dropped after all of those is found unreachable. They aren't.
+        for (int i = 0; i < 3; i++) {
+            WeakReference<Object> dropped = new WeakReference<>(new AqsLock());
+            becomes(() -> dropped.get() == null && Memory.live() == before + 2 + waiters.length);
+        }
+        for (Thread waiter : waiters) {
+            waiter.interrupt();
+            waiter.join();
+        }
+        check(ends.get() == waiters.length);
+        try {
+            met.signal();
+            check(false);
+        } catch (IllegalMonitorStateException good) {
+            side.lock();
+            side.unlock();
+        }
+        becomes(() -> Memory.live() == before + 2);
+        check(met != null && side != null);
+    }
+
+    /** Waits at an object that this call alone can reach. */
+    static void waitForNothing(int kind) throws InterruptedException {
+        switch (kind) {
+            case 0: new AqsSemaphore(0).acquire(); break;
+            case 1: new AqsSemaphore(0).tryAcquire(1, 1, TimeUnit.HOURS); break;
+            case 2: new AqsCountDownLatch(1).await(); break;
+            default:
+                AqsLock lock = new AqsLock();
+                lock.lock();
+                try {
+                    lock.newCondition().await();
+                } finally {
+                    lock.unlock();
+                }
+        }
+    }
+
+    /** An interrupt that is sent when its call has ended interrupts neither that call nor a later one. */
+    static void lateInterrupts() throws InterruptedException {
+        try (AqsSemaphore permits = new AqsSemaphore(10)) {
+            Waits waits = Waits.enter();
+            check(!waits.leave());
+            waits.wakeup();
+            permits.acquire();
+            Waits.enter();
+            waits.wakeup();
+            check(acquired(permits) == Native.OK);
+            check(!waits.leave());
+            Waits.enter();
+            Thread.currentThread().interrupt();
+            waits.wakeup();
+            check(acquired(permits) == Native.INTERRUPTED);
+            check(waits.leave());
+            check(Thread.interrupted());
+            permits.acquire();
+            // One that comes as the permit is taken stays set in the thread, and not in the library.
+            Waits.enter();
+            check(acquired(permits) == Native.OK);
+            Thread.currentThread().interrupt();
+            waits.wakeup();
+            check(waits.leave());
+            check(Thread.interrupted());
+            permits.acquire();
+            check(permits.availablePermits() == 5);
+        }
+    }
+
+    static int acquired(AqsSemaphore permits) {
+        return Native.interruptible(permits, permits.handle(), Native.WAITS_FOR_PERMITS, 1);
+    }
+
+    /** Interrupts are sent while a thread's calls begin and end: none is lost, none is made up. */
+    static void racingInterrupts() throws InterruptedException {
+        try (AqsSemaphore permits = new AqsSemaphore(0)) {
+            AtomicInteger seen = new AtomicInteger();
+            CountDownLatch end = new CountDownLatch(1);
+            Thread waiter = new Thread(() -> {
+                while (end.getCount() > 0) {
+                    try {
+                        permits.tryAcquire(1, 100, TimeUnit.MICROSECONDS);
+                        if (Thread.interrupted()) {
+                            seen.incrementAndGet();
+                        }
+                    } catch (InterruptedException interrupt) {
+                        seen.incrementAndGet();
+                    }
+                }
+            });
+            waiter.start();
+            for (int sent = 0; sent < 2000; sent++) {
+                int before = sent;
+                waiter.interrupt();
+                while (seen.get() == before) {
+                    Thread.yield();
+                }
+                check(seen.get() == before + 1);
+            }
+            end.countDown();
+            waiter.join();
+            check(seen.get() == 2000);
+        }
+    }
+
+    /**
+     * The question that Thread.isVirtual answers, asked of another method, as not each JDK has virtual
+     * threads.
+     */
+    static void refusedThreads() throws InterruptedException {
+        MethodHandle question = Callers.question("isDaemon");
+        check(Callers.question("isNoSuchThing") == null);
+        Thread daemon = new Thread(() -> {});
+        Callers.refuse(question, daemon);
+        daemon.setDaemon(true);
+        try {
+            Callers.refuse(question, daemon);
+            check(false);
+        } catch (UnsupportedOperationException refused) {
+            check(refused.getMessage().contains("virtual thread"));
+        }
+    }
+
+    public static void main(String[] words) throws Exception {
+        refusedThreads();
+        lateInterrupts();
+        racingInterrupts();
+        unreachable();
+        reachable();
+        System.out.println("java, inside: good");
+    }
+}
