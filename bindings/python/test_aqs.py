@@ -1,24 +1,41 @@
-"""Each class once: python3 -m unittest test_aqs. AQS_HISTORIES names a folder for the histories."""
+"""Each class: what it lets through, what it refuses, and its history: python3 -m unittest test_aqs.
+
+AQS_HISTORIES names a folder for the histories.
+"""
 import ctypes
+import gc
 import os
 import pathlib
 import re
+import signal
+import subprocess
+import sys
+import tempfile
 import threading
 import time
 import unittest
+import weakref
+import zipfile
+from unittest import mock
 
 import aqs
+from aqs import _library, _waiting
 
-HEADER = pathlib.Path(aqs.__file__).resolve().parent.parent / "c" / "aqs.h"
+HERE = pathlib.Path(__file__).resolve().parent
+HEADER = HERE.parent / "c" / "aqs.h"
 NUMBERS = {
-    "uint8_t": ctypes.c_uint8, "uint32_t": ctypes.c_uint32, "int32_t": ctypes.c_int32, "size_t": ctypes.c_size_t,
-    "aqs_thread_t": ctypes.c_uint16, "aqs_status_t": ctypes.c_int, "bool": ctypes.c_bool, "void": None,
+    "uint8_t": ctypes.c_uint8, "uint32_t": ctypes.c_uint32, "int32_t": ctypes.c_int32,
+    "size_t": ctypes.c_size_t, "aqs_thread_t": ctypes.c_uint32, "aqs_status_t": ctypes.c_int,
+    "bool": ctypes.c_bool, "aqs_bool_t": ctypes.c_bool, "void": None,
 }
+KINDS = (aqs.RLock, aqs.Lock, aqs.Semaphore, aqs.BoundedSemaphore)
+LONG = 30
 
 
 def in_c(declared):
     """The type of a parameter in C: of a number ctypes' own, and else "pointer"."""
-    return "pointer" if "*" in declared else NUMBERS[declared.split()[0]]
+    words = [it for it in declared.split() if it != "AQS_CHECKED"]
+    return "pointer" if "*" in declared else NUMBERS[words[0]]
 
 
 def in_python(declared):
@@ -33,16 +50,40 @@ def run_all(count, work):
     return threads
 
 
+def join_all(threads):
+    for thread in threads:
+        thread.join(LONG)
+        assert not thread.is_alive(), "a thread did not end"
+
+
 def in_other(call):
     """What a call returns in another thread."""
     found = []
-    thread = threading.Thread(target=lambda: found.append(call()))
-    thread.start()
-    thread.join()
+    join_all(run_all(1, lambda _number: found.append(call())))
     return found[0]
 
 
-class Objects(unittest.TestCase):
+def raised_in_other(call):
+    """The exception of a call in another thread, or None."""
+
+    def tried():
+        try:
+            call()
+        except Exception as error:
+            return error
+        return None
+
+    return in_other(tried)
+
+
+def until(is_so):
+    limit = time.monotonic() + LONG
+    while not is_so():
+        assert time.monotonic() < limit, "it did not come about"
+        time.sleep(0.001)
+
+
+class Tests(unittest.TestCase):
     def keep(self, name, thing):
         text = thing.history()
         self.assertTrue(text.startswith("aqs-history "))
@@ -51,8 +92,10 @@ class Objects(unittest.TestCase):
             with open(f"{folder}/python-{name}.history", "w", encoding="ascii") as file:
                 file.write(text)
 
+
+class Objects(Tests):
     def test_lock_lets_one_thread_in(self):
-        lock, counts = aqs.Lock(policy=aqs.Policy.FAIR, keep_history=True), [0]
+        lock, counts = aqs.RLock(policy=aqs.Policy.FAIR, keep_history=True), [0]
 
         def work(_number):
             for _ in range(300):
@@ -61,8 +104,7 @@ class Objects(unittest.TestCase):
                     time.sleep(0)
                     counts[0] = seen + 1
 
-        for thread in run_all(4, work):
-            thread.join()
+        join_all(run_all(4, work))
         self.assertEqual(counts, [1200])
         with lock:
             self.assertFalse(in_other(lambda: lock.acquire(blocking=False)))
@@ -71,7 +113,7 @@ class Objects(unittest.TestCase):
         self.assertGreater(lock.trim(), 0)
 
     def test_conditions_hand_items_over(self):
-        lock, items, got = aqs.Lock(conditions=2, keep_history=True), [], []
+        lock, items, got = aqs.RLock(conditions=2, keep_history=True), [], []
 
         def take(_number):
             for _ in range(200):
@@ -86,8 +128,7 @@ class Objects(unittest.TestCase):
                 lock.wait_for(lambda: len(items) < 3, condition=1)
                 items.append(item)
                 lock.notify()
-        for thread in threads:
-            thread.join()
+        join_all(threads)
         self.assertEqual(sorted(got), list(range(400)))
         with lock:
             self.assertFalse(lock.wait(timeout=0.01))
@@ -95,7 +136,7 @@ class Objects(unittest.TestCase):
         self.keep("conditions", lock)
 
     def test_interrupts_end_waits(self):
-        lock, told = aqs.Lock(keep_history=True), []
+        lock, told = aqs.RLock(keep_history=True), []
 
         def wait(_number):
             told.append(aqs.current_thread())
@@ -105,60 +146,770 @@ class Objects(unittest.TestCase):
                 told.append(str(error))
 
         with lock:
-            thread = run_all(1, wait)[0]
-            while not told:
-                time.sleep(0.001)
+            threads = run_all(1, wait)
+            until(lambda: told)
             time.sleep(0.01)
             aqs.interrupt(told[0])
-            thread.join()
-        self.assertEqual(told[1:], ["AQS_INTERRUPTED"])
+            join_all(threads)
+        self.assertRegex(told[1], "^AQS_INTERRUPTED: ")
         aqs.interrupt(aqs.current_thread())
         self.assertTrue(aqs.interrupted())
         self.assertFalse(aqs.interrupted())
         self.keep("interrupts", lock)
+
+    def test_interrupts_leave_other_waits_alone(self):
+        permits = aqs.Semaphore(0)
+        aqs.interrupt(aqs.current_thread())
+        self.assertFalse(permits.acquire(timeout=0.01))
+        thread = threading.Timer(0.15, permits.release)
+        thread.start()
+        self.assertTrue(permits.acquire())
+        self.assertTrue(aqs.interrupted())
+        thread.join()
+        aqs.interrupt(aqs.current_thread())
+        with self.assertRaises(aqs.Interrupted):
+            permits.acquire(timeout=LONG, interruptible=True)
+        self.assertFalse(aqs.interrupted())
+        lock = aqs.RLock()
+        aqs.interrupt(aqs.current_thread())
+        with lock:
+            self.assertFalse(lock.wait(0.01))
+            with self.assertRaises(aqs.Interrupted):
+                lock.wait(interruptible=True)
+            self.assertTrue(lock._is_owned())
 
     def test_read_write_lock(self):
         lock = aqs.RWLock(keep_history=True)
         with lock.read:
             self.assertTrue(in_other(lambda: lock.read.acquire() and lock.read.release() is None))
             self.assertFalse(in_other(lambda: lock.write.acquire(blocking=False)))
+            self.assertTrue(lock.read.locked() and not lock.write.locked())
+            self.assertTrue(in_other(lock.read.locked) and not in_other(lock.write.locked))
         with lock.write:
+            self.assertTrue(in_other(lock.write.locked) and not in_other(lock.read.locked))
             self.assertFalse(in_other(lambda: lock.read.acquire(timeout=0.01)))
+            with lock.read:
+                self.assertTrue(lock.write._is_owned() and lock.read._is_owned())
+                with self.assertRaises(aqs.HoldsRead):
+                    lock.write.wait()
+        self.assertFalse(lock.read.locked() or lock.write.locked())
         self.keep("rwlock", lock)
+
+    def test_conditions_of_a_read_write_lock(self):
+        lock, items, got = aqs.RWLock(keep_history=True), [], []
+        not_empty = aqs.Condition(lock.write)
+
+        def take(_number):
+            with not_empty:
+                not_empty.wait_for(lambda: items)
+                got.append(items.pop())
+            with lock.write:
+                lock.write.wait_for(lambda: len(got) == 3)
+
+        threads = run_all(3, take)
+        for item in range(3):
+            with lock.write:
+                items.append(item)
+                not_empty.notify()
+        until(lambda: len(got) == 3)
+        with lock.write:
+            lock.write.notify_all()
+        join_all(threads)
+        self.assertEqual(sorted(got), [0, 1, 2])
+        self.keep("rwlock-conditions", lock)
 
     def test_semaphore(self):
         permits = aqs.Semaphore(2, policy=aqs.Policy.STRICT, keep_history=True)
         with permits:
-            self.assertFalse(permits.acquire(2, blocking=False))
-            self.assertFalse(permits.acquire(2, timeout=0.01))
+            self.assertFalse(permits.acquire(blocking=False, n=2))
+            self.assertFalse(permits.acquire(timeout=0.01, n=2))
         permits.release(3)
         self.assertEqual(permits.available(), 5)
         self.assertEqual(permits.drain(), 5)
-        with self.assertRaises(aqs.Error) as raised:
-            permits.acquire(3_000_000_000)
-        self.assertEqual(str(raised.exception), "AQS_BAD_AMOUNT")
         self.keep("semaphore", permits)
+        owing = aqs.Semaphore(-2, allow_negative=True)
+        owing.release(2)
+        self.assertFalse(owing.acquire(False))
+        owing.release()
+        self.assertTrue(owing.acquire(False))
+
+    def test_no_permit_is_given_twice(self):
+        for permits, error in ((aqs.BoundedSemaphore(3), ValueError), (aqs.Lock(), RuntimeError)):
+            with self.subTest(permits):
+                given, refused = [], []
+
+                def give(_number):
+                    for _ in range(20):
+                        try:
+                            permits.release()
+                            given.append(None)
+                        except error:
+                            refused.append(None)
+
+                taken = 0
+                while permits.acquire(False):
+                    taken += 1
+                join_all(run_all(8, give))
+                self.assertEqual((len(given), len(refused)), (taken, 160 - taken))
+                self.assertEqual(permits.available(), taken)
 
     def test_latch(self):
-        latch = aqs.Latch(2, keep_history=True)
+        latch = aqs.CountDownLatch(2, keep_history=True)
         threads = run_all(2, lambda _number: latch.wait())
         self.assertFalse(latch.wait(timeout=0.01))
         latch.count_down()
         self.assertEqual(latch.count(), 1)
         latch.count_down()
-        for thread in threads:
-            thread.join()
+        join_all(threads)
         self.assertTrue(latch.wait(timeout=10))
         self.keep("latch", latch)
 
-    def test_refusals_raise(self):
-        with self.assertRaises(aqs.Error) as raised:
-            aqs.Lock().release()
-        self.assertEqual(str(raised.exception), "AQS_NOT_OWNER")
-        with self.assertRaises(aqs.Error):
-            aqs.Lock(threads=257)
-        with self.assertRaises(aqs.Error):
-            aqs.Latch(2**31)
+    def test_event_and_barrier_have_histories(self):
+        event = aqs.Event(keep_history=True)
+        threads = run_all(3, lambda _number: event.wait())
+        until(lambda: len(event._cond._queue) == 3)
+        event.set()
+        join_all(threads)
+        self.keep("event", event)
+        barrier, met = aqs.Barrier(3, keep_history=True), []
+        join_all(run_all(3, lambda _number: met.extend(barrier.wait() for _ in range(20))))
+        self.assertEqual(sorted(met), sorted([0, 1, 2] * 20))
+        self.keep("barrier", barrier)
+
+    def test_times_are_never_cut_short(self):
+        permits, lock = aqs.Semaphore(0), aqs.RLock()
+        with lock:
+            waits = {
+                "permits": lambda time_: permits.acquire(timeout=time_),
+                "a condition": lambda time_: lock.wait(time_),
+                "a latch": aqs.CountDownLatch(1).wait,
+                "an event": aqs.Event().wait,
+            }
+            for name, wait in waits.items():
+                for microseconds in range(1, 3000, 149):
+                    begin = time.monotonic()
+                    self.assertFalse(wait(microseconds / 1e6))
+                    self.assertGreaterEqual(time.monotonic() - begin, microseconds / 1e6, name)
+
+    def test_times_longer_than_those_of_c(self):
+        permits = aqs.Semaphore(0)
+        threads = run_all(2, lambda number: permits.acquire(timeout=(2**32, aqs.TIMEOUT_MAX)[number]))
+        time.sleep(0.05)
+        self.assertTrue(all(thread.is_alive() for thread in threads))
+        permits.release(2)
+        join_all(threads)
+
+
+class Arguments(Tests):
+    """Each mistake that C would have taken for something else."""
+
+    def test_numbers_never_wrap(self):
+        permits = aqs.Semaphore(0)
+        for n in (0, -1, 2**31, 2**32, 2**32 + 1, 2**64):
+            self.assertRaises(ValueError, permits.acquire, n=n, blocking=False)
+            self.assertRaises(ValueError, permits.release, n)
+        self.assertEqual(permits.available(), 0)
+        for value in (2**31, 2**32, -1, -(2**31), -(2**32)):
+            self.assertRaises(ValueError, aqs.Semaphore, value)
+            self.assertRaises(ValueError, aqs.BoundedSemaphore, value)
+            self.assertRaises(ValueError, aqs.CountDownLatch, value)
+        self.assertRaises(ValueError, aqs.Semaphore, -(2**31) - 1, allow_negative=True)
+        for threads in (-1, 257, 65536, 65540):
+            self.assertRaises(ValueError, aqs.RLock, threads=threads)
+        for conditions in (-1, 17, 256, 257):
+            self.assertRaises(ValueError, aqs.RLock, conditions=conditions)
+            self.assertRaises(ValueError, aqs.RWLock, conditions=conditions)
+        for entries in (-1, 15, 2**32, 2**32 + 16):
+            self.assertRaises(ValueError, aqs.CountDownLatch, 1, most_entries=entries)
+        for policy in (-1, 3, 2**32):
+            self.assertRaises(ValueError, aqs.Semaphore, policy=policy)
+        for thread in (-1, 256, 65536):
+            self.assertRaises(ValueError, aqs.interrupt, thread)
+        self.assertFalse(aqs.interrupted())
+
+    def test_conditions_are_those_of_the_lock(self):
+        lock = aqs.RLock(conditions=2)
+        with lock:
+            for condition in (-1, 2, 256, 2**32):
+                self.assertRaises(ValueError, lock.wait, 0, condition=condition)
+                self.assertRaises(ValueError, lock.notify, condition=condition)
+                self.assertRaises(ValueError, lock.notify_all, condition=condition)
+
+    def test_what_is_no_number_is_refused(self):
+        permits, lock = aqs.Semaphore(), aqs.RLock()
+        for call in (
+            lambda: permits.release(1.5), lambda: permits.acquire(n="1"), lambda: lock.acquire(timeout="1"),
+            lambda: permits.acquire(timeout="1"), lambda: aqs.CountDownLatch(1.0),
+            lambda: aqs.RLock(threads=2.5),
+            lambda: permits.acquire(True, None, 1), lambda: lock.acquire(True, -1, True),
+            lambda: aqs.Semaphore(1, True), lambda: aqs.RLock(1), lambda: aqs.interrupt("1"),
+        ):
+            self.assertRaises(TypeError, call)
+        self.assertEqual(permits.available(), 1)
+        self.assertFalse(lock.locked())
+
+    def test_blocking_comes_first(self):
+        permits = aqs.Semaphore(1)
+        self.assertEqual([permits.acquire(False) for _ in range(3)], [True, False, False])
+        for kind in KINDS:
+            thing = kind()
+            thing.acquire()
+            self.assertFalse(in_other(lambda: thing.acquire(False)))
+            self.assertFalse(in_other(lambda: thing.acquire(0)))
+            self.assertFalse(in_other(lambda: thing.acquire(True, 0)))
+            self.assertFalse(in_other(lambda: thing.acquire(True, 0.01)))
+            thing.release()
+
+    def test_minus_one_is_no_time(self):
+        lock = aqs.RWLock()
+        for thing in (*(kind() for kind in KINDS), lock.read, lock.write):
+            holder = lock.write if thing is lock.read else thing
+            for timeout in (-1, -1.0, None):
+                with self.subTest(f"{thing} {timeout}"):
+                    got = []
+
+                    def take(_number):
+                        got.append(thing.acquire(True, timeout))
+                        thing.release()
+
+                    with holder:
+                        threads = run_all(1, take)
+                        time.sleep(0.03)
+                        self.assertEqual(got, [])
+                    join_all(threads)
+                    self.assertEqual(got, [True])
+
+    def test_times_below_zero_are_refused(self):
+        lock = aqs.RWLock()
+        for thing in (*(kind() for kind in KINDS), lock.read, lock.write):
+            for timeout in (-5, -0.5, -1e9, float("nan"), float("-inf")):
+                self.assertRaises(ValueError, thing.acquire, timeout=timeout)
+            for timeout in (float("inf"), 1e100, aqs.TIMEOUT_MAX + 1):
+                self.assertRaises(OverflowError, thing.acquire, timeout=timeout)
+            for timeout in (0, 1, 0.5):
+                self.assertRaises(ValueError, thing.acquire, False, timeout)
+            self.assertTrue(thing.acquire(timeout=aqs.TIMEOUT_MAX))
+            thing.release()
+
+    def test_waits_take_times_as_threading_does(self):
+        lock = aqs.RLock()
+        with lock:
+            for wait in (lock.wait, aqs.Event().wait, aqs.CountDownLatch(1).wait):
+                self.assertEqual([wait(0), wait(-5), wait(-0.001)], [False] * 3)
+                self.assertRaises(OverflowError, wait, 1e100)
+                self.assertRaises(ValueError, wait, float("nan"))
+            self.assertEqual(lock.wait_for(lambda: 0, -1), 0)
+            self.assertEqual(lock.wait_for(lambda: "so", 0), "so")
+
+    def test_what_is_not_owned_is_not_released(self):
+        lock, both = aqs.RLock(), aqs.RWLock()
+        condition = aqs.Condition(lock)
+        for call in (
+            lock.release, lock.wait, lock.notify, lock.notify_all, lock._release_save, condition.release,
+            condition.wait, condition.notify, condition.notify_all, both.read.release, both.write.release,
+            both.write.wait, both.write.notify, aqs.Lock().release, lambda: condition.wait_for(lambda: False),
+        ):
+            self.assertRaises(RuntimeError, call)
+        self.assertRaisesRegex(aqs.NotOwner, "un-acquired", lock.release)
+        with lock, both.write:
+            self.assertIsInstance(raised_in_other(lock.release), RuntimeError)
+            self.assertIsInstance(raised_in_other(lambda: both.write.release()), RuntimeError)
+            self.assertIsInstance(raised_in_other(condition.notify), RuntimeError)
+            self.assertTrue(lock._is_owned() and both.write._is_owned())
+        self.assertFalse(lock.locked())
+
+    def test_a_reader_that_would_wait_for_itself_is_told(self):
+        lock = aqs.RWLock()
+        with lock.read:
+            self.assertRaisesRegex(RuntimeError, "wait for itself", lock.write.acquire)
+            self.assertFalse(lock.write.acquire(False))
+        with lock.write, lock.read, lock.write:
+            self.assertEqual(lock.write._recursion_count(), 2)
+
+    def test_faults_are_named(self):
+        full = aqs.RLock(keep_history=True, most_entries=16)
+        with self.assertRaises(aqs.HistoryFull) as raised:
+            for _ in range(20):
+                with full:
+                    pass
+        self.assertRegex(str(raised.exception), "^AQS_HISTORY_FULL: ")
+        self.assertEqual(raised.exception.status, _library.HISTORY_FULL)
+        self.assertFalse(full.locked())
+        most = aqs.Semaphore(2**31 - 1)
+        self.assertRaises(aqs.TooManyPermits, most.release)
+        self.assertTrue(issubclass(aqs.TooManyPermits, OverflowError))
+
+    def test_a_closed_object_says_so(self):
+        for thing, call in (
+            *((kind(), "acquire") for kind in KINDS), (aqs.Event(), "set"), (aqs.Barrier(2), "abort"),
+            (aqs.CountDownLatch(1), "count_down"),
+        ):
+            thing.close()
+            self.assertRaisesRegex(ValueError, "is closed", getattr(thing, call))
+            self.assertRaisesRegex(ValueError, "is closed", thing.history)
+            thing.close()
+        lock = aqs.RWLock()
+        lock.close()
+        self.assertRaisesRegex(ValueError, "is closed", lock.read.acquire)
+        self.assertRaisesRegex(ValueError, "is closed", lock.write.acquire)
+
+    def test_a_lock_that_another_thread_owns_is_not_closed(self):
+        for lock in (aqs.RLock(), aqs.RWLock()):
+            side = lock if isinstance(lock, aqs.RLock) else lock.read
+            with side:
+                self.assertIsInstance(raised_in_other(lock.close), RuntimeError)
+            lock.close()
+
+    def test_a_close_waits_for_calls_under_way(self):
+        permits, got = aqs.Semaphore(0), []
+        threads = run_all(3, lambda _number: got.append(permits.acquire(timeout=0.3)))
+        time.sleep(0.1)
+        permits.close()
+        join_all(threads)
+        self.assertEqual(got, [False] * 3)
+
+    def test_what_is_dropped_is_freed(self):
+        for kind in (aqs.RLock, aqs.RWLock, aqs.Lock, aqs.Condition, aqs.Semaphore, aqs.Event):
+            thing = kind()
+            seen = weakref.ref(thing)
+            del thing
+            self.assertIsNone(seen(), kind)
+        gc.collect()
+
+    def test_locks_that_are_dropped_while_owned_cost_no_thread(self):
+        def drop(_number):
+            lock, both = aqs.RLock(), aqs.RWLock()
+            lock.acquire()
+            both.read.acquire()
+
+        for _ in range(10):
+            join_all(run_all(30, drop))
+        self.assertLess(in_other(aqs.current_thread), 64)
+
+    def test_reprs_say_the_state(self):
+        lock = aqs.RLock()
+        self.assertRegex(repr(lock), "^<unlocked aqs.RLock object count=0 at 0x")
+        with lock, lock:
+            self.assertRegex(repr(lock), "^<locked aqs.RLock object count=2 at 0x")
+        self.assertRegex(repr(aqs.Semaphore(3)), "^<aqs.Semaphore at 0x.*: value=3>$")
+        self.assertRegex(repr(aqs.CountDownLatch(3)), "^<aqs.CountDownLatch at 0x.*: count=3>$")
+        both = aqs.RWLock()
+        with both.write:
+            self.assertRegex(repr(both), "^<aqs.RWLock at 0x.*: locked to write>$")
+        with both.read:
+            self.assertRegex(repr(both), "^<aqs.RWLock at 0x.*: 1 readers>$")
+            self.assertRegex(repr(both.read), "^<read side of an aqs.RWLock, 1 readers, at 0x")
+        self.assertRegex(repr(both.write), "^<write side of an aqs.RWLock, count=0, at 0x")
+
+
+class Conditions(Tests):
+    def waiters(self, lock, conditions, woken):
+        """A thread for each condition, which waits on it. They have gone to sleep."""
+
+        def wait(number):
+            with lock:
+                conditions[number].wait()
+                woken.append(number)
+
+        threads = run_all(len(conditions), wait)
+        until(lambda: sum(len(it._queue) for it in set(conditions)) == len(conditions))
+        with lock:
+            pass
+        return threads
+
+    def test_notify_wakes_as_many_as_it_says(self):
+        for condition in (aqs.Condition(), aqs.Condition(aqs.Lock()), aqs.Condition(threading.Lock())):
+            woken = []
+
+            def wait(number):
+                with condition:
+                    condition.wait()
+                    woken.append(number)
+
+            threads = []
+            for number in range(6):
+                threads.append(threading.Thread(target=wait, args=(number,)))
+                threads[-1].start()
+                until(lambda: len(condition._queue) == number + 1)
+            for n, now in ((2, [0, 1]), (0, [0, 1]), (-3, [0, 1]), (1, [0, 1, 2]), (256, [0, 1, 2, 3, 4, 5])):
+                with condition:
+                    condition.notify(n)
+                until(lambda: len(woken) == len(now))
+                time.sleep(0.01)
+                self.assertEqual(sorted(woken), now)
+            join_all(threads)
+
+    def test_more_conditions_than_numbers(self):
+        for numbers in (1, 2, 16):
+            lock, woken = aqs.RLock(conditions=numbers, keep_history=True), []
+            conditions = [aqs.Condition(lock) for _ in range(20)]
+            threads = self.waiters(lock, conditions, woken)
+            for number in range(19, -1, -1):
+                with lock:
+                    conditions[number].notify()
+                until(lambda: woken and woken[-1] == number)
+            join_all(threads)
+            self.assertEqual(woken, list(range(19, -1, -1)))
+            self.assertEqual(lock._numbers.users, [0] * numbers)
+            self.keep(f"shared-{numbers}", lock)
+
+    def test_a_notify_of_a_shared_number_finds_its_waiter(self):
+        lock, woken = aqs.RLock(conditions=1), []
+        other, own = aqs.Condition(lock), aqs.Condition(lock)
+        threads = self.waiters(lock, [other], woken)
+        threads += self.waiters(lock, [own, own], woken)
+        with lock:
+            own.notify()
+        until(lambda: woken)
+        time.sleep(0.01)
+        self.assertEqual((len(woken), len(own._queue), len(other._queue)), (1, 1, 1))
+        with lock:
+            own.notify()
+            other.notify()
+        join_all(threads)
+
+    def test_who_has_left_takes_no_notify(self):
+        condition, woken = aqs.Condition(), []
+        with condition:
+            self.assertFalse(condition.wait(0.01))
+            self.assertFalse(condition.wait_for(lambda: False, 0.01))
+        threads = self.waiters(condition, [condition], woken)
+        with condition:
+            condition.notify()
+        join_all(threads)
+        self.assertEqual(woken, [0])
+
+    def test_a_time_does_not_begin_anew_at_a_notify(self):
+        for condition in (aqs.RLock(), aqs.RWLock().write, aqs.Condition(), aqs.Condition(threading.Lock())):
+            moments = []
+
+            def wait(_queue, until_, _interruptible):
+                moments.append(until_)
+                return True
+
+            with condition, mock.patch.object(condition, "_wait", wait):
+                self.assertTrue(condition.wait_for(lambda: len(moments) == 3, LONG))
+            self.assertEqual(moments, [moments[0]] * 3)
+
+    def test_objects_and_numbers_go_together(self):
+        lock, woken = aqs.RLock(conditions=1), []
+        condition = aqs.Condition(lock)
+        threads = self.waiters(lock, [condition], woken)
+
+        def wait(_number):
+            with lock:
+                lock.wait()
+                woken.append("number")
+
+        threads += run_all(1, wait)
+        until(lambda: 0 in lock._queues and len(lock._queues[0]) == 1)
+        with lock:
+            lock.notify()
+        until(lambda: woken == ["number"])
+        with lock:
+            condition.notify_all()
+        join_all(threads)
+        self.assertEqual(woken, ["number", 0])
+
+    def test_a_wait_keeps_its_holds(self):
+        lock = aqs.RLock()
+        with lock, lock, lock:
+            thread = threading.Timer(0.02, in_lock, (lock, lambda: lock.notify()))
+            thread.start()
+            self.assertTrue(lock.wait(LONG))
+            self.assertEqual(lock._recursion_count(), 3)
+        self.assertFalse(lock.locked())
+        thread.join()
+
+    def test_threading_condition_over_a_lock_of_the_library(self):
+        for lock in (aqs.RLock(), aqs.Lock()):
+            condition, seen = threading.Condition(lock), []
+
+            def wait(_number):
+                with condition:
+                    seen.append(condition.wait_for(lambda: seen, LONG))
+
+            threads = run_all(2, wait)
+            until(lambda: len(condition._waiters) == 2)
+            with condition:
+                seen.append("go")
+                condition.notify_all()
+            join_all(threads)
+            self.assertEqual(seen, ["go", ["go"], ["go", ["go"]]][:1] + seen[1:])
+            self.assertEqual(len(seen), 3)
+
+    def test_signals_and_timeouts_lose_nothing(self):
+        lock, permits, got = aqs.RLock(conditions=1, keep_history=True), [0], []
+        conditions = [aqs.Condition(lock) for _ in range(3)]
+
+        def take(number):
+            for _ in range(60):
+                with lock:
+                    while not permits[0]:
+                        conditions[number % 3].wait(0.0005 * (number + 1))
+                    permits[0] -= 1
+                    got.append(number)
+
+        threads = run_all(6, take)
+        for number in range(360):
+            with lock:
+                permits[0] += 1
+                conditions[number % 3].notify()
+        join_all(threads)
+        self.assertEqual((len(got), permits), (360, [0]))
+        self.keep("signals-and-timeouts", lock)
+
+
+def in_lock(lock, call):
+    with lock:
+        call()
+
+
+class CtrlC(Tests):
+    """KeyboardInterrupt ends a wait of the main thread soon, and nothing is lost by it."""
+
+    def setUp(self):
+        before = signal.signal(signal.SIGINT, signal.default_int_handler)
+        self.addCleanup(signal.signal, signal.SIGINT, before)
+
+    def ended(self, call, after=0.15):
+        """Seconds that the call took, which Ctrl-C ended."""
+        timer = threading.Timer(after, os.kill, (os.getpid(), signal.SIGINT))
+        timer.start()
+        begin = time.monotonic()
+        with self.assertRaises(KeyboardInterrupt):
+            call()
+            time.sleep(LONG)
+        timer.join()
+        return time.monotonic() - begin
+
+    def held(self, thing):
+        """Another thread has it until the test ends."""
+        taken, free = threading.Event(), threading.Event()
+
+        def hold(_number):
+            with thing:
+                taken.set()
+                free.wait(LONG)
+
+        threads = run_all(1, hold)
+        taken.wait(LONG)
+        self.addCleanup(join_all, threads)
+        self.addCleanup(free.set)
+        return thing
+
+    def test_it_ends_each_wait(self):
+        both, other = aqs.RWLock(), aqs.RWLock()
+        self.held(both.write)
+        self.held(other.read)
+        lock, plain, latch = self.held(aqs.RLock()), self.held(aqs.Lock()), aqs.CountDownLatch(1)
+        permits, few, barrier = aqs.Semaphore(0), aqs.BoundedSemaphore(0), aqs.Barrier(2)
+        waits = {
+            "RLock": lock.acquire, "RLock, timed": lambda: lock.acquire(timeout=LONG), "Lock": plain.acquire,
+            "Lock, with": plain.__enter__, "read": both.read.acquire, "write": other.write.acquire,
+            "Semaphore": permits.acquire, "Semaphore, timed": lambda: permits.acquire(timeout=LONG),
+            "BoundedSemaphore": few.acquire, "latch": latch.wait, "Event": aqs.Event().wait,
+            "Barrier": barrier.wait,
+            "Condition": lambda: own_wait(aqs.Condition()),
+            "Condition of a Lock": lambda: own_wait(aqs.Condition(aqs.Lock())),
+        }
+        for name, call in waits.items():
+            with self.subTest(name):
+                self.assertLess(self.ended(call), 2)
+        self.assertEqual((permits.available(), few.available(), latch.count()), (0, 0, 1))
+        self.assertEqual(barrier.n_waiting, 0)
+        self.assertFalse(lock._is_owned() or both.read._is_owned() or other.write._is_owned())
+
+    def race(self, rounds, take, give):
+        """Ctrl-C and what a wait is for come at about the same time. How often the wait was ended by
+        Ctrl-C."""
+        ended = 0
+        for number in range(rounds):
+            after = 0.001 + 0.0001 * (number % 30)
+            sender = threading.Timer(after, os.kill, (os.getpid(), signal.SIGINT))
+            giver = threading.Timer(0.0025, give)
+            try:
+                try:
+                    giver.start()
+                    sender.start()
+                    take(number)
+                finally:
+                    join_all([giver, sender])
+                    time.sleep(0)
+            except KeyboardInterrupt:
+                ended += 1
+        return ended
+
+    def test_a_permit_is_never_lost(self):
+        permits, taken = aqs.Semaphore(0), []
+
+        def take(number):
+            if permits.acquire(timeout=0.02):
+                taken.append(number)
+
+        def give():
+            permits.release()
+
+        ended = self.race(150, take, give)
+        self.assertGreater(ended, 0)
+        lost = 150 - permits.available() - len(taken)
+        # Before 3.11, Ctrl-C may also come between the return and the next statement, as with threading.
+        self.assertIn(lost, range(1 if sys.version_info >= (3, 11) else 4))
+
+    def test_a_lock_is_given_back(self):
+        lock = aqs.RLock()
+        stop = threading.Event()
+
+        def hold(_number):
+            while not stop.is_set():
+                with lock:
+                    time.sleep(0.001)
+                time.sleep(0)
+
+        threads = run_all(1, hold)
+        self.race(60, lambda _number: lock.acquire() and lock.release(), lambda: None)
+        while lock._is_owned():
+            lock.release()
+        stop.set()
+        join_all(threads)
+        self.assertFalse(lock.locked())
+        self.assertTrue(in_other(lambda: lock.acquire(timeout=5) and lock.release() is None))
+
+    def test_a_notify_goes_to_another(self):
+        lock, woken = aqs.RLock(), []
+        condition = aqs.Condition(lock)
+
+        def fail(*_arguments):
+            with lock:
+                condition.notify()
+            raise KeyboardInterrupt
+
+        signal.signal(signal.SIGINT, fail)
+        timer = threading.Timer(0.15, os.kill, (os.getpid(), signal.SIGINT))
+
+        def wait(_number):
+            with lock:
+                woken.append(condition.wait(LONG))
+
+        threads = []
+        with self.assertRaises(KeyboardInterrupt):
+            with lock:
+                timer.start()
+                threads = run_all(1, wait)
+                condition.wait(LONG)
+        join_all(threads)
+        timer.join()
+        self.assertEqual(woken, [True])
+
+    def test_what_was_just_taken_is_given_back(self):
+        both, run = aqs.RWLock(), _waiting.run
+
+        def fail(*arguments):
+            run(*arguments)
+            raise KeyboardInterrupt
+
+        for thing in (*(kind() for kind in KINDS), both.read, both.write):
+            for call in (thing.acquire, lambda: thing.acquire(timeout=LONG)):
+                with mock.patch("aqs._waiting.run", fail), self.assertRaises(KeyboardInterrupt):
+                    call()
+            self.assertTrue(in_other(lambda: thing.acquire(timeout=1) and thing.release() is None), thing)
+
+    def test_a_notify_that_ctrl_c_overtakes_goes_to_another(self):
+        lock, woken, turn = aqs.RLock(), [], _waiting.turn
+        condition = aqs.Condition(lock)
+
+        def fail(*arguments):
+            status = turn(*arguments)
+            if threading.current_thread() is not threading.main_thread():
+                return status
+            while len(condition._queue) < 2:
+                turn(*arguments)
+            condition._queue.notify(lock, 1)
+            raise KeyboardInterrupt
+
+        def wait(_number):
+            with lock:
+                woken.append(condition.wait(5))
+
+        with mock.patch("aqs._locks.turn", fail), self.assertRaises(KeyboardInterrupt), lock:
+            threads = run_all(1, wait)
+            condition.wait()
+        join_all(threads)
+        self.assertEqual(woken, [True])
+
+    def test_a_handler_may_call_what_its_thread_is_inside(self):
+        event, barrier = aqs.Event(), aqs.Barrier(1)
+        with event._cond, barrier._cond:
+            event.set()
+            self.assertEqual(barrier.wait(), 0)
+            self.assertFalse(event._cond.acquire(False))
+            self.assertRaises(RuntimeError, event._cond.acquire)
+        self.assertTrue(event.wait())
+
+    def test_a_handler_may_set_an_event(self):
+        event = aqs.Event()
+        signal.signal(signal.SIGINT, lambda *_arguments: event.set())
+        timer = threading.Timer(0.05, os.kill, (os.getpid(), signal.SIGINT))
+        timer.start()
+        begin = time.monotonic()
+        self.assertTrue(event.wait(LONG))
+        self.assertLess(time.monotonic() - begin, 5)
+        timer.join()
+
+    def test_other_threads_go_on(self):
+        permits, got = aqs.Semaphore(0), []
+        threads = run_all(2, lambda _number: got.append(permits.acquire()))
+        self.ended(lambda: None, 0.02)
+        permits.release(2)
+        join_all(threads)
+        self.assertEqual(got, [True, True])
+
+
+def own_wait(condition):
+    with condition:
+        condition.wait()
+
+
+class Loading(Tests):
+    def python(self, code, **environment):
+        words = [sys.executable, "-B", "-c", code]
+        settings = {**os.environ, **environment}
+        return subprocess.run(words, cwd=HERE, env=settings, capture_output=True, text=True, timeout=60)
+
+    def test_a_missing_library_says_what_to_run(self):
+        ran = self.python("import aqs", AQS_SO="/nowhere/libaqs.so")
+        self.assertEqual(ran.returncode, 1)
+        last = ran.stderr[ran.stderr.index("ImportError"):]
+        self.assertIn("/nowhere/libaqs.so", last)
+        self.assertIn("make -C bindings/c", last)
+        self.assertIn("AQS_SO", last)
+
+    def test_the_wheel_has_the_library(self):
+        with tempfile.TemporaryDirectory() as room:
+            words = [sys.executable, "-B", str(HERE / "wheel_backend.py"), room]
+            made = subprocess.run(words, capture_output=True, text=True, timeout=60, check=True)
+            with zipfile.ZipFile(f"{room}/{made.stdout.strip()}") as wheel:
+                self.assertIsNone(wheel.testzip())
+                record = wheel.read("aqs-0.1.0.dist-info/RECORD").decode()
+                self.assertEqual({line.split(",")[0] for line in record.split()}, set(wheel.namelist()))
+                wheel.extractall(room)
+            code = "import aqs; print(aqs.Semaphore(2).available(), aqs._library.library._name)"
+            settings = {name: value for name, value in os.environ.items() if name != "AQS_SO"}
+            words = [sys.executable, "-B", "-c", code]
+            ran = subprocess.run(words, cwd=room, env=settings, capture_output=True, text=True, timeout=60)
+            self.assertEqual(ran.stdout, f"2 {os.path.realpath(room)}/aqs/libaqs.so\n", ran.stderr)
+
+    def test_threads_that_wait_at_the_end_do_no_harm(self):
+        code = (
+            "import aqs, threading, time\n"
+            "permits, lock = aqs.Semaphore(0), aqs.RLock()\n"
+            "lock.acquire()\n"
+            "for call in (permits.acquire, lock.acquire):\n"
+            "    threading.Thread(target=call, daemon=True).start()\n"
+            "time.sleep(0.1)\n"
+        )
+        ran = self.python(code)
+        self.assertEqual((ran.returncode, ran.stderr), (0, ""))
 
 
 class Declarations(unittest.TestCase):
@@ -166,13 +917,16 @@ class Declarations(unittest.TestCase):
         text = re.sub(r"/\*.*?\*/", "", HEADER.read_text(encoding="ascii"), flags=re.S)
         compared = 0
         for result, name, taken in re.findall(r"(?m)^([\w ]+ \*?)(aqs_\w+)\(([^)]*)\);$", text):
-            function = getattr(aqs._library, name)
+            function = getattr(_library.library, name)
             if function.argtypes is not None:
                 wanted = [in_c(it.strip()) for it in taken.split(",") if it != "void"]
                 self.assertEqual([in_python(it) for it in function.argtypes], wanted, name)
                 self.assertEqual(in_python(function.restype), in_c(result), name)
                 compared += 1
-        self.assertGreater(compared, 40)
+        self.assertGreater(compared, 50)
+
+    def test_the_package_says_that_it_has_types(self):
+        self.assertTrue((HERE / "aqs" / "py.typed").is_file())
 
 
 if __name__ == "__main__":

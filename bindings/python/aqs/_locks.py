@@ -1,0 +1,309 @@
+"""The locks with an owner: RLock, and the two sides of RWLock."""
+from typing import Any, Callable, Dict, List, Optional, TypeVar
+
+from ._conditions import Numbers, Queue, Waitable
+from ._library import OK, TIMED_OUT, WOULD_BLOCK, NotOwner, check, library
+from ._object import Opened, Recorded, options_of
+from ._waiting import calls_of, limit, moment, myself, number, run, turn, wait
+
+T = TypeVar("T")
+
+# As many conditions as a lock of the library may have.
+CONDITIONS = 16
+
+
+def acquired(
+    ran: List[int], calls: Any, arguments: Any, blocking: bool, until: Optional[float], interruptible: bool
+) -> bool:
+    """Whether a call has taken what it asks for. The last of `ran` is its status."""
+    if blocking:
+        status = wait(ran, calls, arguments, until, interruptible)
+    else:
+        status = run(ran, calls.trying, *arguments)
+    if status in (TIMED_OUT, WOULD_BLOCK):
+        return False
+    check(status)
+    return True
+
+
+class Side:
+    """What is acquired and released, each as often as the other: `with side:`."""
+
+    _opened: Opened
+    _calls: Any
+    _unlock: Any
+
+    def acquire(
+        self, blocking: bool = True, timeout: Optional[float] = -1, *, interruptible: bool = False
+    ) -> bool:
+        """Takes it. False if it isn't free and `blocking` is False, or if the time was up. A timeout of -1 or
+        None is no time. If `interruptible`, aqs.interrupt ends the wait with Interrupted."""
+        until = limit(blocking, timeout)
+        before = self._recursion_count()
+        ran: List[int] = []
+        try:
+            has = acquired(ran, self._calls, (self._opened.handle,), blocking, until, interruptible)
+            if has:
+                self._set_count(before + 1)
+            return has
+        except BaseException:
+            if ran[-1:] == [OK]:
+                self._set_count(before)
+                self._unlock(self._opened.handle)
+            raise
+
+    def release(self) -> None:
+        """Gives one hold back. NotOwner, a RuntimeError, if the thread has none."""
+        count = self._recursion_count()
+        if not count:
+            raise NotOwner("cannot release un-acquired lock")
+        try:
+            self._set_count(count - 1)
+        finally:
+            check(self._unlock(self._opened.handle))
+
+    def locked(self) -> bool:
+        """Whether any thread holds it. Another thread may change that before the caller reads it."""
+        raise NotImplementedError
+
+    def _recursion_count(self) -> int:
+        raise NotImplementedError
+
+    def _set_count(self, count: int) -> None:
+        raise NotImplementedError
+
+    def _is_owned(self) -> bool:
+        return self._recursion_count() > 0
+
+    def _release_save(self) -> int:
+        count = self._recursion_count()
+        if not count:
+            raise NotOwner("cannot release un-acquired lock")
+        for _ in range(count):
+            self.release()
+        return count
+
+    # No signal ends it, so that a wait on a condition always ends with the lock.
+    def _acquire_restore(self, count: int) -> None:
+        for _ in range(count):
+            check(self._calls.plain(self._opened.handle))
+        self._set_count(count)
+
+    def __enter__(self) -> bool:
+        return self.acquire()
+
+    def __exit__(self, *_error: object) -> None:
+        self.release()
+
+
+class Exclusive(Side, Waitable):
+    """A side that one thread has at a time, with conditions. What it keeps beside the library, only the owner
+    changes."""
+
+    _timed: Any
+
+    def _open(self, opened: Opened, conditions: int) -> None:
+        self._opened = opened
+        self._owner: Optional[object] = None
+        self._count = 0
+        self._numbers = Numbers(conditions)
+        self._queues: Dict[int, Queue] = {}
+
+    def locked(self) -> bool:
+        return self._owner is not None
+
+    def _recursion_count(self) -> int:
+        return self._count if self._owner is myself() else 0
+
+    def _set_count(self, count: int) -> None:
+        self._count = count
+        self._owner = myself() if count else None
+
+    def wait(
+        self, timeout: Optional[float] = None, *, condition: int = 0, interruptible: bool = False
+    ) -> bool:
+        """Gives the lock up, waits until the condition is notified, and has the lock again with the same
+        holds. False if the time was up before. As in threading, a time of 0 or below is up at once, and None
+        is no time."""
+        return self._wait(self._queue_of(condition), moment(timeout), interruptible)
+
+    def wait_for(
+        self, predicate: Callable[[], T], timeout: Optional[float] = None, *, condition: int = 0,
+        interruptible: bool = False,
+    ) -> T:
+        """Waits until the predicate holds, or the time is up. Returns what the predicate returned last."""
+        return self._wait_for(self._queue_of(condition), predicate, timeout, interruptible)
+
+    def notify(self, n: int = 1, *, condition: int = 0) -> None:
+        """Wakes the n that have waited longest on the condition. Only the owner may call it."""
+        self._notify(self._queue_of(condition), n)
+
+    def notify_all(self, *, condition: int = 0) -> None:
+        """Wakes all who wait on the condition. Only the owner may call it."""
+        self._notify(self._queue_of(condition), None)
+
+    def _queue_of(self, condition: int) -> Queue:
+        condition = number(condition, 0, len(self._numbers.users) - 1, "condition")
+        return self._queues.setdefault(condition, Queue(condition))
+
+    def _await(self, condition: int, until: Optional[float], interruptible: bool) -> int:
+        """One wait of the library, which has given the lock up and taken it again when it returns."""
+        count, ran = self._count, []  # type: int, List[int]
+        try:
+            self._set_count(0)
+            return turn(ran, self._waits, (self._opened.handle, condition), until, interruptible)
+        finally:
+            self._set_count(count)
+
+    def _signal(self, condition: int) -> None:
+        check(self._one(self._opened.handle, condition))
+
+    def _signal_all(self, condition: int) -> None:
+        check(self._all(self._opened.handle, condition))
+
+    def _reinit(self) -> None:
+        self._open(self._opened, len(self._numbers.users))
+
+    # A thread that ends with a hold would keep its number for good.
+    def _free(self) -> None:
+        while self._recursion_count():
+            self.release()
+
+    def __repr__(self) -> str:
+        kind = type(self)
+        state = "locked" if self.locked() else "unlocked"
+        return f"<{state} {kind.__module__}.{kind.__qualname__} object count={self._count} at {id(self):#x}>"
+
+
+class RLock(Exclusive, Recorded):
+    """A reentrant lock with conditions: threading.RLock over the library.
+
+    `policy` says which new calls queue up; `keep_history` keeps each entry, where else the oldest are
+    forgotten; `most_entries` bounds the history; `threads` is how many can hold it or wait for it at a time;
+    `conditions` is how many conditions have a number of their own, 16 unless it says less.
+    """
+
+    _calls = calls_of("lock", "lock", "lock_interruptibly", "timedlock", "trylock")
+    _waits = calls_of("lock", "wait", "wait_interruptibly", "timedwait")
+    _unlock = library.aqs_lock_unlock
+    _one, _all = library.aqs_lock_signal, library.aqs_lock_signal_all
+
+    def __init__(self, *, conditions: int = CONDITIONS, **options: Any) -> None:
+        self._open(Opened("lock", (), options_of(conditions=conditions, **options)), conditions)
+
+    def close(self) -> None:
+        """Frees its memory. RuntimeError if another thread owns it. Later calls raise ValueError."""
+        if self.locked() and not self._is_owned():
+            raise RuntimeError("another thread owns the lock")
+        self._free()
+        super().close()
+
+    def _at_fork_reinit(self) -> None:
+        self._opened.abandon()
+        self._reinit()
+
+    def __del__(self) -> None:
+        if getattr(self, "_owner", None):
+            self._free()
+
+
+class Monitor(RLock):
+    """The lock of an Event or a Barrier. As theirs in threading, it refuses its owner a second hold. But
+    `with` gives it, so a signal handler may call what its thread is inside."""
+
+    def acquire(
+        self, blocking: bool = True, timeout: Optional[float] = -1, *, interruptible: bool = False
+    ) -> bool:
+        if self._is_owned():
+            limit(blocking, timeout)
+            if blocking:
+                raise RuntimeError("the thread has this lock already")
+            return False
+        return super().acquire(blocking, timeout, interruptible=interruptible)
+
+    def __enter__(self) -> bool:
+        return super().acquire()
+
+
+class ReadSide(Side):
+    """The side of a read-write lock that many threads may have at a time."""
+
+    _calls = calls_of("rwlock", "rdlock", "rdlock_interruptibly", "timedrdlock", "tryrdlock")
+    _unlock = library.aqs_rwlock_rdunlock
+
+    def __init__(self, opened: Opened) -> None:
+        self._opened = opened
+        self._holds: Dict[object, int] = {}
+
+    def locked(self) -> bool:
+        return bool(self._holds)
+
+    def _recursion_count(self) -> int:
+        return self._holds.get(myself(), 0)
+
+    def _set_count(self, count: int) -> None:
+        if count:
+            self._holds[myself()] = count
+        else:
+            self._holds.pop(myself(), None)
+
+    def __repr__(self) -> str:
+        return f"<read side of an aqs.RWLock, {len(self._holds)} readers, at {id(self):#x}>"
+
+
+class WriteSide(Exclusive):
+    """The side of a read-write lock that one thread has at a time. It has conditions."""
+
+    _calls = calls_of("rwlock", "wrlock", "wrlock_interruptibly", "timedwrlock", "trywrlock")
+    _waits = calls_of("rwlock", "wait", "wait_interruptibly", "timedwait")
+    _unlock = library.aqs_rwlock_wrunlock
+    _one, _all = library.aqs_rwlock_signal, library.aqs_rwlock_signal_all
+
+    def __init__(self, opened: Opened, conditions: int, read: ReadSide) -> None:
+        self._read = read
+        self._open(opened, conditions)
+
+    def acquire(
+        self, blocking: bool = True, timeout: Optional[float] = -1, *, interruptible: bool = False
+    ) -> bool:
+        """Takes it. RuntimeError if the thread only reads, and would wait for itself."""
+        if blocking and not self._is_owned() and self._read._is_owned():
+            raise RuntimeError("the thread reads, and would wait for itself to write")
+        return super().acquire(blocking, timeout, interruptible=interruptible)
+
+    def __repr__(self) -> str:
+        return f"<write side of an aqs.RWLock, count={self._count}, at {id(self):#x}>"
+
+
+class RWLock(Recorded):
+    """A read-write lock: many threads read, or one writes. Both sides are reentrant: `with lock.read:`.
+
+    A thread that writes may also read, and go on to read after it has released the write side. The write side
+    has conditions: `lock.write.wait()`, `aqs.Condition(lock.write)`. The options are those of RLock.
+    """
+
+    def __init__(self, *, conditions: int = CONDITIONS, **options: Any) -> None:
+        self._opened = Opened("rwlock", (), options_of(conditions=conditions, **options))
+        self.read = ReadSide(self._opened)
+        self.write = WriteSide(self._opened, conditions, self.read)
+
+    def close(self) -> None:
+        """Frees its memory. RuntimeError if another thread holds it. Later calls raise ValueError."""
+        others = set(self.read._holds) - {myself()}
+        if others or (self.write.locked() and not self.write._is_owned()):
+            raise RuntimeError("another thread holds the lock")
+        self._free()
+        super().close()
+
+    def _free(self) -> None:
+        self.write._free()
+        while self.read._is_owned():
+            self.read.release()
+
+    def __del__(self) -> None:
+        if hasattr(self, "write"):
+            self._free()
+
+    def __repr__(self) -> str:
+        state = "locked to write" if self.write.locked() else f"{len(self.read._holds)} readers"
+        return f"<{self._name()} at {id(self):#x}: {state}>"

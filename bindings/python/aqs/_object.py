@@ -1,0 +1,109 @@
+"""Objects of the library: how they are opened and closed, and their histories."""
+import ctypes
+from typing import Any, Optional
+
+from ._library import NO_SPACE, Options, Policy, check, library
+from ._waiting import number
+
+
+class _Handle(ctypes.c_void_p):
+    """The pointer to an open object. Each call refers to it as long as it runs, so the object is closed after
+    its last call, even if that is still on its way out in another thread."""
+
+    def __init__(self, pointer: int, close: Any) -> None:
+        super().__init__(pointer)
+        self.close = close
+
+    def __del__(self) -> None:
+        close = getattr(self, "close", None)
+        if close:
+            close(self)
+
+
+def options_of(
+    policy: int = Policy.NONFAIR, keep_history: bool = False, most_entries: int = 0, threads: int = 0,
+    conditions: int = 0,
+) -> Options:
+    """How an object is opened. 0 is the default of C."""
+    return Options(
+        Policy(policy), int(bool(keep_history)),
+        most_entries and number(most_entries, 16, 2**32 - 1, "most_entries"),
+        threads and number(threads, 1, 256, "threads"),
+        conditions and number(conditions, 1, 16, "conditions"),
+    )
+
+
+_NAMES = {"lock": "lock", "rwlock": "read-write lock", "sem": "semaphore", "latch": "latch"}
+
+
+class Opened:
+    """An object of the library, which its types share."""
+
+    def __init__(self, kind: str, numbers: Any, options: Options) -> None:
+        self._kind, self._numbers, self._options = kind, numbers, options
+        self._handle: Optional[_Handle] = None
+        self.reopen()
+
+    @property
+    def handle(self) -> _Handle:
+        if self._handle is None:
+            raise ValueError(f"the {_NAMES[self._kind]} is closed")
+        return self._handle
+
+    def function(self, name: str) -> Any:
+        return getattr(library, f"aqs_{self._kind}_{name}")
+
+    def reopen(self) -> None:
+        place = ctypes.c_void_p()
+        check(self.function("open")(ctypes.byref(place), *self._numbers, ctypes.byref(self._options)))
+        self._handle = _Handle(place.value or 0, self.function("close"))
+
+    def abandon(self) -> None:
+        """Opens a new object. The old one is never closed: after a fork another thread may be inside it for
+        good."""
+        self.handle.close = None
+        self.reopen()
+
+    def close(self) -> None:
+        self._handle = None
+
+    def history(self) -> str:
+        size, length = 4096, ctypes.c_size_t()
+        while True:
+            buffer = ctypes.create_string_buffer(size)
+            handle = self.handle
+            object_ = self.function("object")(handle)
+            status = library.aqs_history_text(object_, buffer, size, ctypes.byref(length))
+            if status != NO_SPACE:
+                check(status)
+                return buffer.raw[: length.value].decode()
+            size = length.value + length.value // 8
+
+    def trim(self) -> int:
+        count = ctypes.c_uint64()
+        handle = self.handle
+        check(library.aqs_history_trim(self.function("object")(handle), ctypes.byref(count)))
+        return count.value
+
+
+class Recorded:
+    """What has a history."""
+
+    _opened: Opened
+
+    def history(self) -> str:
+        """The text of the history since the last trim, as `aqs audit` and `aqs draw` read it."""
+        return self._opened.history()
+
+    def trim(self) -> int:
+        """Forgets the recorded entries, and returns how many."""
+        return self._opened.trim()
+
+    def close(self) -> None:
+        """Frees its memory, at the latest when the last call that is under way has ended. Later calls raise
+        ValueError. What is not closed is freed with its last reference."""
+        self._opened.close()
+
+    def _name(self) -> str:
+        kind = type(self)
+        return f"{kind.__module__}.{kind.__qualname__}"
