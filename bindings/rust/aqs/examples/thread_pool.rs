@@ -3,13 +3,11 @@
 //! `cargo run --example thread_pool [FILE]` writes the history of the pool's lock to FILE, for `aqs audit`
 //! and `aqs draw`.
 
-use aqs::{Condition, Error, Latch, Mutex, Options, Semaphore};
+use aqs::{Condvar, Error, Latch, Mutex, Options, Semaphore};
 use std::collections::VecDeque;
 use std::sync::atomic::{AtomicU64, Ordering};
 use std::sync::Arc;
 use std::{env, fs, io, thread};
-
-const NOT_EMPTY: Condition = Condition(0);
 
 type Job = Box<dyn FnOnce() + Send>;
 
@@ -20,6 +18,7 @@ struct Queue {
 
 struct Shared {
     queue: Mutex<Queue>,
+    not_empty: Condvar,
     places: Semaphore,
     ended: Latch,
 }
@@ -34,6 +33,7 @@ impl ThreadPool {
         let queue = Queue { jobs: VecDeque::new(), is_closed: false };
         let shared = Arc::new(Shared {
             queue: Mutex::with(queue, Options::new().fair().keep_history().threads(32))?,
+            not_empty: Condvar::new(),
             places: Semaphore::new(places),
             ended: Latch::new(threads),
         });
@@ -47,17 +47,14 @@ impl ThreadPool {
     /// Adds a job, and waits while the queue is full.
     pub fn run(&self, job: impl FnOnce() + Send + 'static) {
         self.shared.places.acquire(1);
-        let mut queue = self.shared.queue.lock();
-        queue.jobs.push_back(Box::new(job));
-        queue.notify_one(NOT_EMPTY);
+        self.shared.queue.lock().jobs.push_back(Box::new(job));
+        self.shared.not_empty.notify_one();
     }
 
     /// Waits until all jobs are done and all threads have ended. Returns the history of the queue's lock.
     pub fn close(self) -> Result<String, Error> {
-        let mut queue = self.shared.queue.lock();
-        queue.is_closed = true;
-        queue.notify_all(NOT_EMPTY);
-        drop(queue);
+        self.shared.queue.lock().is_closed = true;
+        self.shared.not_empty.notify_all();
         self.shared.ended.wait();
         self.shared.queue.history()
     }
@@ -73,7 +70,7 @@ fn work(shared: &Shared) {
 
 fn next(shared: &Shared) -> Option<Job> {
     let mut queue = shared.queue.lock();
-    queue.wait_while(NOT_EMPTY, |queue| queue.jobs.is_empty() && !queue.is_closed);
+    shared.not_empty.wait_while(&mut queue, |queue| queue.jobs.is_empty() && !queue.is_closed);
     queue.jobs.pop_front()
 }
 

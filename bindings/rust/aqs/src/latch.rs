@@ -1,14 +1,36 @@
 //! A latch.
 
-use crate::error::{check, must, Error};
-use crate::object::{self, milliseconds};
+use crate::error::{check, must, refused, taken, Error};
+use crate::object::{after, Kind, Lazy, Waits};
 use crate::options::Options;
-use crate::sys;
+use crate::sys::{self, Status};
 use std::fmt;
-use std::ptr;
-use std::time::Duration;
+use std::time::{Duration, Instant};
 
-/// A gate that opens when it has been counted down often enough.
+enum LatchKind {}
+
+// SAFETY: they are the functions of a latch.
+unsafe impl Kind for LatchKind {
+    type Raw = sys::Latch;
+    type Start = u32;
+
+    unsafe fn open(place: *mut *mut sys::Latch, count: u32, options: &sys::Options) -> Status {
+        // SAFETY: the caller's.
+        unsafe { sys::aqs_latch_open(place, count, options) }
+    }
+
+    unsafe fn close(raw: *mut sys::Latch) {
+        // SAFETY: the caller's.
+        unsafe { sys::aqs_latch_close(raw) }
+    }
+
+    unsafe fn object(raw: *mut sys::Latch) -> *mut sys::Object {
+        // SAFETY: the caller's.
+        unsafe { sys::aqs_latch_object(raw) }
+    }
+}
+
+/// A gate that opens for good when it has been counted down often enough.
 ///
 /// ```
 /// use aqs::Latch;
@@ -22,88 +44,103 @@ use std::time::Duration;
 /// });
 /// ```
 pub struct Latch {
-    latch: *mut sys::Latch,
+    latch: Lazy<LatchKind>,
 }
 
-// SAFETY: any thread may call it, at the same time as others.
-unsafe impl Send for Latch {}
-// SAFETY: the same.
-unsafe impl Sync for Latch {}
-
 impl Latch {
-    /// A latch with the default options.
-    #[track_caller]
-    pub fn new(count: u32) -> Latch {
-        match Latch::with(count, Options::new()) {
-            Ok(latch) => latch,
-            Err(error) => panic!("aqs: {error}"),
-        }
+    /// A latch with the default options. Its first call opens it.
+    ///
+    /// # Panics
+    ///
+    /// The count is above 2147483647.
+    pub const fn new(count: u32) -> Latch {
+        assert!(count <= i32::MAX as u32, "aqs: the count of a latch is above 2147483647");
+        Latch { latch: Lazy::new(count, Options::new()) }
     }
 
+    /// A latch with these options, which is open: [`Error::OutOfRange`] or [`Error::OutOfMemory`].
     pub fn with(count: u32, options: Options) -> Result<Latch, Error> {
-        let mut latch = ptr::null_mut();
-        // SAFETY: both pointers are good for the call.
-        check(unsafe { sys::aqs_latch_open(&mut latch, count, &options.0) })?;
-        Ok(Latch { latch })
+        Ok(Latch { latch: Lazy::open(count, options)? })
     }
 
     /// Counts down by one. At 0 all who wait go on.
     #[track_caller]
     pub fn count_down(&self) {
         // SAFETY: the latch is open.
-        must(unsafe { sys::aqs_latch_count_down(self.latch) });
+        must(unsafe { sys::aqs_latch_count_down(self.latch.get()) });
+    }
+
+    #[track_caller]
+    fn pass(&self, until: Option<Instant>, interruptible: bool) -> Status {
+        let latch = self.latch.get();
+        // SAFETY: the latch is open.
+        unsafe {
+            let plain = || sys::aqs_latch_await(latch);
+            let interruptibly = || sys::aqs_latch_await_interruptibly(latch);
+            let timed = |time| sys::aqs_latch_timedawait(latch, time);
+            Waits { plain, interruptibly, timed }.all(until, interruptible)
+        }
     }
 
     /// Waits until the count is 0.
     #[track_caller]
     pub fn wait(&self) {
-        // SAFETY: the latch is open.
-        must(unsafe { sys::aqs_latch_await(self.latch) });
+        must(self.pass(None, false));
     }
 
     /// The same, unless the thread is interrupted.
+    #[track_caller]
     pub fn wait_interruptibly(&self) -> Result<(), Error> {
-        // SAFETY: the latch is open.
-        check(unsafe { sys::aqs_latch_await_interruptibly(self.latch) })
+        check(self.pass(None, true))
     }
 
-    /// The same, for at most so long.
-    pub fn wait_for(&self, time: Duration) -> Result<(), Error> {
-        // SAFETY: the latch is open.
-        check(unsafe { sys::aqs_latch_timedawait(self.latch, milliseconds(time)) })
+    /// The same, for at most so long: [`Error::TimedOut`] or [`Error::Interrupted`].
+    #[track_caller]
+    pub fn wait_interruptibly_for(&self, time: Duration) -> Result<(), Error> {
+        check(self.pass(after(time), true))
+    }
+
+    /// Waits for at most so long. Whether the count is 0.
+    #[track_caller]
+    pub fn wait_for(&self, time: Duration) -> bool {
+        taken(self.pass(after(time), false))
+    }
+
+    /// Waits until a moment at the latest. Whether the count is 0.
+    #[track_caller]
+    pub fn wait_until(&self, moment: Instant) -> bool {
+        taken(self.pass(Some(moment), false))
     }
 
     /// The count. Another thread may lower it before the caller reads it.
     #[track_caller]
     pub fn count(&self) -> u32 {
-        let mut count = 0;
-        // SAFETY: the latch is open, and the number lives.
-        must(unsafe { sys::aqs_latch_getcount(self.latch, &mut count) });
-        count
+        self.look().unwrap_or_else(|error| refused(error))
     }
 
-    /// The text of the history since the last trim.
+    fn look(&self) -> Result<u32, Error> {
+        let mut count = 0;
+        // SAFETY: the latch is open, and the number lives.
+        check(unsafe { sys::aqs_latch_getcount(self.latch.get(), &mut count) })?;
+        Ok(count)
+    }
+
+    /// The text of the history since the last trim, as `aqs audit` and `aqs draw` read it.
     pub fn history(&self) -> Result<String, Error> {
-        // SAFETY: the latch is open.
-        unsafe { object::history(sys::aqs_latch_object(self.latch)) }
+        self.latch.history()
     }
 
     /// Forgets the recorded entries, and returns how many.
     pub fn trim(&self) -> Result<u64, Error> {
-        // SAFETY: the latch is open.
-        unsafe { object::trim(sys::aqs_latch_object(self.latch)) }
-    }
-}
-
-impl Drop for Latch {
-    fn drop(&mut self) {
-        // SAFETY: nobody borrows it, so no thread is in a call.
-        unsafe { sys::aqs_latch_close(self.latch) }
+        self.latch.trim()
     }
 }
 
 impl fmt::Debug for Latch {
     fn fmt(&self, f: &mut fmt::Formatter<'_>) -> fmt::Result {
-        f.debug_struct("Latch").finish_non_exhaustive()
+        match self.look() {
+            Ok(count) => f.debug_struct("Latch").field("count", &count).finish(),
+            Err(_) => f.debug_struct("Latch").finish_non_exhaustive(),
+        }
     }
 }

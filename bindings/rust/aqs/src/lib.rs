@@ -1,45 +1,64 @@
-//! The synchronisers of java.util.concurrent for Rust: a mutex with conditions, a read-write lock, a
-//! semaphore and a latch.
+//! The synchronisers of java.util.concurrent for Rust: a mutex, conditions, a read-write lock, a semaphore
+//! and a latch, with the names and calls of parking_lot.
 //!
 //! Who gets what, in which order, and what each call answers is decided by proved code. Parking (`aqs.c`)
 //! and this crate are not proved. Each object records its calls, and [`history`](Mutex::history) returns
 //! them as the text that `aqs audit` checks and `aqs draw` draws.
 //!
 //! ```
-//! use aqs::{Condition, Mutex};
+//! use aqs::{Condvar, Mutex};
 //! use std::collections::VecDeque;
 //!
-//! const NOT_EMPTY: Condition = Condition(0);
+//! static QUEUE: Mutex<VecDeque<u32>> = Mutex::new(VecDeque::new());
+//! static NOT_EMPTY: Condvar = Condvar::new();
 //!
-//! let queue = Mutex::new(VecDeque::new());
 //! std::thread::scope(|scope| {
 //!     scope.spawn(|| {
-//!         let mut items = queue.lock();
-//!         items.wait_while(NOT_EMPTY, |items| items.is_empty());
+//!         let mut items = QUEUE.lock();
+//!         NOT_EMPTY.wait_while(&mut items, |items| items.is_empty());
 //!         assert_eq!(items.pop_front(), Some(7));
 //!     });
-//!     let mut items = queue.lock();
-//!     items.push_back(7);
-//!     items.notify_one(NOT_EMPTY);
+//!     QUEUE.lock().push_back(7);
+//!     NOT_EMPTY.notify_one();
 //! });
 //! ```
 //!
 //! The crate links `libaqs.a`, which `make -C bindings/c` builds.
 
+#![warn(missing_docs)]
+#![deny(unsafe_op_in_unsafe_fn)]
+
+mod condvar;
 mod error;
 mod latch;
 mod mutex;
 mod object;
 mod options;
+mod raw_mutex;
 mod rwlock;
 mod semaphore;
 mod sys;
 mod thread;
 
+pub use condvar::{Condvar, WaitTimeoutResult};
 pub use error::Error;
 pub use latch::Latch;
-pub use mutex::{Condition, Entry, Mutex, MutexGuard};
+pub use mutex::{Entry, MappedMutexGuard, Mutex, MutexGuard};
 pub use options::Options;
-pub use rwlock::{ReadGuard, RwLock, WriteGuard};
-pub use semaphore::Semaphore;
+pub use rwlock::{MappedReadGuard, MappedWriteGuard, ReadGuard, RwLock, WriteGuard};
+pub use semaphore::{Permits, Semaphore};
 pub use thread::{interrupted, Thread};
+
+/// [`ReadGuard`], by the name that it has in parking_lot.
+pub type RwLockReadGuard<'l, T> = ReadGuard<'l, T>;
+/// [`WriteGuard`], by the name that it has in parking_lot.
+pub type RwLockWriteGuard<'l, T> = WriteGuard<'l, T>;
+/// [`MappedReadGuard`], by the name that it has in parking_lot.
+pub type MappedRwLockReadGuard<'l, T> = MappedReadGuard<'l, T>;
+/// [`MappedWriteGuard`], by the name that it has in parking_lot.
+pub type MappedRwLockWriteGuard<'l, T> = MappedWriteGuard<'l, T>;
+
+// The page's example runs with the tests.
+#[cfg(doctest)]
+#[doc = include_str!("../README.md")]
+struct Readme;

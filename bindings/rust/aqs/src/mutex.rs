@@ -1,91 +1,78 @@
 //! A lock round a value.
 
-use crate::error::{check, must, taken, Error};
-use crate::object::{self, me, milliseconds};
+use crate::error::{check, taken, Error};
+use crate::object::{after, Lazy};
 use crate::options::Options;
-use crate::sys;
-use std::cell::{Cell, UnsafeCell};
+use crate::raw_mutex::RawMutex;
+use std::cell::UnsafeCell;
 use std::fmt;
 use std::marker::PhantomData;
+use std::mem::ManuallyDrop;
 use std::ops::{Deref, DerefMut};
-use std::ptr;
-use std::sync::atomic::{AtomicU16, Ordering};
-use std::time::Duration;
-
-const NOBODY: u16 = u16::MAX;
-
-/// The number of a condition of a mutex, from 0.
-#[derive(Clone, Copy, Debug, PartialEq, Eq)]
-pub struct Condition(pub u8);
+use std::time::{Duration, Instant};
 
 /// A lock round a value. Who gets it, and in which order, is decided by proved code.
 ///
 /// [`lock`](Mutex::lock) lets one thread change the value. [`enter`](Mutex::enter) lets one thread read it,
-/// and a thread that has entered may enter again, as with a reentrant lock.
+/// and a thread that has entered may enter again, as with a reentrant lock. Threads wait on a
+/// [`Condvar`](crate::Condvar) for what others do.
 ///
 /// ```
 /// use aqs::Mutex;
 ///
-/// let mutex = Mutex::new(0);
+/// static COUNT: Mutex<u32> = Mutex::new(0);
+///
 /// std::thread::scope(|scope| {
 ///     for _ in 0..4 {
-///         scope.spawn(|| *mutex.lock() += 1);
+///         scope.spawn(|| *COUNT.lock() += 1);
 ///     }
 /// });
-/// assert_eq!(*mutex.lock(), 4);
+/// assert_eq!(*COUNT.lock(), 4);
 /// ```
+///
+/// A panic while a thread has the value leaves the mutex usable, as in parking_lot.
 ///
 /// # Panics
 ///
-/// Calls panic where they could never be right: a lock by the thread that has the value already, more
-/// threads than the mutex was opened for, a full history that is to be kept.
+/// Calls panic where they could never be right: a lock by the thread that has the value already, more threads
+/// than the mutex was opened for, a full history that is to be kept. A `try` by the thread that has the value
+/// returns None.
 pub struct Mutex<T: ?Sized> {
-    lock: *mut sys::Lock,
-    /// Whose the value is. Only that thread writes its own number, so a thread knows of itself.
-    owner: AtomicU16,
-    /// How often the owner has entered, or 0 if it has locked. Only the owner uses it.
-    entered: Cell<u32>,
+    raw: RawMutex,
     value: UnsafeCell<T>,
 }
 
 // SAFETY: the value goes from thread to thread with the lock, and one thread at a time has it.
 unsafe impl<T: ?Sized + Send> Send for Mutex<T> {}
-// SAFETY: the same; what the owner alone uses is reached after it has the lock.
+// SAFETY: the same.
 unsafe impl<T: ?Sized + Send> Sync for Mutex<T> {}
 
 impl<T> Mutex<T> {
-    /// A mutex with the default options.
-    #[track_caller]
-    pub fn new(value: T) -> Mutex<T> {
-        match Mutex::with(value, Options::new()) {
-            Ok(mutex) => mutex,
-            Err(error) => panic!("aqs: {error}"),
-        }
+    /// A mutex with the default options. Its first call opens it.
+    pub const fn new(value: T) -> Mutex<T> {
+        let options = Options::new().with_conditions();
+        let raw = RawMutex::new(Lazy::new((), options), options.0.conditions);
+        Mutex { raw, value: UnsafeCell::new(value) }
     }
 
+    /// A mutex with these options, which is open: [`Error::OutOfRange`] or [`Error::OutOfMemory`].
     pub fn with(value: T, options: Options) -> Result<Mutex<T>, Error> {
-        let mut lock = ptr::null_mut();
-        // SAFETY: both pointers are good for the call.
-        check(unsafe { sys::aqs_lock_open(&mut lock, &options.0) })?;
-        let owner = AtomicU16::new(NOBODY);
-        let entered = Cell::new(0);
-        let value = UnsafeCell::new(value);
-        Ok(Mutex { lock, owner, entered, value })
+        Ok(Mutex { raw: RawMutex::open(options)?, value: UnsafeCell::new(value) })
+    }
+
+    /// The value, without the mutex.
+    pub fn into_inner(self) -> T {
+        self.value.into_inner()
     }
 }
 
 impl<T: ?Sized> Mutex<T> {
-    fn is_mine(&self) -> bool {
-        self.owner.load(Ordering::Relaxed) == me()
-    }
-
     #[track_caller]
     fn refuse_owner(&self) {
-        assert!(!self.is_mine(), "aqs: the thread has this mutex already");
+        assert!(!self.raw.is_mine(), "aqs: the thread has this mutex already");
     }
 
     fn guard(&self) -> MutexGuard<'_, T> {
-        self.owner.store(me(), Ordering::Relaxed);
         MutexGuard { mutex: self, not_send: PhantomData }
     }
 
@@ -93,8 +80,7 @@ impl<T: ?Sized> Mutex<T> {
     #[track_caller]
     pub fn lock(&self) -> MutexGuard<'_, T> {
         self.refuse_owner();
-        // SAFETY: the lock is open.
-        must(unsafe { sys::aqs_lock_lock(self.lock) });
+        self.raw.lock();
         self.guard()
     }
 
@@ -102,27 +88,39 @@ impl<T: ?Sized> Mutex<T> {
     #[track_caller]
     pub fn lock_interruptibly(&self) -> Result<MutexGuard<'_, T>, Error> {
         self.refuse_owner();
-        // SAFETY: the lock is open.
-        check(unsafe { sys::aqs_lock_lock_interruptibly(self.lock) })?;
+        check(self.raw.lock_until(None, true))?;
         Ok(self.guard())
     }
 
-    /// Takes the value if it is free.
+    /// The same, for at most so long: [`Error::TimedOut`] or [`Error::Interrupted`].
+    #[track_caller]
+    pub fn lock_interruptibly_for(&self, time: Duration) -> Result<MutexGuard<'_, T>, Error> {
+        self.refuse_owner();
+        check(self.raw.lock_until(after(time), true))?;
+        Ok(self.guard())
+    }
+
+    /// Takes the value if it is free. None if any thread has it, also the calling one.
     #[track_caller]
     pub fn try_lock(&self) -> Option<MutexGuard<'_, T>> {
-        self.refuse_owner();
-        // SAFETY: the lock is open.
-        taken(unsafe { sys::aqs_lock_trylock(self.lock) }).then(|| self.guard())
+        (!self.raw.is_mine() && taken(self.raw.try_lock())).then(|| self.guard())
     }
 
-    /// Takes the value, and waits for at most so long. [`Error::TimedOut`] or [`Error::Interrupted`]
-    /// without it.
+    /// Takes the value, and waits for at most so long. The thread that has it gets None at once.
     #[track_caller]
-    pub fn try_lock_for(&self, time: Duration) -> Result<MutexGuard<'_, T>, Error> {
-        self.refuse_owner();
-        // SAFETY: the lock is open.
-        check(unsafe { sys::aqs_lock_timedlock(self.lock, milliseconds(time)) })?;
-        Ok(self.guard())
+    pub fn try_lock_for(&self, time: Duration) -> Option<MutexGuard<'_, T>> {
+        self.try_lock_to(after(time))
+    }
+
+    /// Takes the value, and waits until a moment at the latest. The thread that has it gets None at once.
+    #[track_caller]
+    pub fn try_lock_until(&self, moment: Instant) -> Option<MutexGuard<'_, T>> {
+        self.try_lock_to(Some(moment))
+    }
+
+    #[track_caller]
+    fn try_lock_to(&self, until: Option<Instant>) -> Option<MutexGuard<'_, T>> {
+        (!self.raw.is_mine() && taken(self.raw.lock_until(until, false))).then(|| self.guard())
     }
 
     /// Takes the value to read it. A thread that has entered may enter again.
@@ -140,13 +138,21 @@ impl<T: ?Sized> Mutex<T> {
     /// ```
     #[track_caller]
     pub fn enter(&self) -> Entry<'_, T> {
-        let is_mine = self.is_mine();
-        assert!(!is_mine || self.entered.get() > 0, "aqs: the thread has locked this mutex");
-        // SAFETY: the lock is open.
-        must(unsafe { sys::aqs_lock_lock(self.lock) });
-        self.owner.store(me(), Ordering::Relaxed);
-        self.entered.set(self.entered.get() + 1);
+        let has_locked = self.raw.is_mine() && self.raw.entered().get() == 0;
+        assert!(!has_locked, "aqs: the thread has locked this mutex");
+        self.raw.lock();
+        self.raw.entered().set(self.raw.entered().get() + 1);
         Entry { mutex: self, not_send: PhantomData }
+    }
+
+    /// Whether any thread has the value. Another thread may change that before the caller reads it.
+    pub fn is_locked(&self) -> bool {
+        self.raw.is_locked()
+    }
+
+    /// Whether the calling thread has the value.
+    pub fn is_mine(&self) -> bool {
+        self.raw.is_mine()
     }
 
     /// The value, which nobody else can reach.
@@ -156,100 +162,128 @@ impl<T: ?Sized> Mutex<T> {
 
     /// The text of the history since the last trim, as `aqs audit` and `aqs draw` read it.
     pub fn history(&self) -> Result<String, Error> {
-        // SAFETY: the lock is open.
-        unsafe { object::history(sys::aqs_lock_object(self.lock)) }
+        self.raw.lock.history()
     }
 
     /// Forgets the recorded entries, and returns how many.
     pub fn trim(&self) -> Result<u64, Error> {
-        // SAFETY: the lock is open.
-        unsafe { object::trim(sys::aqs_lock_object(self.lock)) }
-    }
-
-    // Gives one hold back. It never lacks memory or room.
-    fn unlock(&self) {
-        // SAFETY: the lock is open, and the thread holds it.
-        let _given = unsafe { sys::aqs_lock_unlock(self.lock) };
+        self.raw.lock.trim()
     }
 }
 
-impl<T: ?Sized> Drop for Mutex<T> {
-    fn drop(&mut self) {
-        // SAFETY: nobody borrows it, so no thread is in a call.
-        unsafe { sys::aqs_lock_close(self.lock) }
+impl<T: Default> Default for Mutex<T> {
+    fn default() -> Mutex<T> {
+        Mutex::new(T::default())
     }
 }
 
-impl<T: ?Sized> fmt::Debug for Mutex<T> {
+impl<T> From<T> for Mutex<T> {
+    fn from(value: T) -> Mutex<T> {
+        Mutex::new(value)
+    }
+}
+
+impl<T: ?Sized + fmt::Debug> fmt::Debug for Mutex<T> {
     fn fmt(&self, f: &mut fmt::Formatter<'_>) -> fmt::Result {
-        f.debug_struct("Mutex").finish_non_exhaustive()
+        match self.try_lock() {
+            Some(guard) => f.debug_struct("Mutex").field("data", &&*guard).finish(),
+            None => f.debug_struct("Mutex").field("data", &format_args!("<locked>")).finish(),
+        }
     }
 }
+
+/// What a guard shows of itself is its value.
+macro_rules! shows_its_value {
+    ($($name:ident)*) => {$(
+        impl<T: ?Sized + fmt::Debug> fmt::Debug for $name<'_, T> {
+            fn fmt(&self, f: &mut fmt::Formatter<'_>) -> fmt::Result {
+                (**self).fmt(f)
+            }
+        }
+
+        impl<T: ?Sized + fmt::Display> fmt::Display for $name<'_, T> {
+            fn fmt(&self, f: &mut fmt::Formatter<'_>) -> fmt::Result {
+                (**self).fmt(f)
+            }
+        }
+
+        // SAFETY: a shared guard lends the value to be read.
+        unsafe impl<T: ?Sized + Sync> Sync for $name<'_, T> {}
+    )*};
+}
+pub(crate) use shows_its_value;
+
+shows_its_value! { MutexGuard MappedMutexGuard Entry }
 
 /// The value of a mutex, which one thread has until the guard is dropped.
+#[must_use = "the mutex is free again if the guard is not kept"]
 pub struct MutexGuard<'m, T: ?Sized> {
     mutex: &'m Mutex<T>,
     not_send: PhantomData<*const ()>,
 }
 
-// SAFETY: who has a shared guard sees the value alone.
-unsafe impl<T: ?Sized + Sync> Sync for MutexGuard<'_, T> {}
-
-impl<T: ?Sized> MutexGuard<'_, T> {
-    /// Gives the value up, sleeps until the condition is signalled, and has the value again. What it waits
-    /// for may have changed by then, so wait in a loop, or by [`wait_while`](MutexGuard::wait_while).
-    #[track_caller]
-    pub fn wait(&mut self, condition: Condition) {
-        must(self.give_up(|lock| {
-            // SAFETY: the lock is open, and the thread owns it.
-            unsafe { sys::aqs_lock_wait(lock, condition.0) }
-        }));
+impl<'m, T: ?Sized> MutexGuard<'m, T> {
+    pub(crate) fn raw(&self) -> &RawMutex {
+        &self.mutex.raw
     }
 
-    /// Waits while the value is so.
-    #[track_caller]
-    pub fn wait_while(&mut self, condition: Condition, mut is_so: impl FnMut(&mut T) -> bool) {
-        while is_so(&mut **self) {
-            self.wait(condition);
+    /// The mutex of a guard.
+    pub fn mutex(guard: &MutexGuard<'m, T>) -> &'m Mutex<T> {
+        guard.mutex
+    }
+
+    /// Gives the value up, calls a function, and has the value again, also if the function panics.
+    pub fn unlocked<R>(guard: &mut MutexGuard<'m, T>, call: impl FnOnce() -> R) -> R {
+        struct Again<'r>(&'r RawMutex);
+        impl Drop for Again<'_> {
+            fn drop(&mut self) {
+                self.0.lock();
+            }
         }
+        guard.raw().unlock();
+        let _again = Again(guard.raw());
+        call()
     }
 
-    /// The same as [`wait`](MutexGuard::wait), unless the thread is interrupted. It has the value again.
-    pub fn wait_interruptibly(&mut self, condition: Condition) -> Result<(), Error> {
-        check(self.give_up(|lock| {
-            // SAFETY: as above.
-            unsafe { sys::aqs_lock_wait_interruptibly(lock, condition.0) }
-        }))
+    /// Lets a thread that waits for the value have it in between.
+    pub fn bump(guard: &mut MutexGuard<'m, T>) {
+        MutexGuard::unlocked(guard, || {});
     }
 
-    /// The same for at most so long. It has the value again.
-    pub fn wait_for(&mut self, condition: Condition, time: Duration) -> Result<(), Error> {
-        check(self.give_up(|lock| {
-            // SAFETY: as above.
-            unsafe { sys::aqs_lock_timedwait(lock, condition.0, milliseconds(time)) }
-        }))
+    /// A guard of a part of the value.
+    ///
+    /// ```
+    /// use aqs::{Mutex, MutexGuard};
+    ///
+    /// let pair = Mutex::new((1, "one"));
+    /// let mut first = MutexGuard::map(pair.lock(), |pair| &mut pair.0);
+    /// *first += 1;
+    /// drop(first);
+    /// assert_eq!(*pair.lock(), (2, "one"));
+    /// ```
+    pub fn map<U: ?Sized>(
+        guard: MutexGuard<'m, T>,
+        part: impl FnOnce(&mut T) -> &mut U,
+    ) -> MappedMutexGuard<'m, U> {
+        let mut guard = guard;
+        let value: *mut U = part(&mut *guard);
+        let raw = &ManuallyDrop::new(guard).mutex.raw;
+        MappedMutexGuard { raw, value, lends: PhantomData }
     }
 
-    /// Lets the thread that has slept longest on the condition go on, once the value is free.
-    #[track_caller]
-    pub fn notify_one(&self, condition: Condition) {
-        // SAFETY: the lock is open, and the thread owns it.
-        must(unsafe { sys::aqs_lock_signal(self.mutex.lock, condition.0) });
-    }
-
-    /// Lets all of them go on, one after another.
-    #[track_caller]
-    pub fn notify_all(&self, condition: Condition) {
-        // SAFETY: as above.
-        must(unsafe { sys::aqs_lock_signal_all(self.mutex.lock, condition.0) });
-    }
-
-    // Others may have the value during the wait.
-    fn give_up(&mut self, wait: impl FnOnce(*mut sys::Lock) -> sys::Status) -> sys::Status {
-        self.mutex.owner.store(NOBODY, Ordering::Relaxed);
-        let status = wait(self.mutex.lock);
-        self.mutex.owner.store(me(), Ordering::Relaxed);
-        status
+    /// The same if there is such a part, and else the guard again.
+    pub fn try_map<U: ?Sized>(
+        guard: MutexGuard<'m, T>,
+        part: impl FnOnce(&mut T) -> Option<&mut U>,
+    ) -> Result<MappedMutexGuard<'m, U>, MutexGuard<'m, T>> {
+        let mut guard = guard;
+        match part(&mut *guard).map(|it| -> *mut U { it }) {
+            Some(value) => {
+                let raw = &ManuallyDrop::new(guard).mutex.raw;
+                Ok(MappedMutexGuard { raw, value, lends: PhantomData })
+            }
+            None => Err(guard),
+        }
     }
 }
 
@@ -257,7 +291,7 @@ impl<T: ?Sized> Deref for MutexGuard<'_, T> {
     type Target = T;
 
     fn deref(&self) -> &T {
-        // SAFETY: the thread has the lock, and no entry.
+        // SAFETY: the thread has the lock.
         unsafe { &*self.mutex.value.get() }
     }
 }
@@ -271,12 +305,70 @@ impl<T: ?Sized> DerefMut for MutexGuard<'_, T> {
 
 impl<T: ?Sized> Drop for MutexGuard<'_, T> {
     fn drop(&mut self) {
-        self.mutex.owner.store(NOBODY, Ordering::Relaxed);
-        self.mutex.unlock();
+        self.raw().unlock();
+    }
+}
+
+/// A part of the value of a mutex, which one thread has until the guard is dropped.
+#[must_use = "the mutex is free again if the guard is not kept"]
+pub struct MappedMutexGuard<'m, T: ?Sized> {
+    raw: &'m RawMutex,
+    value: *mut T,
+    lends: PhantomData<&'m mut T>,
+}
+
+impl<'m, T: ?Sized> MappedMutexGuard<'m, T> {
+    /// A guard of a part of this part.
+    pub fn map<U: ?Sized>(
+        guard: MappedMutexGuard<'m, T>,
+        part: impl FnOnce(&mut T) -> &mut U,
+    ) -> MappedMutexGuard<'m, U> {
+        let mut guard = guard;
+        let value: *mut U = part(&mut *guard);
+        let raw = ManuallyDrop::new(guard).raw;
+        MappedMutexGuard { raw, value, lends: PhantomData }
+    }
+
+    /// The same if there is such a part, and else the guard again.
+    pub fn try_map<U: ?Sized>(
+        guard: MappedMutexGuard<'m, T>,
+        part: impl FnOnce(&mut T) -> Option<&mut U>,
+    ) -> Result<MappedMutexGuard<'m, U>, MappedMutexGuard<'m, T>> {
+        let mut guard = guard;
+        match part(&mut *guard).map(|it| -> *mut U { it }) {
+            Some(value) => {
+                let raw = ManuallyDrop::new(guard).raw;
+                Ok(MappedMutexGuard { raw, value, lends: PhantomData })
+            }
+            None => Err(guard),
+        }
+    }
+}
+
+impl<T: ?Sized> Deref for MappedMutexGuard<'_, T> {
+    type Target = T;
+
+    fn deref(&self) -> &T {
+        // SAFETY: the thread has the lock, and the value is part of the mutex's.
+        unsafe { &*self.value }
+    }
+}
+
+impl<T: ?Sized> DerefMut for MappedMutexGuard<'_, T> {
+    fn deref_mut(&mut self) -> &mut T {
+        // SAFETY: the same, and it has no other guard.
+        unsafe { &mut *self.value }
+    }
+}
+
+impl<T: ?Sized> Drop for MappedMutexGuard<'_, T> {
+    fn drop(&mut self) {
+        self.raw.unlock();
     }
 }
 
 /// The value of a mutex, which one thread reads until the entry is dropped.
+#[must_use = "the mutex is free again if the entry is not kept"]
 pub struct Entry<'m, T: ?Sized> {
     mutex: &'m Mutex<T>,
     not_send: PhantomData<*const ()>,
@@ -293,11 +385,12 @@ impl<T: ?Sized> Deref for Entry<'_, T> {
 
 impl<T: ?Sized> Drop for Entry<'_, T> {
     fn drop(&mut self) {
-        let left = self.mutex.entered.get() - 1;
-        self.mutex.entered.set(left);
-        if left == 0 {
-            self.mutex.owner.store(NOBODY, Ordering::Relaxed);
+        let raw = &self.mutex.raw;
+        raw.entered().set(raw.entered().get() - 1);
+        if raw.entered().get() == 0 {
+            raw.unlock();
+        } else {
+            raw.leave();
         }
-        self.mutex.unlock();
     }
 }

@@ -1,54 +1,197 @@
-//! What all objects share.
+//! What all objects share: how they are opened, their histories, and calls that wait.
 
-use crate::error::{check, Error};
+use crate::error::{check, refused, Error};
+use crate::options::Options;
 use crate::sys;
-use std::time::Duration;
+use std::ptr;
+use std::sync::OnceLock;
+use std::time::{Duration, Instant};
 
-/// A time as milliseconds, rounded up, at most some 49 days.
-pub(crate) fn milliseconds(time: Duration) -> u32 {
-    let whole = time.as_nanos().div_ceil(1_000_000);
-    u32::try_from(whole).unwrap_or(u32::MAX)
-}
-
-/// The text of the history since the last trim.
+/// A kind of object of the library.
 ///
 /// # Safety
 ///
-/// The object is open.
-pub(crate) unsafe fn history(object: *mut sys::Object) -> Result<String, Error> {
-    const NO_SPACE: sys::Status = 14;
-    let mut text: Vec<u8> = Vec::new();
-    loop {
-        let mut length = 0;
-        // SAFETY: the object is open, and the buffer has that length.
-        let status = unsafe {
-            sys::aqs_history_text(object, text.as_mut_ptr().cast(), text.len(), &mut length)
-        };
-        if status == NO_SPACE {
-            text.resize(length + length / 8, 0);
-            continue;
-        }
-        check(status)?;
-        text.truncate(length);
-        return Ok(String::from_utf8(text).expect("a history is a text"));
+/// The functions are those of one kind in `aqs.h`.
+pub(crate) unsafe trait Kind {
+    type Raw;
+    /// What it is opened with beside its options.
+    type Start: Copy;
+
+    /// # Safety
+    ///
+    /// The place is good for the call.
+    unsafe fn open(place: *mut *mut Self::Raw, start: Self::Start, options: &sys::Options) -> sys::Status;
+    /// # Safety
+    ///
+    /// The object is open, and no thread calls it later.
+    unsafe fn close(raw: *mut Self::Raw);
+    /// # Safety
+    ///
+    /// The object is open.
+    unsafe fn object(raw: *mut Self::Raw) -> *mut sys::Object;
+}
+
+struct Handle<K: Kind>(*mut K::Raw);
+
+// SAFETY: any thread may call an open object, at the same time as others.
+unsafe impl<K: Kind> Send for Handle<K> {}
+// SAFETY: the same.
+unsafe impl<K: Kind> Sync for Handle<K> {}
+
+impl<K: Kind> Handle<K> {
+    fn open(start: K::Start, options: &Options) -> Result<Handle<K>, Error> {
+        let mut raw = ptr::null_mut();
+        // SAFETY: the place is good for the call.
+        check(unsafe { K::open(&mut raw, start, &options.0) })?;
+        Ok(Handle(raw))
     }
 }
 
-/// Forgets the recorded entries, and returns how many.
-///
-/// # Safety
-///
-/// The object is open.
-pub(crate) unsafe fn trim(object: *mut sys::Object) -> Result<u64, Error> {
-    let mut count = 0;
-    // SAFETY: the object is open.
-    check(unsafe { sys::aqs_history_trim(object, &mut count) })?;
-    Ok(count)
+impl<K: Kind> Drop for Handle<K> {
+    fn drop(&mut self) {
+        // SAFETY: nobody borrows it, so no thread calls it later.
+        unsafe { K::close(self.0) }
+    }
+}
+
+/// An object that its first call opens.
+pub(crate) struct Lazy<K: Kind> {
+    handle: OnceLock<Handle<K>>,
+    start: K::Start,
+    options: Options,
+}
+
+impl<K: Kind> Lazy<K> {
+    pub(crate) const fn new(start: K::Start, options: Options) -> Lazy<K> {
+        Lazy { handle: OnceLock::new(), start, options }
+    }
+
+    /// The object, opened now.
+    pub(crate) fn open(start: K::Start, options: Options) -> Result<Lazy<K>, Error> {
+        let handle = OnceLock::from(Handle::open(start, &options)?);
+        Ok(Lazy { handle, start, options })
+    }
+
+    /// Panics if it can't be opened.
+    #[inline]
+    #[track_caller]
+    pub(crate) fn get(&self) -> *mut K::Raw {
+        match self.handle.get() {
+            Some(handle) => handle.0,
+            None => self.open_now(),
+        }
+    }
+
+    #[cold]
+    #[track_caller]
+    fn open_now(&self) -> *mut K::Raw {
+        let open = || Handle::open(self.start, &self.options).unwrap_or_else(|error| refused(error));
+        self.handle.get_or_init(open).0
+    }
+
+    /// The text of the history since the last trim.
+    pub(crate) fn history(&self) -> Result<String, Error> {
+        const NO_SPACE: sys::Status = 14;
+        // SAFETY: the object is open.
+        let object = unsafe { K::object(self.get()) };
+        let mut text: Vec<u8> = Vec::new();
+        loop {
+            let (mut length, size) = (0, text.len());
+            // SAFETY: the object is open, and the buffer has that length.
+            let status =
+                unsafe { sys::aqs_history_text(object, text.as_mut_ptr().cast(), size, &mut length) };
+            if status == NO_SPACE {
+                text.resize(length + length / 8, 0);
+                continue;
+            }
+            check(status)?;
+            text.truncate(length);
+            return Ok(String::from_utf8(text).expect("a history is a text"));
+        }
+    }
+
+    /// Forgets the recorded entries, and returns how many.
+    pub(crate) fn trim(&self) -> Result<u64, Error> {
+        let mut count = 0;
+        // SAFETY: the object is open.
+        check(unsafe { sys::aqs_history_trim(K::object(self.get()), &mut count) })?;
+        Ok(count)
+    }
+}
+
+/// When so much time from now is over. None: never.
+pub(crate) fn after(time: Duration) -> Option<Instant> {
+    Instant::now().checked_add(time)
+}
+
+/// What is left until a moment as milliseconds, rounded up, at most some 49 days.
+fn left(until: Instant) -> u32 {
+    let whole = until.saturating_duration_since(Instant::now()).as_nanos().div_ceil(1_000_000);
+    u32::try_from(whole).unwrap_or(u32::MAX)
+}
+
+pub(crate) fn is_up(until: Option<Instant>) -> bool {
+    until.is_some_and(|until| Instant::now() >= until)
+}
+
+/// A call that waits in three ways: without end, until an interrupt, and for so many milliseconds.
+pub(crate) struct Waits<P, I, T> {
+    pub(crate) plain: P,
+    pub(crate) interruptibly: I,
+    pub(crate) timed: T,
+}
+
+impl<P, I, T> Waits<P, I, T>
+where
+    P: Fn() -> sys::Status,
+    I: Fn() -> sys::Status,
+    T: Fn(u32) -> sys::Status,
+{
+    /// One call. A time may be up for the library that isn't yet for the caller, if it is long.
+    pub(crate) fn once(&self, until: Option<Instant>, interruptible: bool) -> sys::Status {
+        match until {
+            Some(until) => (self.timed)(left(until)),
+            None if interruptible => (self.interruptibly)(),
+            None => (self.plain)(),
+        }
+    }
+
+    /// Calls until the time is up. An interrupt is left pending, unless it may end the wait.
+    pub(crate) fn all(&self, until: Option<Instant>, interruptible: bool) -> sys::Status {
+        let mut pending = Pending::default();
+        loop {
+            let status = self.once(until, interruptible);
+            match check(status) {
+                Err(Error::Interrupted) if !interruptible => pending.note(),
+                Err(Error::TimedOut) if !is_up(until) => {}
+                _ => return status,
+            }
+        }
+    }
+}
+
+/// An interrupt that ended a call which no interrupt may end. It is pending again afterwards.
+#[derive(Default)]
+pub(crate) struct Pending(bool);
+
+impl Pending {
+    pub(crate) fn note(&mut self) {
+        self.0 = true;
+    }
+}
+
+impl Drop for Pending {
+    fn drop(&mut self) {
+        if self.0 {
+            // SAFETY: any number has an answer, and that of a thread is in range.
+            let _set = unsafe { sys::aqs_thread_interrupt(me()) };
+        }
+    }
 }
 
 /// The calling thread's number.
-#[track_caller]
-pub(crate) fn me() -> u16 {
+#[inline]
+pub(crate) fn me() -> u32 {
     // SAFETY: it takes nothing.
     unsafe { sys::aqs_thread_self() }
 }

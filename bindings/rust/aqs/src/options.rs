@@ -2,7 +2,7 @@
 
 use crate::sys;
 
-/// How an object is opened: not fair, for 64 threads, with one condition, and it trims its history, unless
+/// How an object is opened: not fair, for 256 threads, with 16 conditions, and it trims its history, unless
 /// these calls say otherwise.
 ///
 /// ```
@@ -11,47 +11,60 @@ use crate::sys;
 /// let mutex = Mutex::with(5, Options::new().fair().keep_history().threads(8)).unwrap();
 /// assert_eq!(*mutex.lock(), 5);
 /// ```
-#[derive(Clone, Copy, Debug, Default)]
+#[derive(Clone, Copy, Debug, Default, PartialEq, Eq)]
 pub struct Options(pub(crate) sys::Options);
 
+/// As many as a lock of the library may have.
+pub(crate) const CONDITIONS: u8 = 16;
+
 impl Options {
-    pub fn new() -> Options {
-        Options::default()
+    /// The defaults.
+    pub const fn new() -> Options {
+        Options(sys::Options { policy: 0, when_full: 0, history: 0, threads: 0, conditions: 0 })
     }
 
     /// New calls queue up after those who wait. Tries without a time barge.
-    pub fn fair(mut self) -> Options {
+    pub const fn fair(mut self) -> Options {
         self.0.policy = 1;
         self
     }
 
     /// New calls queue up after those who wait. A try fails if others wait.
-    pub fn strict(mut self) -> Options {
+    pub const fn strict(mut self) -> Options {
         self.0.policy = 2;
         self
     }
 
     /// Keeps all entries, and refuses new calls where the history is full.
-    pub fn keep_history(mut self) -> Options {
+    pub const fn keep_history(mut self) -> Options {
         self.0.when_full = 1;
         self
     }
 
     /// The most entries that are kept, at least 16.
-    pub fn most_entries(mut self, entries: u32) -> Options {
+    pub const fn most_entries(mut self, entries: u32) -> Options {
         self.0.history = entries;
         self
     }
 
-    /// How many threads may use it, 1 to 256.
-    pub fn threads(mut self, threads: u16) -> Options {
+    /// How many threads can hold it or wait for it at a time, 1 to 256. Each takes memory.
+    pub const fn threads(mut self, threads: u16) -> Options {
         self.0.threads = threads;
         self
     }
 
-    /// How many conditions a mutex has, 1 to 16.
-    pub fn conditions(mut self, conditions: u8) -> Options {
+    /// How many [`Condvar`](crate::Condvar)s of a mutex may be waited on at once without sharing a number, 1
+    /// to 16. Each takes memory.
+    pub const fn conditions(mut self, conditions: u8) -> Options {
         self.0.conditions = conditions;
+        self
+    }
+
+    /// The same, with so many conditions if it doesn't say how many.
+    pub(crate) const fn with_conditions(mut self) -> Options {
+        if self.0.conditions == 0 {
+            self.0.conditions = CONDITIONS;
+        }
         self
     }
 }

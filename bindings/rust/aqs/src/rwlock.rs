@@ -1,19 +1,135 @@
 //! A read-write lock round a value.
 
 use crate::error::{check, must, taken, Error};
-use crate::object::{self, me, milliseconds};
+use crate::mutex::shows_its_value;
+use crate::object::{after, me, Kind, Lazy, Waits};
 use crate::options::Options;
-use crate::sys;
+use crate::sys::{self, Status};
 use std::cell::UnsafeCell;
 use std::fmt;
 use std::marker::PhantomData;
-use std::mem;
+use std::mem::ManuallyDrop;
 use std::ops::{Deref, DerefMut};
-use std::ptr;
-use std::sync::atomic::{AtomicU16, Ordering};
-use std::time::Duration;
+use std::sync::atomic::{AtomicU32, AtomicUsize, Ordering};
+use std::time::{Duration, Instant};
 
-const NOBODY: u16 = u16::MAX;
+// No thread has so great a number, nor is it what one without a number gets.
+const NOBODY: u32 = u32::MAX - 1;
+
+enum RwLockKind {}
+
+// SAFETY: they are the functions of a read-write lock.
+unsafe impl Kind for RwLockKind {
+    type Raw = sys::RwLock;
+    type Start = ();
+
+    unsafe fn open(place: *mut *mut sys::RwLock, _start: (), options: &sys::Options) -> Status {
+        // SAFETY: the caller's.
+        unsafe { sys::aqs_rwlock_open(place, options) }
+    }
+
+    unsafe fn close(raw: *mut sys::RwLock) {
+        // SAFETY: the caller's.
+        unsafe { sys::aqs_rwlock_close(raw) }
+    }
+
+    unsafe fn object(raw: *mut sys::RwLock) -> *mut sys::Object {
+        // SAFETY: the caller's.
+        unsafe { sys::aqs_rwlock_object(raw) }
+    }
+}
+
+struct RawRwLock {
+    lock: Lazy<RwLockKind>,
+    /// Who writes. Only that thread writes its own number, so a thread knows of itself.
+    writer: AtomicU32,
+    /// How many guards read.
+    readers: AtomicUsize,
+}
+
+impl RawRwLock {
+    const fn new(lock: Lazy<RwLockKind>) -> RawRwLock {
+        RawRwLock { lock, writer: AtomicU32::new(NOBODY), readers: AtomicUsize::new(0) }
+    }
+
+    fn writes(&self) -> bool {
+        self.writer.load(Ordering::Relaxed) == me()
+    }
+
+    #[track_caller]
+    fn refuse_writer(&self) {
+        assert!(!self.writes(), "aqs: the thread writes already");
+    }
+
+    fn reads(&self, status: Status) -> Status {
+        if status == 0 {
+            self.readers.fetch_add(1, Ordering::Relaxed);
+        }
+        status
+    }
+
+    fn wrote(&self, status: Status) -> Status {
+        if status == 0 {
+            self.writer.store(me(), Ordering::Relaxed);
+        }
+        status
+    }
+
+    fn try_read(&self) -> Status {
+        // SAFETY: the lock is open.
+        self.reads(unsafe { sys::aqs_rwlock_tryrdlock(self.lock.get()) })
+    }
+
+    fn try_write(&self) -> Status {
+        // SAFETY: the lock is open.
+        self.wrote(unsafe { sys::aqs_rwlock_trywrlock(self.lock.get()) })
+    }
+
+    fn read(&self, until: Option<Instant>, interruptible: bool) -> Status {
+        let lock = self.lock.get();
+        // SAFETY: the lock is open.
+        let status = unsafe {
+            let plain = || sys::aqs_rwlock_rdlock(lock);
+            let interruptibly = || sys::aqs_rwlock_rdlock_interruptibly(lock);
+            let timed = |time| sys::aqs_rwlock_timedrdlock(lock, time);
+            Waits { plain, interruptibly, timed }.all(until, interruptible)
+        };
+        self.reads(status)
+    }
+
+    fn write(&self, until: Option<Instant>, interruptible: bool) -> Status {
+        let lock = self.lock.get();
+        // SAFETY: the lock is open.
+        let status = unsafe {
+            let plain = || sys::aqs_rwlock_wrlock(lock);
+            let interruptibly = || sys::aqs_rwlock_wrlock_interruptibly(lock);
+            let timed = |time| sys::aqs_rwlock_timedwrlock(lock, time);
+            Waits { plain, interruptibly, timed }.all(until, interruptible)
+        };
+        self.wrote(status)
+    }
+
+    // It never lacks memory or room.
+    fn stop_reading(&self) {
+        self.readers.fetch_sub(1, Ordering::Relaxed);
+        // SAFETY: the lock is open, and the thread reads.
+        let _given = unsafe { sys::aqs_rwlock_rdunlock(self.lock.get()) };
+    }
+
+    // It never lacks memory or room.
+    fn stop_writing(&self) {
+        self.writer.store(NOBODY, Ordering::Relaxed);
+        // SAFETY: the lock is open, and the thread writes.
+        let _given = unsafe { sys::aqs_rwlock_wrunlock(self.lock.get()) };
+    }
+
+    /// The thread that writes goes on as a reader.
+    #[track_caller]
+    fn downgrade(&self) {
+        must(self.read(None, false));
+        self.stop_writing();
+    }
+}
 
 /// A value that many threads read at a time, or one changes.
 ///
@@ -25,16 +141,15 @@ const NOBODY: u16 = u16::MAX;
 /// let (one, two) = (lock.read(), lock.read());
 /// assert_eq!((*one, *two), (2, 2));
 /// assert!(lock.try_read().is_some());
+/// assert!(lock.try_write().is_none());
 /// ```
 ///
 /// # Panics
 ///
-/// A read or write by the thread that writes already, and what panics at a [`Mutex`](crate::Mutex). A
-/// thread that reads and asks to write waits for itself.
+/// A read or write by the thread that writes already, and what panics at a [`Mutex`](crate::Mutex). A `try`
+/// by the thread that writes returns None. A thread that reads and asks to write waits for itself.
 pub struct RwLock<T: ?Sized> {
-    lock: *mut sys::RwLock,
-    /// Who writes. Only that thread writes its own number, so a thread knows of itself.
-    writer: AtomicU16,
+    raw: RawRwLock,
     value: UnsafeCell<T>,
 }
 
@@ -44,103 +159,145 @@ unsafe impl<T: ?Sized + Send> Send for RwLock<T> {}
 unsafe impl<T: ?Sized + Send + Sync> Sync for RwLock<T> {}
 
 impl<T> RwLock<T> {
-    /// A lock with the default options.
-    #[track_caller]
-    pub fn new(value: T) -> RwLock<T> {
-        match RwLock::with(value, Options::new()) {
-            Ok(lock) => lock,
-            Err(error) => panic!("aqs: {error}"),
-        }
+    /// A lock with the default options. Its first call opens it.
+    pub const fn new(value: T) -> RwLock<T> {
+        RwLock { raw: RawRwLock::new(Lazy::new((), Options::new())), value: UnsafeCell::new(value) }
     }
 
+    /// A lock with these options, which is open: [`Error::OutOfRange`] or [`Error::OutOfMemory`].
     pub fn with(value: T, options: Options) -> Result<RwLock<T>, Error> {
-        let mut lock = ptr::null_mut();
-        // SAFETY: both pointers are good for the call.
-        check(unsafe { sys::aqs_rwlock_open(&mut lock, &options.0) })?;
-        let writer = AtomicU16::new(NOBODY);
-        let value = UnsafeCell::new(value);
-        Ok(RwLock { lock, writer, value })
+        Ok(RwLock { raw: RawRwLock::new(Lazy::open((), options)?), value: UnsafeCell::new(value) })
+    }
+
+    /// The value, without the lock.
+    pub fn into_inner(self) -> T {
+        self.value.into_inner()
     }
 }
 
 impl<T: ?Sized> RwLock<T> {
-    #[track_caller]
-    fn refuse_writer(&self) {
-        let writes = self.writer.load(Ordering::Relaxed) == me();
-        assert!(!writes, "aqs: the thread writes already");
-    }
-
     fn reader(&self) -> ReadGuard<'_, T> {
         ReadGuard { lock: self, not_send: PhantomData }
     }
 
     fn writer(&self) -> WriteGuard<'_, T> {
-        self.writer.store(me(), Ordering::Relaxed);
         WriteGuard { lock: self, not_send: PhantomData }
     }
 
     /// Takes the value to read it, and waits while somebody writes.
     #[track_caller]
     pub fn read(&self) -> ReadGuard<'_, T> {
-        self.refuse_writer();
-        // SAFETY: the lock is open.
-        must(unsafe { sys::aqs_rwlock_rdlock(self.lock) });
+        self.raw.refuse_writer();
+        must(self.raw.read(None, false));
         self.reader()
     }
 
+    /// The same. A thread that reads already never waits for one that wants to write, by either name.
+    #[track_caller]
+    pub fn read_recursive(&self) -> ReadGuard<'_, T> {
+        self.read()
+    }
+
+    /// The same, unless the thread is interrupted.
     #[track_caller]
     pub fn read_interruptibly(&self) -> Result<ReadGuard<'_, T>, Error> {
-        self.refuse_writer();
-        // SAFETY: the lock is open.
-        check(unsafe { sys::aqs_rwlock_rdlock_interruptibly(self.lock) })?;
+        self.raw.refuse_writer();
+        check(self.raw.read(None, true))?;
         Ok(self.reader())
     }
 
+    /// The same, for at most so long: [`Error::TimedOut`] or [`Error::Interrupted`].
+    #[track_caller]
+    pub fn read_interruptibly_for(&self, time: Duration) -> Result<ReadGuard<'_, T>, Error> {
+        self.raw.refuse_writer();
+        check(self.raw.read(after(time), true))?;
+        Ok(self.reader())
+    }
+
+    /// Takes the value to read it, if nobody writes.
     #[track_caller]
     pub fn try_read(&self) -> Option<ReadGuard<'_, T>> {
-        self.refuse_writer();
-        // SAFETY: the lock is open.
-        taken(unsafe { sys::aqs_rwlock_tryrdlock(self.lock) }).then(|| self.reader())
+        (!self.raw.writes() && taken(self.raw.try_read())).then(|| self.reader())
+    }
+
+    /// The same, by the name that it has in parking_lot.
+    #[track_caller]
+    pub fn try_read_recursive(&self) -> Option<ReadGuard<'_, T>> {
+        self.try_read()
+    }
+
+    /// Takes the value to read it, and waits for at most so long.
+    #[track_caller]
+    pub fn try_read_for(&self, time: Duration) -> Option<ReadGuard<'_, T>> {
+        self.try_read_to(after(time))
+    }
+
+    /// Takes the value to read it, and waits until a moment at the latest.
+    #[track_caller]
+    pub fn try_read_until(&self, moment: Instant) -> Option<ReadGuard<'_, T>> {
+        self.try_read_to(Some(moment))
     }
 
     #[track_caller]
-    pub fn try_read_for(&self, time: Duration) -> Result<ReadGuard<'_, T>, Error> {
-        self.refuse_writer();
-        // SAFETY: the lock is open.
-        check(unsafe { sys::aqs_rwlock_timedrdlock(self.lock, milliseconds(time)) })?;
-        Ok(self.reader())
+    fn try_read_to(&self, until: Option<Instant>) -> Option<ReadGuard<'_, T>> {
+        (!self.raw.writes() && taken(self.raw.read(until, false))).then(|| self.reader())
     }
 
     /// Takes the value to change it, and waits until nobody else has it.
     #[track_caller]
     pub fn write(&self) -> WriteGuard<'_, T> {
-        self.refuse_writer();
-        // SAFETY: the lock is open.
-        must(unsafe { sys::aqs_rwlock_wrlock(self.lock) });
+        self.raw.refuse_writer();
+        must(self.raw.write(None, false));
         self.writer()
     }
 
+    /// The same, unless the thread is interrupted.
     #[track_caller]
     pub fn write_interruptibly(&self) -> Result<WriteGuard<'_, T>, Error> {
-        self.refuse_writer();
-        // SAFETY: the lock is open.
-        check(unsafe { sys::aqs_rwlock_wrlock_interruptibly(self.lock) })?;
+        self.raw.refuse_writer();
+        check(self.raw.write(None, true))?;
         Ok(self.writer())
     }
 
+    /// The same, for at most so long: [`Error::TimedOut`] or [`Error::Interrupted`].
+    #[track_caller]
+    pub fn write_interruptibly_for(&self, time: Duration) -> Result<WriteGuard<'_, T>, Error> {
+        self.raw.refuse_writer();
+        check(self.raw.write(after(time), true))?;
+        Ok(self.writer())
+    }
+
+    /// Takes the value to change it, if nobody has it.
     #[track_caller]
     pub fn try_write(&self) -> Option<WriteGuard<'_, T>> {
-        self.refuse_writer();
-        // SAFETY: the lock is open.
-        taken(unsafe { sys::aqs_rwlock_trywrlock(self.lock) }).then(|| self.writer())
+        (!self.raw.writes() && taken(self.raw.try_write())).then(|| self.writer())
+    }
+
+    /// Takes the value to change it, and waits for at most so long.
+    #[track_caller]
+    pub fn try_write_for(&self, time: Duration) -> Option<WriteGuard<'_, T>> {
+        self.try_write_to(after(time))
+    }
+
+    /// Takes the value to change it, and waits until a moment at the latest.
+    #[track_caller]
+    pub fn try_write_until(&self, moment: Instant) -> Option<WriteGuard<'_, T>> {
+        self.try_write_to(Some(moment))
     }
 
     #[track_caller]
-    pub fn try_write_for(&self, time: Duration) -> Result<WriteGuard<'_, T>, Error> {
-        self.refuse_writer();
-        // SAFETY: the lock is open.
-        check(unsafe { sys::aqs_rwlock_timedwrlock(self.lock, milliseconds(time)) })?;
-        Ok(self.writer())
+    fn try_write_to(&self, until: Option<Instant>) -> Option<WriteGuard<'_, T>> {
+        (!self.raw.writes() && taken(self.raw.write(until, false))).then(|| self.writer())
+    }
+
+    /// Whether any thread reads or writes. Another thread may change that before the caller reads it.
+    pub fn is_locked(&self) -> bool {
+        self.is_locked_exclusive() || self.raw.readers.load(Ordering::Relaxed) > 0
+    }
+
+    /// Whether any thread writes. Another thread may change that before the caller reads it.
+    pub fn is_locked_exclusive(&self) -> bool {
+        self.raw.writer.load(Ordering::Relaxed) != NOBODY
     }
 
     /// The value, which nobody else can reach.
@@ -148,36 +305,68 @@ impl<T: ?Sized> RwLock<T> {
         self.value.get_mut()
     }
 
-    /// The text of the history since the last trim.
+    /// The text of the history since the last trim, as `aqs audit` and `aqs draw` read it.
     pub fn history(&self) -> Result<String, Error> {
-        // SAFETY: the lock is open.
-        unsafe { object::history(sys::aqs_rwlock_object(self.lock)) }
+        self.raw.lock.history()
     }
 
     /// Forgets the recorded entries, and returns how many.
     pub fn trim(&self) -> Result<u64, Error> {
-        // SAFETY: the lock is open.
-        unsafe { object::trim(sys::aqs_rwlock_object(self.lock)) }
+        self.raw.lock.trim()
     }
 }
 
-impl<T: ?Sized> Drop for RwLock<T> {
-    fn drop(&mut self) {
-        // SAFETY: nobody borrows it, so no thread is in a call.
-        unsafe { sys::aqs_rwlock_close(self.lock) }
+impl<T: Default> Default for RwLock<T> {
+    fn default() -> RwLock<T> {
+        RwLock::new(T::default())
     }
 }
 
-impl<T: ?Sized> fmt::Debug for RwLock<T> {
+impl<T> From<T> for RwLock<T> {
+    fn from(value: T) -> RwLock<T> {
+        RwLock::new(value)
+    }
+}
+
+impl<T: ?Sized + fmt::Debug> fmt::Debug for RwLock<T> {
     fn fmt(&self, f: &mut fmt::Formatter<'_>) -> fmt::Result {
-        f.debug_struct("RwLock").finish_non_exhaustive()
+        match self.try_read() {
+            Some(guard) => f.debug_struct("RwLock").field("data", &&*guard).finish(),
+            None => f.debug_struct("RwLock").field("data", &format_args!("<locked>")).finish(),
+        }
     }
 }
+
+shows_its_value! { ReadGuard WriteGuard MappedReadGuard MappedWriteGuard }
 
 /// A value that is read until the guard is dropped.
+#[must_use = "the lock is free again if the guard is not kept"]
 pub struct ReadGuard<'l, T: ?Sized> {
     lock: &'l RwLock<T>,
     not_send: PhantomData<*const ()>,
+}
+
+impl<'l, T: ?Sized> ReadGuard<'l, T> {
+    /// A guard of a part of the value.
+    pub fn map<U: ?Sized>(guard: ReadGuard<'l, T>, part: impl FnOnce(&T) -> &U) -> MappedReadGuard<'l, U> {
+        let value: *const U = part(&*guard);
+        let raw = &ManuallyDrop::new(guard).lock.raw;
+        MappedReadGuard { raw, value, lends: PhantomData }
+    }
+
+    /// The same if there is such a part, and else the guard again.
+    pub fn try_map<U: ?Sized>(
+        guard: ReadGuard<'l, T>,
+        part: impl FnOnce(&T) -> Option<&U>,
+    ) -> Result<MappedReadGuard<'l, U>, ReadGuard<'l, T>> {
+        match part(&*guard).map(|it| -> *const U { it }) {
+            Some(value) => {
+                let raw = &ManuallyDrop::new(guard).lock.raw;
+                Ok(MappedReadGuard { raw, value, lends: PhantomData })
+            }
+            None => Err(guard),
+        }
+    }
 }
 
 impl<T: ?Sized> Deref for ReadGuard<'_, T> {
@@ -191,12 +380,46 @@ impl<T: ?Sized> Deref for ReadGuard<'_, T> {
 
 impl<T: ?Sized> Drop for ReadGuard<'_, T> {
     fn drop(&mut self) {
-        // SAFETY: the lock is open, and the thread reads.
-        let _given = unsafe { sys::aqs_rwlock_rdunlock(self.lock.lock) };
+        self.lock.raw.stop_reading();
+    }
+}
+
+/// A part of a value that is read until the guard is dropped.
+#[must_use = "the lock is free again if the guard is not kept"]
+pub struct MappedReadGuard<'l, T: ?Sized> {
+    raw: &'l RawRwLock,
+    value: *const T,
+    lends: PhantomData<&'l T>,
+}
+
+impl<'l, T: ?Sized> MappedReadGuard<'l, T> {
+    /// A guard of a part of this part.
+    pub fn map<U: ?Sized>(
+        guard: MappedReadGuard<'l, T>,
+        part: impl FnOnce(&T) -> &U,
+    ) -> MappedReadGuard<'l, U> {
+        let value: *const U = part(&*guard);
+        MappedReadGuard { raw: ManuallyDrop::new(guard).raw, value, lends: PhantomData }
+    }
+}
+
+impl<T: ?Sized> Deref for MappedReadGuard<'_, T> {
+    type Target = T;
+
+    fn deref(&self) -> &T {
+        // SAFETY: the thread reads, and the value is part of the lock's.
+        unsafe { &*self.value }
+    }
+}
+
+impl<T: ?Sized> Drop for MappedReadGuard<'_, T> {
+    fn drop(&mut self) {
+        self.raw.stop_reading();
     }
 }
 
 /// A value that one thread changes until the guard is dropped.
+#[must_use = "the lock is free again if the guard is not kept"]
 pub struct WriteGuard<'l, T: ?Sized> {
     lock: &'l RwLock<T>,
     not_send: PhantomData<*const ()>,
@@ -207,20 +430,35 @@ impl<'l, T: ?Sized> WriteGuard<'l, T> {
     #[track_caller]
     pub fn downgrade(self) -> ReadGuard<'l, T> {
         let lock = self.lock;
-        mem::forget(self);
-        // SAFETY: the lock is open, and the thread writes, so it reads at once.
-        must(unsafe { sys::aqs_rwlock_rdlock(lock.lock) });
-        lock.stop_writing();
+        lock.raw.downgrade();
+        let _ = ManuallyDrop::new(self);
         lock.reader()
     }
-}
 
-impl<T: ?Sized> RwLock<T> {
-    // It never lacks memory or room.
-    fn stop_writing(&self) {
-        self.writer.store(NOBODY, Ordering::Relaxed);
-        // SAFETY: the lock is open, and the thread writes.
-        let _given = unsafe { sys::aqs_rwlock_wrunlock(self.lock) };
+    /// A guard of a part of the value.
+    pub fn map<U: ?Sized>(
+        guard: WriteGuard<'l, T>,
+        part: impl FnOnce(&mut T) -> &mut U,
+    ) -> MappedWriteGuard<'l, U> {
+        let mut guard = guard;
+        let value: *mut U = part(&mut *guard);
+        let raw = &ManuallyDrop::new(guard).lock.raw;
+        MappedWriteGuard { raw, value, lends: PhantomData }
+    }
+
+    /// The same if there is such a part, and else the guard again.
+    pub fn try_map<U: ?Sized>(
+        guard: WriteGuard<'l, T>,
+        part: impl FnOnce(&mut T) -> Option<&mut U>,
+    ) -> Result<MappedWriteGuard<'l, U>, WriteGuard<'l, T>> {
+        let mut guard = guard;
+        match part(&mut *guard).map(|it| -> *mut U { it }) {
+            Some(value) => {
+                let raw = &ManuallyDrop::new(guard).lock.raw;
+                Ok(MappedWriteGuard { raw, value, lends: PhantomData })
+            }
+            None => Err(guard),
+        }
     }
 }
 
@@ -242,6 +480,48 @@ impl<T: ?Sized> DerefMut for WriteGuard<'_, T> {
 
 impl<T: ?Sized> Drop for WriteGuard<'_, T> {
     fn drop(&mut self) {
-        self.lock.stop_writing();
+        self.lock.raw.stop_writing();
+    }
+}
+
+/// A part of a value that one thread changes until the guard is dropped.
+#[must_use = "the lock is free again if the guard is not kept"]
+pub struct MappedWriteGuard<'l, T: ?Sized> {
+    raw: &'l RawRwLock,
+    value: *mut T,
+    lends: PhantomData<&'l mut T>,
+}
+
+impl<'l, T: ?Sized> MappedWriteGuard<'l, T> {
+    /// A guard of a part of this part.
+    pub fn map<U: ?Sized>(
+        guard: MappedWriteGuard<'l, T>,
+        part: impl FnOnce(&mut T) -> &mut U,
+    ) -> MappedWriteGuard<'l, U> {
+        let mut guard = guard;
+        let value: *mut U = part(&mut *guard);
+        MappedWriteGuard { raw: ManuallyDrop::new(guard).raw, value, lends: PhantomData }
+    }
+}
+
+impl<T: ?Sized> Deref for MappedWriteGuard<'_, T> {
+    type Target = T;
+
+    fn deref(&self) -> &T {
+        // SAFETY: the thread writes, and the value is part of the lock's.
+        unsafe { &*self.value }
+    }
+}
+
+impl<T: ?Sized> DerefMut for MappedWriteGuard<'_, T> {
+    fn deref_mut(&mut self) -> &mut T {
+        // SAFETY: the same, and it has no other guard.
+        unsafe { &mut *self.value }
+    }
+}
+
+impl<T: ?Sized> Drop for MappedWriteGuard<'_, T> {
+    fn drop(&mut self) {
+        self.raw.stop_writing();
     }
 }

@@ -3,7 +3,7 @@
 use std::os::raw::{c_char, c_int};
 
 #[repr(C)]
-#[derive(Clone, Copy, Debug, Default)]
+#[derive(Clone, Copy, Debug, Default, PartialEq, Eq)]
 pub struct Options {
     pub policy: u32,
     pub when_full: u32,
@@ -27,8 +27,8 @@ pub type Status = c_int;
 
 extern "C" {
     pub fn aqs_status_name(status: Status) -> *const c_char;
-    pub fn aqs_thread_self() -> u16;
-    pub fn aqs_thread_interrupt(thread: u16) -> Status;
+    pub fn aqs_thread_self() -> u32;
+    pub fn aqs_thread_interrupt(thread: u32) -> Status;
     pub fn aqs_thread_interrupted() -> bool;
 
     pub fn aqs_lock_open(lock: *mut *mut Lock, options: *const Options) -> Status;

@@ -2,7 +2,7 @@
 //!
 //! AQS_HISTORIES names a folder where the histories are put, for `aqs audit`.
 
-use aqs::{interrupted, Condition, Error, Latch, Mutex, Options, RwLock, Semaphore, Thread};
+use aqs::{interrupted, Condvar, Error, Latch, Mutex, Options, RwLock, Semaphore, Thread};
 use std::sync::mpsc::channel;
 use std::time::{Duration, Instant};
 use std::{env, fs, panic, path::PathBuf, thread};
@@ -38,7 +38,8 @@ fn mutex_lets_one_thread_in() {
     thread::scope(|scope| {
         scope.spawn(|| {
             assert!(mutex.try_lock().is_none());
-            assert_eq!(mutex.try_lock_for(SHORT).err(), Some(Error::TimedOut));
+            assert!(mutex.try_lock_for(SHORT).is_none());
+            assert_eq!(mutex.lock_interruptibly_for(SHORT).err(), Some(Error::TimedOut));
         });
     });
     drop(guard);
@@ -48,8 +49,7 @@ fn mutex_lets_one_thread_in() {
 
 #[test]
 fn conditions_hand_items_over() {
-    const NOT_EMPTY: Condition = Condition(0);
-    const NOT_FULL: Condition = Condition(1);
+    let (not_empty, not_full) = (Condvar::new(), Condvar::new());
     let buffer = Mutex::with(Vec::new(), kept().conditions(2)).unwrap();
     let sum = thread::scope(|scope| {
         let consumers: Vec<_> = (0..2)
@@ -58,9 +58,9 @@ fn conditions_hand_items_over() {
                     let mut sum = 0;
                     for _ in 0..500 {
                         let mut items = buffer.lock();
-                        items.wait_while(NOT_EMPTY, |items| items.is_empty());
+                        not_empty.wait_while(&mut items, |items| items.is_empty());
                         sum += items.pop().unwrap();
-                        items.notify_one(NOT_FULL);
+                        not_full.notify_one();
                     }
                     sum
                 })
@@ -68,15 +68,15 @@ fn conditions_hand_items_over() {
             .collect();
         for item in 0..1000u64 {
             let mut items = buffer.lock();
-            items.wait_while(NOT_FULL, |items| items.len() == 4);
+            not_full.wait_while(&mut items, |items| items.len() == 4);
             items.push(item);
-            items.notify_all(NOT_EMPTY);
+            not_empty.notify_all();
         }
         consumers.into_iter().map(|it| it.join().unwrap()).sum::<u64>()
     });
     assert_eq!(sum, 999 * 1000 / 2);
     let mut items = buffer.lock();
-    assert_eq!(items.wait_for(NOT_EMPTY, SHORT), Err(Error::TimedOut));
+    assert!(not_empty.wait_for(&mut items, SHORT).timed_out());
     assert!(items.is_empty());
     drop(items);
     keep("conditions", buffer.history().unwrap());
@@ -136,7 +136,7 @@ fn interrupts_end_waits() {
     Thread::current().interrupt().unwrap();
     let begin = Instant::now();
     let mut guard = mutex.lock();
-    assert_eq!(guard.wait_for(Condition(0), LONG), Err(Error::Interrupted));
+    assert_eq!(Condvar::new().wait_interruptibly_for(&mut guard, LONG), Err(Error::Interrupted));
     assert!(begin.elapsed() < LONG);
     assert!(!interrupted());
     drop(guard);
@@ -169,14 +169,16 @@ fn read_write_lock_keeps_writers_alone() {
     thread::scope(|scope| {
         scope.spawn(|| {
             assert!(lock.try_read().is_none() && lock.try_write().is_none());
-            assert_eq!(lock.try_read_for(SHORT).err(), Some(Error::TimedOut));
+            assert!(lock.try_read_for(SHORT).is_none());
+            assert_eq!(lock.read_interruptibly_for(SHORT).err(), Some(Error::TimedOut));
         });
     });
     let reader = writer.downgrade();
     thread::scope(|scope| {
         scope.spawn(|| {
             assert!(lock.try_read().is_some() && lock.try_write().is_none());
-            assert_eq!(lock.try_write_for(SHORT).err(), Some(Error::TimedOut));
+            assert!(lock.try_write_for(SHORT).is_none());
+            assert_eq!(lock.write_interruptibly_for(SHORT).err(), Some(Error::TimedOut));
         });
     });
     assert_eq!(*reader, [200, 200]);
@@ -189,7 +191,8 @@ fn semaphore_counts_permits() {
     let permits = Semaphore::with(3, kept().strict()).unwrap();
     permits.acquire(2);
     assert!(!permits.try_acquire(2) && permits.try_acquire(1));
-    assert_eq!(permits.try_acquire_for(1, SHORT), Err(Error::TimedOut));
+    assert!(!permits.try_acquire_for(1, SHORT));
+    assert_eq!(permits.acquire_interruptibly_for(1, SHORT), Err(Error::TimedOut));
     Thread::current().interrupt().unwrap();
     assert_eq!(permits.acquire_interruptibly(1), Err(Error::Interrupted));
     thread::scope(|scope| {
@@ -206,7 +209,8 @@ fn semaphore_counts_permits() {
 #[test]
 fn latch_opens_once() {
     let latch = Latch::with(2, Options::new().keep_history()).unwrap();
-    assert_eq!(latch.wait_for(SHORT), Err(Error::TimedOut));
+    assert!(!latch.wait_for(SHORT));
+    assert_eq!(latch.wait_interruptibly_for(SHORT), Err(Error::TimedOut));
     assert_eq!(latch.count(), 2);
     thread::scope(|scope| {
         for _ in 0..3 {
@@ -222,20 +226,81 @@ fn latch_opens_once() {
 }
 
 #[test]
+fn an_interrupt_ends_no_wait_that_does_not_mind_it() {
+    let (permits, latch) = (Semaphore::new(0), Latch::new(1));
+    let moment = || Instant::now() + SHORT;
+    for wait in [
+        &(|| latch.wait_for(SHORT)) as &dyn Fn() -> bool,
+        &|| latch.wait_until(moment()),
+        &|| permits.try_acquire_for(1, SHORT),
+        &|| permits.try_acquire_until(1, moment()),
+        &|| permits.try_permits_for(1, SHORT).is_some(),
+    ] {
+        Thread::current().interrupt().unwrap();
+        assert!(!wait() && interrupted());
+    }
+}
+
+#[test]
 fn options_that_no_object_has_are_refused() {
     let error = Mutex::with((), Options::new().threads(257)).err().unwrap();
-    assert_eq!(error.name(), "AQS_OUT_OF_RANGE");
+    assert_eq!((error, error.name()), (Error::OutOfRange, "AQS_OUT_OF_RANGE"));
     assert_eq!(Latch::with(2_147_483_648, Options::new()).err(), Some(error));
     assert_eq!(Semaphore::with(1, Options::new().conditions(1)).err(), Some(error));
-    assert_eq!(error.to_string(), "AQS_OUT_OF_RANGE");
+    assert!(panic::catch_unwind(|| Latch::new(2_147_483_648)).is_err());
 }
 
 #[test]
 fn trimmed_histories_never_fill() {
-    let mutex = Mutex::with(0, Options::new().most_entries(256)).unwrap();
+    let mutex = Mutex::with(0, Options::new().most_entries(256).threads(16)).unwrap();
     for _ in 0..5000 {
         *mutex.lock() += 1;
     }
     assert!(mutex.history().unwrap().lines().count() < 200);
     keep("trimmed", mutex.history().unwrap());
+}
+
+#[test]
+fn permits_come_back_by_themselves() {
+    static PERMITS: Semaphore = Semaphore::new(3);
+    let (one, two) = (PERMITS.permit(), PERMITS.permits(2));
+    assert_eq!((one.count(), two.count(), PERMITS.available()), (1, 2, 0));
+    assert!(PERMITS.try_permits(1).is_none() && PERMITS.try_permits_for(1, SHORT).is_none());
+    thread::scope(|scope| {
+        scope.spawn(|| drop(two));
+        assert_eq!(PERMITS.permits(2).count(), 2);
+    });
+    assert_eq!(PERMITS.available(), 2);
+    assert_eq!(PERMITS.try_permits(2).unwrap().count(), 2);
+    assert_eq!(PERMITS.try_permits_for(2, SHORT).unwrap().count(), 2);
+    assert_eq!(PERMITS.available(), 2);
+    PERMITS.try_permits(1).unwrap().forget();
+    drop(one);
+    assert_eq!(format!("{PERMITS:?}"), "Semaphore { available: 2 }");
+    assert!(PERMITS.try_acquire_until(2, Instant::now()));
+}
+
+#[test]
+fn a_latch_may_be_static() {
+    static LATCH: Latch = Latch::new(3);
+    thread::scope(|scope| {
+        for _ in 0..3 {
+            scope.spawn(|| LATCH.count_down());
+        }
+        assert!(LATCH.wait_for(LONG) && LATCH.wait_until(Instant::now()));
+    });
+    assert_eq!(format!("{LATCH:?}"), "Latch { count: 0 }");
+}
+
+#[test]
+fn times_are_never_cut_short() {
+    let (permits, latch) = (Semaphore::new(0), Latch::new(1));
+    for microseconds in (1..3000).step_by(101) {
+        let (time, begin) = (Duration::from_micros(microseconds), Instant::now());
+        assert!(!permits.try_acquire_for(1, time));
+        assert!(begin.elapsed() >= time);
+        let begin = Instant::now();
+        assert!(!latch.wait_for(time));
+        assert!(begin.elapsed() >= time);
+    }
 }

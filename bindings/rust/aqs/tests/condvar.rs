@@ -1,0 +1,347 @@
+//! Condvars: any number for a mutex, notified by any thread, and nothing is lost.
+//!
+//! AQS_HISTORIES names a folder where the histories are put, for `aqs audit`.
+
+use aqs::{interrupted, Condvar, Error, Mutex, MutexGuard, Options, RwLock, Thread};
+use std::collections::VecDeque;
+use std::sync::atomic::{AtomicBool, AtomicUsize, Ordering};
+use std::sync::mpsc::channel;
+use std::sync::Arc;
+use std::time::{Duration, Instant};
+use std::{env, fs, panic, path::PathBuf, thread};
+
+const SHORT: Duration = Duration::from_millis(10);
+const LONG: Duration = Duration::from_secs(30);
+
+fn keep(name: &str, history: String) {
+    assert!(history.starts_with("aqs-history "));
+    if let Some(folder) = env::var_os("AQS_HISTORIES") {
+        fs::write(PathBuf::from(folder).join(format!("rust-{name}.history")), history).unwrap();
+    }
+}
+
+/// Until it is so, the mutex is given to others.
+fn until<T>(mutex: &Mutex<T>, is_so: impl Fn(&T) -> bool) {
+    let begin = Instant::now();
+    while !is_so(&mutex.lock()) {
+        assert!(begin.elapsed() < LONG, "it did not come about");
+        thread::yield_now();
+    }
+}
+
+#[test]
+fn a_notify_to_nobody_is_not_kept() {
+    let (mutex, condvar) = (Mutex::new(()), Condvar::new());
+    assert!(!condvar.notify_one());
+    assert_eq!(condvar.notify_all(), 0);
+    let mut guard = mutex.lock();
+    assert!(condvar.wait_for(&mut guard, SHORT).timed_out());
+    assert!(condvar.wait_until(&mut guard, Instant::now() + SHORT).timed_out());
+    assert_eq!(format!("{condvar:?}"), "Condvar { .. }");
+}
+
+#[test]
+fn it_says_how_many_it_woke() {
+    for owns in [true, false] {
+        let (waiting, condvar) = (Mutex::new(0), Condvar::new());
+        thread::scope(|scope| {
+            for _ in 0..6 {
+                scope.spawn(|| {
+                    let mut guard = waiting.lock();
+                    *guard += 1;
+                    condvar.wait(&mut guard);
+                });
+            }
+            until(&waiting, |&waiting| waiting == 6);
+            let guard = owns.then(|| waiting.lock());
+            assert!(condvar.notify_one() && condvar.notify_one());
+            assert_eq!(condvar.notify_all(), 4);
+            assert!(!condvar.notify_one());
+            drop(guard);
+        });
+    }
+}
+
+#[test]
+fn those_who_waited_longest_go_first() {
+    let (woken, condvar) = (Mutex::new(Vec::new()), Condvar::new());
+    let waiting = AtomicUsize::new(0);
+    thread::scope(|scope| {
+        for number in 0..5 {
+            let (woken, condvar, waiting) = (&woken, &condvar, &waiting);
+            scope.spawn(move || {
+                let mut guard = woken.lock();
+                waiting.fetch_add(1, Ordering::SeqCst);
+                condvar.wait(&mut guard);
+                guard.push(number);
+            });
+            until(woken, |_| waiting.load(Ordering::SeqCst) == number + 1);
+        }
+        for number in 0..5 {
+            assert!(condvar.notify_one());
+            until(&woken, |woken| woken.len() == number + 1);
+        }
+    });
+    assert_eq!(woken.into_inner(), [0, 1, 2, 3, 4]);
+}
+
+#[test]
+fn a_notify_never_waits_for_the_mutex() {
+    let (mutex, condvar) = (Mutex::new(false), Condvar::new());
+    thread::scope(|scope| {
+        let waiter = scope.spawn(|| {
+            let mut guard = mutex.lock();
+            *guard = true;
+            condvar.wait(&mut guard);
+        });
+        until(&mutex, |&waits| waits);
+        // Another thread has the mutex until the notify has returned.
+        let guard = mutex.lock();
+        scope.spawn(|| assert!(condvar.notify_one())).join().unwrap();
+        drop(guard);
+        waiter.join().unwrap();
+    });
+}
+
+#[test]
+fn more_condvars_than_numbers() {
+    for conditions in [1, 2, 16] {
+        let options = Options::new().conditions(conditions).keep_history();
+        let woken = Mutex::with(Vec::new(), options).unwrap();
+        let condvars: Vec<Condvar> = (0..20).map(|_| Condvar::new()).collect();
+        let waiting = AtomicUsize::new(0);
+        thread::scope(|scope| {
+            for (number, condvar) in condvars.iter().enumerate() {
+                let (woken, waiting) = (&woken, &waiting);
+                scope.spawn(move || {
+                    let mut guard = woken.lock();
+                    waiting.fetch_add(1, Ordering::SeqCst);
+                    condvar.wait(&mut guard);
+                    guard.push(number);
+                });
+            }
+            until(&woken, |_| waiting.load(Ordering::SeqCst) == 20);
+            for (number, condvar) in condvars.iter().enumerate().rev() {
+                assert!(condvar.notify_one());
+                until(&woken, |woken| woken.last() == Some(&number));
+            }
+        });
+        assert_eq!(*woken.lock(), (0..20).rev().collect::<Vec<_>>());
+        keep(&format!("condvars-{conditions}"), woken.history().unwrap());
+    }
+}
+
+#[test]
+#[should_panic(expected = "with another mutex")]
+fn a_second_mutex_is_refused() {
+    let (one, two, condvar) = (Mutex::new(false), Mutex::new(()), Condvar::new());
+    thread::scope(|scope| {
+        scope.spawn(|| {
+            let mut guard = one.lock();
+            *guard = true;
+            condvar.wait(&mut guard);
+        });
+        until(&one, |&waits| waits);
+        let tried = panic::catch_unwind(panic::AssertUnwindSafe(|| condvar.wait(&mut two.lock())));
+        assert!(condvar.notify_one() && !two.is_locked());
+        panic::resume_unwind(tried.unwrap_err());
+    });
+}
+
+#[test]
+fn mutexes_take_turns() {
+    let (one, two, condvar) = (Mutex::new(()), Mutex::new(()), Condvar::new());
+    assert!(condvar.wait_for(&mut one.lock(), SHORT).timed_out());
+    assert!(condvar.wait_for(&mut two.lock(), SHORT).timed_out());
+    drop(one);
+    assert!(!condvar.notify_one());
+}
+
+#[test]
+fn waits_go_on_while_the_value_is_so() {
+    let (count, condvar) = (Mutex::new(0), Condvar::new());
+    let mut looks = 0;
+    condvar.wait_while(&mut count.lock(), |_| {
+        looks += 1;
+        false
+    });
+    assert_eq!(looks, 1);
+    thread::scope(|scope| {
+        scope.spawn(|| {
+            for _ in 0..3 {
+                *count.lock() += 1;
+                condvar.notify_one();
+            }
+        });
+        let mut guard = count.lock();
+        condvar.wait_while(&mut guard, |count| *count < 3);
+        assert_eq!(*guard, 3);
+        assert!(condvar.wait_while_for(&mut guard, |count| *count < 4, SHORT).timed_out());
+        let moment = Instant::now() + SHORT;
+        assert!(condvar.wait_while_until(&mut guard, |count| *count < 4, moment).timed_out());
+        assert!(Instant::now() >= moment);
+        let mut looks = 0;
+        let is_so = |_: &mut i32| {
+            looks += 1;
+            true
+        };
+        assert!(condvar.wait_while_for(&mut guard, is_so, SHORT).timed_out());
+        assert_eq!(looks, 1);
+        assert!(!condvar.wait_while_for(&mut guard, |count| *count < 3, SHORT).timed_out());
+        assert!(!condvar.wait_while_for(&mut guard, |count| *count < 3, Duration::ZERO).timed_out());
+    });
+}
+
+#[test]
+fn interrupts_end_waits_that_mind_them() {
+    let (mutex, condvar) = (Mutex::new(()), Condvar::new());
+    thread::scope(|scope| {
+        let (send, receive) = channel();
+        let (mutex, condvar) = (&mutex, &condvar);
+        let waiter = scope.spawn(move || {
+            let mut guard = mutex.lock();
+            send.send(Thread::current()).unwrap();
+            let ended = condvar.wait_interruptibly(&mut guard);
+            (ended, mutex.is_mine())
+        });
+        let thread = receive.recv().unwrap();
+        drop(mutex.lock());
+        thread.interrupt().unwrap();
+        assert_eq!(waiter.join().unwrap(), (Err(Error::Interrupted), true));
+        assert!(!condvar.notify_one());
+    });
+    let mut guard = mutex.lock();
+    Thread::current().interrupt().unwrap();
+    assert!(condvar.wait_for(&mut guard, SHORT).timed_out());
+    assert_eq!(condvar.wait_interruptibly_for(&mut guard, LONG), Err(Error::Interrupted));
+    assert_eq!(condvar.wait_interruptibly_for(&mut guard, SHORT), Err(Error::TimedOut));
+    assert!(!interrupted());
+}
+
+#[test]
+fn a_waiter_gets_the_mutex_in_between() {
+    let (waits, condvar) = (Mutex::new(false), Condvar::new());
+    thread::scope(|scope| {
+        let mut guard = waits.lock();
+        scope.spawn(|| {
+            let mut guard = waits.lock();
+            *guard = true;
+            condvar.wait(&mut guard);
+        });
+        while !condvar.notify_one() {
+            MutexGuard::bump(&mut guard);
+            thread::yield_now();
+        }
+        assert!(*guard);
+    });
+}
+
+/// Numbers that go through a queue of so many places. Each is notified after the mutex is free again.
+fn pass_through(
+    places: usize,
+    ends: usize,
+    each: usize,
+    time: Option<Duration>,
+    options: Options,
+    all: bool,
+) {
+    let queue = Arc::new(Mutex::with(VecDeque::new(), options).unwrap());
+    let (not_empty, not_full) = (Condvar::new(), Condvar::new());
+    let notify =
+        |condvar: &Condvar| if all { condvar.notify_all() } else { usize::from(condvar.notify_one()) };
+    let wait = |condvar: &Condvar, guard: &mut MutexGuard<'_, VecDeque<usize>>| match time {
+        None => condvar.wait(guard),
+        Some(time) => drop(condvar.wait_for(guard, time)),
+    };
+    let sum = AtomicUsize::new(0);
+    thread::scope(|scope| {
+        for end in 0..ends {
+            let (queue, not_empty, not_full, sum, wait, notify) =
+                (&queue, &not_empty, &not_full, &sum, &wait, &notify);
+            scope.spawn(move || {
+                for number in 0..each {
+                    let mut items = queue.lock();
+                    while items.len() == places {
+                        wait(not_full, &mut items);
+                    }
+                    items.push_back(end * each + number);
+                    drop(items);
+                    notify(not_empty);
+                }
+            });
+            scope.spawn(move || {
+                for _ in 0..each {
+                    let mut items = queue.lock();
+                    while items.is_empty() {
+                        wait(not_empty, &mut items);
+                    }
+                    let item = items.pop_front().unwrap();
+                    drop(items);
+                    notify(not_full);
+                    sum.fetch_add(item, Ordering::Relaxed);
+                }
+            });
+        }
+    });
+    let count = ends * each;
+    assert_eq!(sum.into_inner(), count * (count - 1) / 2);
+    assert!(queue.lock().is_empty());
+}
+
+#[test]
+fn no_notify_from_outside_is_lost() {
+    for (ends, each) in [(1, 4000), (4, 400)] {
+        for all in [false, true] {
+            for options in
+                [Options::new(), Options::new().fair(), Options::new().strict(), Options::new().conditions(1)]
+            {
+                pass_through(1, ends, each, None, options, all);
+            }
+        }
+    }
+}
+
+#[test]
+fn no_notify_is_lost_beside_timeouts() {
+    pass_through(2, 4, 400, Some(Duration::from_micros(300)), Options::new().conditions(1), false);
+    pass_through(1, 3, 400, Some(Duration::from_micros(100)), Options::new().fair(), false);
+}
+
+#[test]
+fn a_mutex_may_go_as_soon_as_its_waiter_is_back() {
+    for _ in 0..300 {
+        let condvar = Condvar::new();
+        let done = AtomicBool::new(false);
+        thread::scope(|scope| {
+            scope.spawn(|| {
+                let mutex = Mutex::new(());
+                let _timeout = condvar.wait_for(&mut mutex.lock(), Duration::from_micros(200));
+                drop(mutex);
+                done.store(true, Ordering::SeqCst);
+            });
+            scope.spawn(|| {
+                while !done.load(Ordering::SeqCst) {
+                    condvar.notify_one();
+                }
+            });
+        });
+    }
+}
+
+#[test]
+fn owners_that_have_entered_notify() {
+    let (mutex, condvar, lock) = (Mutex::new(false), Condvar::new(), RwLock::new(0));
+    thread::scope(|scope| {
+        scope.spawn(|| {
+            let mut guard = mutex.lock();
+            *guard = true;
+            condvar.wait(&mut guard);
+            *lock.write() += 1;
+        });
+        until(&mutex, |&waits| waits);
+        let (one, two) = (mutex.enter(), mutex.enter());
+        assert!(condvar.notify_one());
+        drop((one, two));
+    });
+    assert_eq!(lock.into_inner(), 1);
+}

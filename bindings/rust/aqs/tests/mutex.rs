@@ -1,0 +1,290 @@
+//! The mutex as those who know std's or parking_lot's expect it.
+
+use aqs::{Condvar, Error, MappedMutexGuard, Mutex, MutexGuard, Options, Thread};
+use std::sync::atomic::{AtomicU32, Ordering};
+use std::sync::Arc;
+use std::time::{Duration, Instant};
+use std::{panic, thread};
+
+const SHORT: Duration = Duration::from_millis(10);
+const LONG: Duration = Duration::from_secs(30);
+
+#[derive(Debug, PartialEq, Eq)]
+struct Only(i32);
+
+struct Counts<'c>(&'c AtomicU32);
+
+impl Drop for Counts<'_> {
+    fn drop(&mut self) {
+        self.0.fetch_add(1, Ordering::Relaxed);
+    }
+}
+
+#[test]
+fn a_static_opens_at_its_first_call() {
+    static TOTAL: Mutex<u64> = Mutex::new(0);
+    static CALLS: Mutex<Vec<u64>> = Mutex::new(Vec::new());
+    thread::scope(|scope| {
+        for number in 0..8 {
+            scope.spawn(move || {
+                for _ in 0..200 {
+                    *TOTAL.lock() += number;
+                }
+                CALLS.lock().push(number);
+            });
+        }
+    });
+    assert_eq!(*TOTAL.lock(), 200 * 28);
+    CALLS.lock().sort_unstable();
+    assert_eq!(*CALLS.lock(), [0, 1, 2, 3, 4, 5, 6, 7]);
+}
+
+#[test]
+fn one_that_is_never_called_opens_nothing() {
+    let mutexes: Vec<Mutex<u8>> = (0..100_000).map(|_| Mutex::new(1)).collect();
+    let sum: u64 = mutexes.into_iter().map(|mutex| u64::from(mutex.into_inner())).sum();
+    assert_eq!(sum, 100_000);
+}
+
+#[test]
+fn the_value_comes_out_once() {
+    assert_eq!(Mutex::new(Only(3)).into_inner(), Only(3));
+    let mut mutex = Mutex::new(Only(3));
+    mutex.get_mut().0 += 1;
+    mutex.lock().0 += 1;
+    assert_eq!(mutex.into_inner(), Only(5));
+    let drops = AtomicU32::new(0);
+    let inner = Mutex::new(Counts(&drops)).into_inner();
+    assert_eq!(drops.load(Ordering::Relaxed), 0);
+    drop(inner);
+    drop(Mutex::new(Counts(&drops)));
+    assert_eq!(drops.load(Ordering::Relaxed), 2);
+}
+
+#[test]
+fn defaults_and_values_become_mutexes() {
+    assert_eq!(*Mutex::<u32>::default().lock(), 0);
+    assert_eq!(*Mutex::from("text").lock(), "text");
+    let mutex: Mutex<Vec<u8>> = vec![1, 2].into();
+    assert_eq!(mutex.lock().len(), 2);
+}
+
+#[test]
+fn unsized_values_fit() {
+    let mutex: &Mutex<[u8]> = &Mutex::new([1, 2, 3]);
+    mutex.lock()[1] = 9;
+    assert_eq!(&*mutex.lock(), &[1, 9, 3][..]);
+    let shown: Box<Mutex<dyn std::fmt::Display>> = Box::new(Mutex::new(4));
+    assert_eq!(shown.lock().to_string(), "4");
+}
+
+#[test]
+fn it_shows_its_value_or_that_it_is_locked() {
+    let mutex = Mutex::new(vec![1u8, 2]);
+    assert_eq!(format!("{mutex:?}"), "Mutex { data: [1, 2] }");
+    let guard = mutex.lock();
+    assert_eq!(format!("{mutex:?}"), "Mutex { data: <locked> }");
+    assert_eq!(format!("{guard:?}"), "[1, 2]");
+    let part = MutexGuard::map(guard, |items| &mut items[1]);
+    assert_eq!((format!("{part:?}"), format!("{part}")), ("2".to_string(), "2".to_string()));
+    drop(part);
+    let entry = mutex.enter();
+    assert_eq!(format!("{entry:?} {mutex:?}"), "[1, 2] Mutex { data: <locked> }");
+}
+
+#[test]
+fn guards_are_shared_with_other_threads() {
+    fn is_sync<T: Sync>(_shared: &T) {}
+    let mutex = Mutex::new(7);
+    let guard = mutex.lock();
+    is_sync(&guard);
+    thread::scope(|scope| {
+        scope.spawn(|| assert_eq!(*guard, 7));
+    });
+    drop(guard);
+    is_sync(&mutex.enter());
+    is_sync(&MutexGuard::map(mutex.lock(), |value| value));
+}
+
+#[test]
+fn the_owner_tries_in_vain() {
+    let mutex = Mutex::new(0);
+    let guard = mutex.lock();
+    let begin = Instant::now();
+    assert!(mutex.try_lock().is_none());
+    assert!(mutex.try_lock_for(LONG).is_none());
+    assert!(mutex.try_lock_until(Instant::now() + LONG).is_none());
+    assert!(begin.elapsed() < LONG);
+    drop(guard);
+    let entry = mutex.enter();
+    assert!(mutex.try_lock().is_none() && mutex.try_lock_for(SHORT).is_none());
+    assert_eq!(*mutex.enter(), 0);
+    drop(entry);
+    *mutex.try_lock().unwrap() += 1;
+    *mutex.try_lock_for(SHORT).unwrap() += 1;
+    *mutex.try_lock_until(Instant::now()).unwrap() += 1;
+    assert_eq!(mutex.into_inner(), 3);
+}
+
+#[test]
+fn it_says_who_has_it() {
+    let mutex = Mutex::new(());
+    assert!(!mutex.is_locked() && !mutex.is_mine());
+    let guard = mutex.lock();
+    assert!(mutex.is_locked() && mutex.is_mine());
+    thread::scope(|scope| {
+        scope.spawn(|| assert!(mutex.is_locked() && !mutex.is_mine()));
+    });
+    drop(guard);
+    assert!(!mutex.is_locked());
+    let (one, two) = (mutex.enter(), mutex.enter());
+    drop(one);
+    assert!(mutex.is_mine());
+    drop(two);
+    assert!(!mutex.is_locked());
+}
+
+#[test]
+fn times_are_never_cut_short() {
+    let mutex = Mutex::new(());
+    let _guard = mutex.lock();
+    thread::scope(|scope| {
+        scope.spawn(|| {
+            for microseconds in (1..3000).step_by(61) {
+                let (time, begin) = (Duration::from_micros(microseconds), Instant::now());
+                assert!(mutex.try_lock_for(time).is_none());
+                assert!(begin.elapsed() >= time, "{microseconds}");
+            }
+        });
+    });
+}
+
+#[test]
+fn times_may_be_as_long_as_durations() {
+    let mutex = Mutex::new(0);
+    let guard = mutex.lock();
+    thread::scope(|scope| {
+        for time in [Duration::MAX, Duration::from_secs(u64::from(u32::MAX))] {
+            let mutex = &mutex;
+            scope.spawn(move || *mutex.try_lock_for(time).unwrap() += 1);
+        }
+        thread::sleep(SHORT);
+        drop(guard);
+    });
+    assert_eq!(mutex.into_inner(), 2);
+}
+
+#[test]
+fn an_interrupt_waits_for_a_call_that_minds_it() {
+    let mutex = Mutex::new(());
+    let guard = mutex.lock();
+    thread::scope(|scope| {
+        scope.spawn(|| {
+            Thread::current().interrupt().unwrap();
+            let begin = Instant::now();
+            assert!(mutex.try_lock_for(SHORT).is_none());
+            assert!(begin.elapsed() >= SHORT);
+            assert_eq!(mutex.lock_interruptibly_for(LONG).err(), Some(Error::Interrupted));
+            assert!(!aqs::interrupted());
+        });
+    });
+    drop(guard);
+}
+
+#[test]
+fn a_panic_leaves_it_usable() {
+    let mutex = Arc::new(Mutex::new(1));
+    let other = Arc::clone(&mutex);
+    let ended = thread::spawn(move || {
+        let mut value = other.lock();
+        *value = 2;
+        panic!("on purpose");
+    });
+    assert!(ended.join().is_err());
+    assert_eq!(*mutex.lock(), 2);
+}
+
+#[test]
+fn it_is_unlocked_in_between() {
+    let mutex = Mutex::new(0);
+    let mut guard = mutex.lock();
+    let seen = MutexGuard::unlocked(&mut guard, || {
+        thread::scope(|scope| scope.spawn(|| *mutex.lock() += 5).join().unwrap());
+        mutex.is_locked()
+    });
+    assert_eq!((*guard, seen), (5, false));
+    let failed = panic::catch_unwind(panic::AssertUnwindSafe(|| {
+        MutexGuard::unlocked(&mut guard, || panic!("on purpose"));
+    }));
+    assert!(failed.is_err() && mutex.is_mine());
+    assert!(std::ptr::eq(MutexGuard::mutex(&guard), &mutex));
+}
+
+#[test]
+fn parts_of_the_value_are_locked_as_a_whole() {
+    let mutex = Mutex::new((1, vec![1, 2, 3]));
+    let list = MutexGuard::map(mutex.lock(), |value| &mut value.1);
+    let mut last = MappedMutexGuard::map(list, |list| list.last_mut().unwrap());
+    *last = 9;
+    assert!(mutex.is_locked() && mutex.try_lock().is_none());
+    drop(last);
+    let Err(guard) = MutexGuard::try_map(mutex.lock(), |value| value.1.get_mut(7)) else {
+        panic!("no such item")
+    };
+    assert!(mutex.is_mine());
+    let Ok(list) = MutexGuard::try_map(guard, |value| Some(&mut value.1)) else { panic!("it is there") };
+    let Err(list) = MappedMutexGuard::try_map(list, |list| list.get_mut(7)) else { panic!("no such item") };
+    let Ok(first) = MappedMutexGuard::try_map(list, |list| list.get_mut(0)) else { panic!("it is there") };
+    assert_eq!(*first, 1);
+    drop(first);
+    assert!(!mutex.is_locked());
+    let failed = panic::catch_unwind(panic::AssertUnwindSafe(|| {
+        let _part = MutexGuard::map(mutex.lock(), |_| -> &mut u8 { panic!("on purpose") });
+    }));
+    assert!(failed.is_err() && !mutex.is_locked());
+    assert_eq!(mutex.into_inner(), (1, vec![1, 2, 9]));
+}
+
+#[test]
+fn faults_have_names() {
+    let failed = panic::catch_unwind(|| {
+        let mutex = Mutex::new(());
+        let (_one, _two) = (mutex.lock(), mutex.lock());
+    });
+    assert!(failed.unwrap_err().downcast_ref::<&str>().unwrap().contains("has this mutex already"));
+    let full = Mutex::with((), Options::new().keep_history().most_entries(16)).unwrap();
+    let failed = panic::catch_unwind(panic::AssertUnwindSafe(|| (0..20).for_each(|_| drop(full.lock()))));
+    let said = failed.unwrap_err().downcast_ref::<String>().unwrap().clone();
+    assert_eq!(said, "aqs: the history is full (AQS_HISTORY_FULL)");
+    assert_eq!(full.lock_interruptibly().err(), Some(Error::HistoryFull));
+    assert_eq!(format!("{:?}", Error::HistoryFull), "HistoryFull");
+    let error: Box<dyn std::error::Error> = Box::new(Error::OutOfMemory);
+    assert_eq!(error.to_string(), "the library got no memory");
+    assert_eq!(Error::Other(99).name(), "no status");
+    for (error, name) in [
+        (Error::TimedOut, "AQS_TIMED_OUT"),
+        (Error::Interrupted, "AQS_INTERRUPTED"),
+        (Error::WouldBlock, "AQS_WOULD_BLOCK"),
+        (Error::NotOwner, "AQS_NOT_OWNER"),
+        (Error::TooManyHolds, "AQS_TOO_MANY_HOLDS"),
+        (Error::TooManyPermits, "AQS_TOO_MANY_PERMITS"),
+        (Error::HoldsRead, "AQS_HOLDS_READ"),
+        (Error::NoSuchCondition, "AQS_NO_SUCH_CONDITION"),
+        (Error::BadAmount, "AQS_BAD_AMOUNT"),
+        (Error::HistoryFull, "AQS_HISTORY_FULL"),
+        (Error::OutOfMemory, "AQS_OUT_OF_MEMORY"),
+        (Error::OutOfRange, "AQS_OUT_OF_RANGE"),
+        (Error::TooManyThreads, "AQS_TOO_MANY_THREADS"),
+        (Error::NoSpace, "AQS_NO_SPACE"),
+        (Error::IoError, "AQS_IO_ERROR"),
+        (Error::Misuse, "AQS_MISUSE"),
+    ] {
+        assert_eq!(error.name(), name);
+    }
+    let faults = [
+        Mutex::with((), Options::new().threads(300)).err(),
+        Mutex::with((), Options::new().conditions(17)).err(),
+    ];
+    assert_eq!(faults, [Some(Error::OutOfRange); 2]);
+    assert!(!full.is_locked() && Condvar::default().notify_all() == 0);
+}
