@@ -1,0 +1,370 @@
+/* What programs rarely do: rare_cases CASE. Each case uses a mutex, prints the same with and without the recorder,
+   and ends with the same status. A case that hangs is ended by the alarm. Without a word the cases are listed. */
+#define _GNU_SOURCE
+#include <errno.h>
+#include <fcntl.h>
+#include <pthread.h>
+#include <sched.h>
+#include <semaphore.h>
+#include <signal.h>
+#include <stdatomic.h>
+#include <stdio.h>
+#include <stdlib.h>
+#include <string.h>
+#include <sys/wait.h>
+#include <threads.h>
+#include <time.h>
+#include <unistd.h>
+
+#define CHECK(fact)                                                            \
+    do {                                                                       \
+        if (!(fact)) {                                                         \
+            fprintf(stderr, "%s:%d: not so: %s\n", __FILE__, __LINE__, #fact); \
+            _exit(1);                                                          \
+        }                                                                      \
+    } while (0)
+
+static pthread_mutex_t mutex = PTHREAD_MUTEX_INITIALIZER;
+static pthread_cond_t condition = PTHREAD_COND_INITIALIZER;
+static atomic_int is_done;
+
+static pthread_t started(void *(*run)(void *), void *with) {
+    pthread_t thread;
+    CHECK(pthread_create(&thread, NULL, run, with) == 0);
+    return thread;
+}
+
+static void join(pthread_t thread) { CHECK(pthread_join(thread, NULL) == 0); }
+
+static void use_mutex(void) { CHECK(!pthread_mutex_lock(&mutex) && !pthread_mutex_unlock(&mutex)); }
+
+static struct timespec after(long milliseconds) {
+    struct timespec time;
+    clock_gettime(CLOCK_REALTIME, &time);
+    time.tv_sec += milliseconds / 1000, time.tv_nsec += milliseconds % 1000 * 1000000;
+    if (time.tv_nsec >= 1000000000) time.tv_sec++, time.tv_nsec -= 1000000000;
+    return time;
+}
+
+static void handle(int signal, void (*handler)(int)) {
+    struct sigaction action = {.sa_handler = handler, .sa_flags = SA_RESTART};
+    CHECK(sigaction(signal, &action, NULL) == 0);
+}
+
+/* Ends --------------------------------------------------------------------------------------------------- */
+
+/* Neither a lock nor the end of the program is a cancellation point. */
+static void exits_while_cancelled(void) {
+    CHECK(pthread_cancel(pthread_self()) == 0);
+    use_mutex();
+    exit(3);
+}
+
+static void *end_late(void *nothing) {
+    usleep(100000);
+    use_mutex();
+    return nothing;
+}
+
+/* The process ends, with status 0, when its last thread has ended. */
+static void main_thread_is_cancelled(void) {
+    started(end_late, NULL);
+    pthread_cancel(pthread_self());
+    pause();
+}
+
+/* Standard error is a file of the program now: nobody else writes there. */
+static void standard_error_is_another_file(void) {
+    char name[] = "/tmp/rare-case-XXXXXX";
+    int file = mkstemp(name);
+    CHECK(file >= 0 && unlink(name) == 0 && dup2(file, 2) == 2);
+    fflush(stdout);
+    pid_t child = fork();
+    if (child == 0) {
+        use_mutex();
+        exit(0);
+    }
+    CHECK(child > 0 && waitpid(child, NULL, 0) == child);
+    printf("%ld bytes\n", (long)lseek(file, 0, SEEK_END));
+}
+
+/* Signal handlers ---------------------------------------------------------------------------------------- */
+
+enum { POSTS = 40 };
+static sem_t posted;
+static atomic_int failed_posts;
+
+static void post_often(int signal) {
+    (void)signal;
+    for (int i = 0; i < POSTS; i++) failed_posts += sem_post(&posted) != 0;
+}
+
+static void *use_until_done(void *nothing) {
+    while (!is_done) use_mutex();
+    return nothing;
+}
+
+/* A handler posts many times. It may interrupt a lock. */
+static void handler_posts_often(void) {
+    int value;
+    CHECK(sem_init(&posted, 0, 0) == 0);
+    handle(SIGUSR1, post_often);
+    pthread_t thread = started(use_until_done, NULL);
+    for (int i = 0; i < 100; i++) {
+        CHECK(pthread_kill(thread, SIGUSR1) == 0);
+        for (int k = 0; k < POSTS; k++) {
+            struct timespec late = after(5000);
+            CHECK(sem_timedwait(&posted, &late) == 0);
+        }
+    }
+    is_done = 1;
+    join(thread);
+    CHECK(sem_getvalue(&posted, &value) == 0);
+    printf("left %d, failed %d\n", value, failed_posts);
+}
+
+static atomic_int forks;
+
+static void fork_here(int signal) {
+    int kept = errno, status;
+    (void)signal;
+    pid_t child = fork();
+    if (child == 0) _exit(4);
+    forks += child > 0 && waitpid(child, &status, 0) == child && WEXITSTATUS(status) == 4;
+    errno = kept;
+}
+
+static void *make_until_done(void *nothing) {
+    while (!is_done) {
+        pthread_mutex_t own;
+        CHECK(!pthread_mutex_init(&own, NULL) && !pthread_mutex_lock(&own));
+        CHECK(!pthread_mutex_unlock(&own) && !pthread_mutex_destroy(&own));
+    }
+    return nothing;
+}
+
+/* Handlers fork, which may have interrupted a lock. */
+static void handlers_fork(void) {
+    enum { TIMES = 60 };
+    handle(SIGUSR1, fork_here);
+    pthread_t threads[2] = {started(make_until_done, NULL), started(make_until_done, NULL)};
+    for (int i = 0; i < TIMES; i++) {
+        CHECK(pthread_kill(threads[i % 2], SIGUSR1) == 0);
+        while (forks <= i) usleep(500);
+    }
+    is_done = 1;
+    for (int i = 0; i < 2; i++) join(threads[i]);
+    printf("%d forks\n", forks);
+}
+
+static void do_nothing(int signal) { (void)signal; }
+
+/* SIGUSR2, which the recorder handles if the program doesn't, comes all the time to a process with one thread. */
+static void is_asked_to_write_often(void) {
+    struct sigaction found;
+    CHECK(sigaction(SIGUSR2, NULL, &found) == 0);
+    if (found.sa_handler == SIG_DFL) handle(SIGUSR2, do_nothing);
+    struct sigevent event = {.sigev_notify = SIGEV_SIGNAL, .sigev_signo = SIGUSR2};
+    struct itimerspec often = {{0, 100000}, {0, 100000}}, never = {0};
+    timer_t timer;
+    CHECK(timer_create(CLOCK_MONOTONIC, &event, &timer) == 0 && timer_settime(timer, 0, &often, NULL) == 0);
+    for (clock_t until = clock() + CLOCKS_PER_SEC / 10; clock() < until;) use_mutex();
+    CHECK(timer_settime(timer, 0, &never, NULL) == 0);
+    printf("done\n");
+}
+
+/* Mutexes that glibc keeps ------------------------------------------------------------------------------- */
+
+static pthread_mutex_t made(int robust, int protocol, int type) {
+    pthread_mutexattr_t attributes;
+    pthread_mutex_t fresh;
+    CHECK(pthread_mutexattr_init(&attributes) == 0);
+    CHECK(pthread_mutexattr_setrobust(&attributes, robust) == 0);
+    CHECK(pthread_mutexattr_setprotocol(&attributes, protocol) == 0);
+    CHECK(pthread_mutexattr_settype(&attributes, type) == 0);
+    CHECK(pthread_mutex_init(&fresh, &attributes) == 0);
+    return fresh;
+}
+
+static pthread_mutex_t robust;
+
+static void *signal_and_die(void *nothing) {
+    CHECK(pthread_mutex_lock(&robust) == 0 && pthread_cond_signal(&condition) == 0);
+    return nothing;
+}
+
+/* A wait says that the owner of the mutex has died, and that a thread doesn't own the mutex. */
+static void wait_returns_the_errors_of_its_mutex(void) {
+    pthread_mutex_t inherits = made(PTHREAD_MUTEX_STALLED, PTHREAD_PRIO_INHERIT, PTHREAD_MUTEX_ERRORCHECK);
+    struct timespec late = after(5000), soon = after(20);
+    robust = made(PTHREAD_MUTEX_ROBUST, PTHREAD_PRIO_NONE, PTHREAD_MUTEX_NORMAL);
+    CHECK(pthread_mutex_lock(&robust) == 0);
+    pthread_t thread = started(signal_and_die, NULL);
+    int error = pthread_cond_timedwait(&condition, &robust, &late);
+    join(thread);
+    printf("%s\n", strerrorname_np(error));
+    CHECK(pthread_mutex_consistent(&robust) == 0 && pthread_mutex_unlock(&robust) == 0);
+    printf("%s\n", strerrorname_np(pthread_cond_timedwait(&condition, &inherits, &soon)));
+    CHECK(pthread_mutex_lock(&inherits) == 0);
+    printf("%s\n", strerrorname_np(pthread_cond_timedwait(&condition, &inherits, &soon)));
+    CHECK(pthread_mutex_unlock(&inherits) == 0);
+}
+
+/* What is left to glibc is counted. */
+static void has_locks_of_other_kinds(void) {
+    mtx_t plain;
+    CHECK(mtx_init(&plain, mtx_plain) == thrd_success && mtx_lock(&plain) == thrd_success);
+    CHECK(mtx_unlock(&plain) == thrd_success);
+    mtx_destroy(&plain);
+    char name[40];
+    snprintf(name, sizeof name, "/rare-case-%d", (int)getpid());
+    sem_t *named = sem_open(name, O_CREAT | O_EXCL, 0600, 1);
+    CHECK(named != SEM_FAILED && sem_unlink(name) == 0);
+    CHECK(sem_wait(named) == 0 && sem_post(named) == 0 && sem_close(named) == 0);
+    printf("done\n");
+}
+
+/* Signals without the mutex ------------------------------------------------------------------------------ */
+
+static int gate[2];
+
+static void stop_here(int signal) {
+    char byte;
+    (void)signal;
+    CHECK(read(gate[0], &byte, 1) == 1);
+}
+
+static void *wait_once(void *nothing) {
+    struct timespec late = after(20000);
+    CHECK(pthread_mutex_lock(&mutex) == 0);
+    atomic_store(&is_done, 1);
+    CHECK(pthread_cond_timedwait(&condition, &mutex, &late) == 0);
+    CHECK(pthread_mutex_unlock(&mutex) == 0);
+    return nothing;
+}
+
+static void *signal_until_done(void *nothing) {
+    while (is_done < 2) CHECK(pthread_cond_signal(&condition) == 0);
+    return nothing;
+}
+
+/* A thread that waits is stopped in a handler. Meanwhile nobody has the mutex, but for the thread that tries. */
+static void trylock_beside_signals(void) {
+    int busy = 0;
+    CHECK(pipe(gate) == 0);
+    handle(SIGUSR1, stop_here);
+    pthread_t waits = started(wait_once, NULL);
+    while (!is_done) usleep(1000);
+    use_mutex();
+    CHECK(pthread_kill(waits, SIGUSR1) == 0);
+    usleep(50000);
+    pthread_t signals = started(signal_until_done, NULL);
+    for (clock_t until = clock() + CLOCKS_PER_SEC / 4; clock() < until;) {
+        if (pthread_mutex_trylock(&mutex)) busy++;
+        else CHECK(pthread_mutex_unlock(&mutex) == 0);
+    }
+    is_done = 2;
+    join(signals);
+    CHECK(write(gate[1], "", 1) == 1);
+    join(waits);
+    printf("busy %d times\n", busy);
+}
+
+/* Children ------------------------------------------------------------------------------------------------ */
+
+enum { CHILDREN = 60, CALLERS = 8 };
+static atomic_int callers;
+static int turn;
+
+/* All begin at the same time: the variable is new to the child. */
+static void *take_turn(void *which) {
+    callers++;
+    while (callers < CALLERS) sched_yield();
+    CHECK(pthread_mutex_lock(&mutex) == 0);
+    while (turn != (int)(long)which) CHECK(pthread_cond_wait(&condition, &mutex) == 0);
+    turn++;
+    CHECK(pthread_cond_broadcast(&condition) == 0 && pthread_mutex_unlock(&mutex) == 0);
+    return NULL;
+}
+
+static void take_turns(void) {
+    pthread_t threads[CALLERS];
+    for (long i = 0; i < CALLERS; i++) threads[i] = started(take_turn, (void *)i);
+    for (int i = 0; i < CALLERS; i++) join(threads[i]);
+    CHECK(turn == CALLERS);
+    turn = callers = 0;
+}
+
+/* The threads of a child use a condition variable that its parent used before. */
+static void children_wait_together(void) {
+    take_turns();
+    for (int i = 0; i < CHILDREN; i++) {
+        int status;
+        fflush(stdout);
+        pid_t child = fork();
+        CHECK(child >= 0);
+        if (child == 0) {
+            alarm(20);
+            take_turns();
+            _exit(5);
+        }
+        CHECK(waitpid(child, &status, 0) == child && WIFEXITED(status) && WEXITSTATUS(status) == 5);
+    }
+    printf("%d children\n", CHILDREN);
+}
+
+/* Read-write locks --------------------------------------------------------------------------------------- */
+
+static void *find_shared(void *lock) {
+    struct timespec soon = after(20);
+    printf("another: %s", strerrorname_np(pthread_rwlock_trywrlock(lock)));
+    printf(" %s\n", strerrorname_np(pthread_rwlock_timedwrlock(lock, &soon)));
+    return NULL;
+}
+
+/* A reader that asks to write waits for itself. */
+static void reader_asks_to_write(void) {
+    pthread_rwlock_t lock = PTHREAD_RWLOCK_INITIALIZER;
+    struct timespec soon = after(20);
+    CHECK(pthread_rwlock_rdlock(&lock) == 0);
+    printf("reader: %s", strerrorname_np(pthread_rwlock_trywrlock(&lock)));
+    printf(" %s\n", strerrorname_np(pthread_rwlock_timedwrlock(&lock, &soon)));
+    join(started(find_shared, &lock));
+    CHECK(pthread_rwlock_rdlock(&lock) == 0 && !pthread_rwlock_unlock(&lock) && !pthread_rwlock_unlock(&lock));
+    CHECK(pthread_rwlock_trywrlock(&lock) == 0);
+    printf("writer: %s", strerrorname_np(pthread_rwlock_tryrdlock(&lock)));
+    printf(" %s\n", strerrorname_np(pthread_rwlock_timedrdlock(&lock, &soon)));
+    CHECK(pthread_rwlock_unlock(&lock) == 0 && pthread_rwlock_destroy(&lock) == 0);
+}
+
+#define CASE(name) {#name, name}
+static const struct {
+    const char *name;
+    void (*run)(void);
+} cases[] = {
+    CASE(exits_while_cancelled),
+    CASE(main_thread_is_cancelled),
+    CASE(standard_error_is_another_file),
+    CASE(handler_posts_often),
+    CASE(handlers_fork),
+    CASE(is_asked_to_write_often),
+    CASE(wait_returns_the_errors_of_its_mutex),
+    CASE(has_locks_of_other_kinds),
+    CASE(trylock_beside_signals),
+    CASE(children_wait_together),
+    CASE(reader_asks_to_write),
+};
+
+int main(int argc, char **argv) {
+    alarm(40);
+    for (size_t i = 0; i < sizeof cases / sizeof *cases; i++) {
+        if (argc > 1 && strcmp(argv[1], cases[i].name)) continue;
+        if (argc == 1) {
+            printf("%s\n", cases[i].name);
+            continue;
+        }
+        use_mutex();
+        cases[i].run();
+    }
+    return 0;
+}
