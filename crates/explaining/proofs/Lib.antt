@@ -1,0 +1,4 @@
+pub mod Listed
+pub mod NamedSeats
+pub mod Noted
+pub mod Modest

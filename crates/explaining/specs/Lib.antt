@@ -1,0 +1,4 @@
+pub mod Why
+pub mod Ways
+pub mod Naming
+pub mod State

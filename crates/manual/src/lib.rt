@@ -1,0 +1,5 @@
+//! The pages that `aqs manual` and `aqs about` write.
+#![tactic(auto)]
+
+pub mod page;
+pub mod texts;
