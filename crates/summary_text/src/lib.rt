@@ -1,0 +1,9 @@
+//! The text of a summary, in lines of a fixed form.
+//!
+//! [`summary_text`](document::summary_text) writes the verdict, the numbers of the whole history, a line for
+//! each seat that made an entry, and a line for each condition.
+#![tactic(auto)]
+
+pub mod document;
+mod lines;
+mod pieces;

@@ -1,0 +1,6 @@
+pub mod Tables
+pub mod SeatsFollow
+pub mod PassingsFollow
+pub mod ConditionsFollow
+pub mod SummaryIs
+pub mod Prefixes

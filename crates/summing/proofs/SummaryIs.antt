@@ -1,0 +1,26 @@
+-- The summary that is made of the numbers and tables.
+use Rattle.std.proofs.Common.{◌≡◌, ℕ, List, length, ap, ◌∙◌}
+use Rattle.history.specs.declared.entry.Entry.{Entry}
+use Rattle.history.specs.Start.{Start}
+use Rattle.summing.specs.declared.peak.Peak.{Peak}
+use Rattle.summing.specs.declared.row.Row.{Row}
+use Rattle.summing.specs.declared.tally.ConditionTally.{ConditionTally}
+use Rattle.summing.specs.Counting.{count, is_grant}
+use Rattle.summing.specs.Peak.{peak}
+use Rattle.summing.specs.Summary.{SummaryView, conditions_below, rows_below, summary}
+
+abbrev pub view_of : ℕ → ℕ → Peak → List Row → List ConditionTally → SummaryView
+view_of entries grants high rows conditions =
+    record { entries = entries; grants = grants; peak = high; rows = rows; conditions = conditions }
+
+pub summary_is : (s : Start) (h : List Entry) (entries grants : ℕ) (high : Peak) (rows : List Row)
+    (conditions : List ConditionTally) → entries ≡ length h → grants ≡ count (λ e. is_grant e.word) h →
+    high ≡ peak s h → rows ≡ rows_below s h s.header.seats →
+    conditions ≡ conditions_below h s.header.conditions →
+    view_of entries grants high rows conditions ≡ summary s h
+summary_is s h entries grants high rows conditions a b c d e =
+    ap (λ n. view_of n grants high rows conditions) a
+    ∙ ap (λ n. view_of (length h) n high rows conditions) b
+    ∙ ap (λ p. view_of (length h) (count (λ e. is_grant e.word) h) p rows conditions) c
+    ∙ ap (λ xs. view_of (length h) (count (λ e. is_grant e.word) h) (peak s h) xs conditions) d
+    ∙ ap (view_of (length h) (count (λ e. is_grant e.word) h) (peak s h) (rows_below s h s.header.seats)) e

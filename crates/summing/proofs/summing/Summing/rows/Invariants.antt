@@ -1,0 +1,10 @@
+use Rattle.std.proofs.Common.{◌≡◌, List}
+use Rattle.history.specs.declared.entry.Entry.{Entry}
+use Rattle.history.specs.Start.{Start}
+use Rattle.summing.specs.Summary.{rows_below}
+use Rattle.summing.specs.Summing.{HasSummed}
+use Rattle.summing.proofs.summing.Summing.rows.Given as goal
+
+-- the rows of the seats passed
+abbrev pub invariant-loop-seat : goal.invariant-loop-seat
+invariant-loop-seat l = (s : Start) (h : List Entry) → HasSummed s h l.self → l.rows.items ≡ rows_below s h l.seat
