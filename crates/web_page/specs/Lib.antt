@@ -1,0 +1,7 @@
+pub mod Pieces
+pub mod Escape
+pub mod Rows
+pub mod Lists
+pub mod Start
+pub mod Data
+pub mod Document

@@ -1,0 +1,18 @@
+//! The page that steps through a history: one HTML file that needs no network.
+//!
+//! [`page_text`](document::page_text) writes a fixed head with the style, the stretches and entries of a picture as
+//! JSON, and a fixed script that shows them. The script decides nothing about the history: what it shows at an
+//! entry are the stretches that cover it.
+//!
+//! Each text that follows from the input, as the header and an entry's words, is escaped. What is escaped can end
+//! neither a string nor an element of the page.
+#![tactic(auto)]
+
+mod data;
+pub mod document;
+mod escape;
+mod lists;
+mod pieces;
+mod rows;
+mod start;
+pub mod texts;
