@@ -5,6 +5,7 @@ use clap::{Arg, ArgAction, ArgMatches, Command, Error};
 use driver::choice::Choice;
 use driver::form::Form;
 use history::number::number_of;
+use manual::page::Page;
 use std::alloc::{AllocError, Global};
 use std::convert::AsStr;
 use tasks::fault::Fault;
@@ -63,11 +64,37 @@ fn replay<'a>(alloc: Global) -> Result<Command<'a>, AllocError> {
     replay.arg(option(alloc, "history", ArgAction::SetTrue))
 }
 
-/// Returns `draw [--from NUMBER] [--to NUMBER] [FILE]`.
+/// Returns `draw [--page] [--from NUMBER] [--to NUMBER] [FILE]`.
 fn draw<'a>(alloc: Global) -> Result<Command<'a>, AllocError> {
     let draw = reader(alloc, "draw")?;
+    let draw = draw.arg(option(alloc, "page", ArgAction::SetTrue))?;
     let draw = draw.arg(option(alloc, "from", ArgAction::Set))?;
     draw.arg(option(alloc, "to", ArgAction::Set))
+}
+
+/// Returns `explain [--at NUMBER] [FILE]`.
+fn explain<'a>(alloc: Global) -> Result<Command<'a>, AllocError> {
+    let explain = reader(alloc, "explain")?;
+    explain.arg(option(alloc, "at", ArgAction::Set))
+}
+
+/// Returns `manual [COMMAND]`.
+fn pages<'a>(alloc: Global) -> Result<Command<'a>, AllocError> {
+    Command::new(alloc, "manual").arg(Arg::new(alloc, "command"))
+}
+
+/// Returns the page of the manual on a command, or on all.
+fn page_in(options: &ArgMatches<'_>) -> Result<Page, Fault> {
+    match options.get_str("command") {
+        None => Ok(Page::Overview),
+        Some("replay") => Ok(Page::Replay),
+        Some("audit") => Ok(Page::Audit),
+        Some("explain") => Ok(Page::Explain),
+        Some("summary") => Ok(Page::Summary),
+        Some("draw") => Ok(Page::Draw),
+        Some("run") => Ok(Page::Run),
+        Some(_) => Err(Fault::Usage),
+    }
 }
 
 /// Adds a command to the program.
@@ -83,15 +110,24 @@ fn program<'a>(alloc: Global) -> Result<Command<'a>, AllocError> {
     let program = with(Command::new(alloc, "aqs"), replay(alloc))?;
     let program = with(program, reader(alloc, "audit"))?;
     let program = with(program, reader(alloc, "run"))?;
-    with(program, draw(alloc))
+    let program = with(program, draw(alloc))?;
+    let program = with(program, explain(alloc))?;
+    let program = with(program, reader(alloc, "summary"))?;
+    let program = with(program, pages(alloc))?;
+    with(program, Ok(Command::new(alloc, "about")))
 }
 
 /// Returns what a command with these options is to do.
 fn job_of(name: &str, options: &ArgMatches<'_>) -> Result<Job, Fault> {
     Ok(match name {
         "run" => Job::Run,
+        "manual" => Job::Tell(page_in(options)?),
+        "about" => Job::Tell(Page::About),
         "audit" => Job::Answer(Task::Audit),
+        "draw" if options.get_flag("page") => Job::Answer(Task::Page(choice_in(options)?)),
         "draw" => Job::Answer(Task::Draw(choice_in(options)?)),
+        "explain" => Job::Answer(Task::Explain(number_in(options, "at", Fault::BadAt)?)),
+        "summary" => Job::Answer(Task::Summary),
         _ if options.get_flag("history") => Job::Answer(Task::Replay(Form::History)),
         _ => Job::Answer(Task::Replay(Form::Replay)),
     })
@@ -116,7 +152,10 @@ fn asked_by(alloc: Global, words: &ArgMatches<'_>) -> Result<Asked, Fault> {
         });
     };
     let job = job_of(name, options)?;
-    let file = file_in(alloc, options)?;
+    let file = match job {
+        Job::Tell(_) => None,
+        Job::Answer(_) | Job::Run => file_in(alloc, options)?,
+    };
     Ok(Asked { job, file })
 }
 

@@ -4,9 +4,12 @@
 //! `aqs replay [FILE]` reads a steps text, from standard input if no file is named. It writes the replay text
 //! to standard output, or with `--history` the history text. `aqs audit [FILE]` reads a history text and
 //! writes its audit text. The exit status is 1 if the history isn't legal. `aqs draw [FILE]` writes a picture
-//! of a history as an SVG document, with the same status. `--from` and `--to` choose entries. `aqs run
-//! [FILE]` reads a script and runs its threads. It writes the history of each of its objects, with the
-//! audit's lines on it. Without any words the program replays. A fault is printed on standard error, in one
+//! of a history as an SVG document, with the same status; with `--page` it writes a page of HTML that steps
+//! through the entries. `--from` and `--to` choose entries. `aqs explain [FILE]` explains the first entry that
+//! isn't legal, or the one of `--at`, with the same status. `aqs summary [FILE]` sums a history up, seat by
+//! seat, with the same status. `aqs run [FILE]` reads a script and runs its threads. It writes the history of
+//! each of its objects, with the audit's lines on it. `aqs manual` and `aqs about` write pages. Without any
+//! words the program replays. A fault is printed on standard error, in one
 //! line. Nothing has been written then, unless writing itself failed.
 #![tactic(auto)]
 
@@ -32,6 +35,7 @@ use tasks::fault::Fault;
 use tasks::perform::perform;
 use tasks::run_script::run_script;
 use tasks::task::Job;
+use tasks::tell::tell;
 
 /// Does a job, with the text from a reader.
 fn finish<R: AllocGlobal + Threads + Wait + Clock + Sync, I: Read + Drop, O: Write + Drop>(
@@ -45,6 +49,7 @@ fn finish<R: AllocGlobal + Threads + Wait + Clock + Sync, I: Read + Drop, O: Wri
     match job {
         Job::Answer(task) => perform(rt.alloc(), &mut reader, &mut writer, task),
         Job::Run => run_script(rt, &mut reader, &mut writer),
+        Job::Tell(page) => tell(&mut writer, page),
     }
 }
 

@@ -3,15 +3,18 @@ use Rattle.std.proofs.Common.{◌≡◌, ℕ, zero, suc, ◌<◌, ◌≤◌, ◌
 use Rattle.std.proofs.Common.{◌++◌, length, Option, None, Some, Ok, refl, ap, arith}
 use Rattle.frame.specs.declared.acts.Act.{Act}
 use Rattle.history.specs.Header.{IsInRange}
+use Rattle.history.specs.Text.{ended}
 use Rattle.line_text.specs.declared.limits.TheConstants.{LINE_BYTES}
 use Rattle.line_text.specs.Form.{Form}
 use Rattle.line_text.specs.UnderWay.{IsLineBehind}
 use Rattle.steps.specs.declared.header.StepsHeader.{StepsHeader}
-use Rattle.steps.specs.StepLines.{IsAct, act_line}
+use Rattle.steps.specs.CommonSteps.{stepped}
+use Rattle.steps.specs.declared.common_step.Common.{Common}
+use Rattle.steps.specs.StepLines.{IsAct, IsStep, act_line, step_line}
 use Rattle.steps.specs.StepsText.{steps_form, steps_so_far}
 use Rattle.steps.proofs.ShortSteps.{short}
 use Rattle.streams.specs.Streams.{IsReadNoFurther}
-use Rattle.driver.specs.StepReader.{Held, progress}
+use Rattle.driver.specs.StepReader.{Held, common_act, progress}
 use Rattle.driver.specs.TextReader.{IsNext, IsOfNoText, Progress, WereRead}
 
 repeated : ℕ → Act → List Act
@@ -28,7 +31,18 @@ pub next_act : (h : StepsHeader) (count : ℕ) (window : List ℕ) (act : Act) (
     IsLineBehind steps_form (steps_so_far h count) window (Ok (Some (act, left))) → IsAct h act
 next_act h count window act left is = (is []).1.fits (repeated count act) (as_many count act) tt
 
--- its line is short
+-- a common step whose line begins the window is the act of the next line
+pub common_behind : (h : StepsHeader) (count : ℕ) (window : List ℕ) (found : ℕ × Common) (left : ℕ) →
+    IsStep h.header.seats (stepped found) × ((rest : List ℕ)
+    × (window ≡ ended (step_line (stepped found)) ++ rest) × (length rest ≡ left))
+    → IsLineBehind steps_form (steps_so_far h count) window (Ok (Some (common_act found, left)))
+common_behind h count window found left is = λ text. (
+  is.1.0,
+  record { fits = λ acts same known. is.0; parts = is.1.1 },
+  is.1.2,
+)
+
+-- the line of the next act is short
 pub next_short : (h : StepsHeader) (count : ℕ) (window : List ℕ) (act : Act) (left : ℕ) → IsInRange h.header →
     IsLineBehind steps_form (steps_so_far h count) window (Ok (Some (act, left)))
     → length (act_line act) < LINE_BYTES

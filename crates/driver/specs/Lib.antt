@@ -4,12 +4,15 @@ pub mod AuditText
 pub mod BaseReader
 pub mod Choice
 pub mod DrawStream
+pub mod ExplainStream
 pub mod LineWriter
+pub mod PageStream
 pub mod Remarks
 pub mod Replay
 pub mod ReplayStream
 pub mod ReplayText
 pub mod StepReader
+pub mod SummaryStream
 pub mod HistoryReader
 pub mod TextReader
 pub mod inner

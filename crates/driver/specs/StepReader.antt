@@ -1,6 +1,9 @@
 -- Reading a steps text from a source, one act at a time.
 use Rattle.std.specs.Prelude.{ℕ, List, Option}
 use Rattle.frame.specs.declared.acts.Act.{Act}
+use Rattle.frame.specs.declared.acts.Act.TheVariants.{Do}
+use Rattle.steps.specs.CommonSteps.{step_of}
+use Rattle.steps.specs.declared.common_step.Common.{Common}
 use Rattle.steps.specs.declared.header.StepsHeader.{StepsHeader}
 use Rattle.steps.specs.StepsText.{steps_so_far}
 use Rattle.driver.specs.TextReader.{Progress, reader_at}
@@ -16,3 +19,7 @@ pub record Held : Type 0 where
 -- the progress of a reader; `left` is what its source still has
 abbrev pub progress : Held → Option (List ℕ) → Progress StepsHeader Act
 progress held = reader_at (steps_so_far held.header held.count) held.bytes
+
+-- a common step of a seat as an act
+abbrev pub common_act : ℕ × Common → Act
+common_act found = Do found.0 (step_of found.1)

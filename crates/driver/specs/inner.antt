@@ -1,5 +1,6 @@
 -- What only contracts of private functions cite: no promise of the crate rests on it.
 pub mod BaseReader
+pub mod ExplainStream
 pub mod HistoryReader
 pub mod Judged
 pub mod Logged

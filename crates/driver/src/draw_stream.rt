@@ -108,7 +108,7 @@ fn drawn_text(
 }
 
 /// Returns the entries before the first illegal one.
-fn legal_front(entries: &[Entry], verdict: Verdict) -> &[Entry]
+pub(crate) fn legal_front(entries: &[Entry], verdict: Verdict) -> &[Entry]
     ensures { result.now ≡ legal_front verdict entries.now }
 {
     match verdict {
@@ -124,7 +124,7 @@ fn legal_front(entries: &[Entry], verdict: Verdict) -> &[Entry]
 }
 
 /// Returns the number of the first illegal entry, if `folded` entries were folded.
-fn wrong_of(folded: u64, verdict: Verdict) -> Option<u64>
+pub(crate) fn wrong_of(folded: u64, verdict: Verdict) -> Option<u64>
     requires { folded + before_wrong verdict < 2 ^ 64 }
     ensures { result ≡ wrong_of folded verdict }
 {

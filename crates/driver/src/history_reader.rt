@@ -113,6 +113,22 @@ impl HistoryReader {
         self.base.as_ref()
     }
 
+    /// Returns the base, if the text has one, and lets the reader go.
+    pub(crate) fn into_base(self) -> Option<Base>
+        ensures value { result ≡ self.base }
+        ensures range { IsInRange self.header }
+        ensures well { IsBasedWell self.header self.base }
+    {
+        let HistoryReader {
+            header: _,
+            base,
+            place: _,
+            numbering: _,
+            window: _,
+        } = self;
+        base
+    }
+
     /// Returns how many entries were folded into the base.
     pub fn folded(&self) -> u64
         ensures value { result ≡ self.now.place.folded }

@@ -2,7 +2,8 @@
 //!
 //! It reads all, and reserves all memory, before it writes. So nothing is written for a text that is refused.
 //! A replay performs each line as it is read, and keeps the answers in short form until they are written. An
-//! audit judges each line as it is read, and keeps no entry. A drawing keeps the entries that it draws. The
+//! audit judges each line as it is read, and keeps no entry. A drawing keeps the entries that it draws, and an
+//! explanation those up to the one that it explains. A summary keeps all. The
 //! contracts refer to the bytes of sources and sinks, if these are known.
 #![tactic(auto)]
 
@@ -14,13 +15,16 @@ mod base_reader;
 pub mod choice;
 pub mod draw_stream;
 mod end_of;
+pub mod explain_stream;
 pub mod form;
 pub mod history_reader;
 mod judged;
 pub mod limits;
 pub mod line_writer;
+pub mod page_stream;
 pub mod remark;
 pub mod replay;
 pub mod replay_stream;
 pub mod step_reader;
+pub mod summary_stream;
 mod verdict_text;

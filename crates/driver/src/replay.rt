@@ -15,6 +15,7 @@ ghost use Rattle.driver.specs.inner.Logged.{IsLogged, IsRemarked, IsStepLogged, 
 ghost use Rattle.driver.specs.ReplayStream.{AreAnswersBehind};
 ghost use Rattle.driver.specs.StepReader.{progress};
 ghost use Rattle.driver.specs.inner.TextReader.{IsFaultBehind};
+ghost use Rattle.steps.specs.CommonSteps.{step_of};
 ghost use Rattle.steps.specs.StepsText.{steps_form};
 
 use crate::remark::{Remark, remark_on, remark_on_trim};
@@ -23,11 +24,12 @@ use frame::acts::Act;
 use frame::hooks::Hooks;
 use frame::machine::Core;
 use history::entries::History;
-use history::entry::Entry;
+use history::entry::{Entry, Mode};
 use history::fault::Fault;
 use history::step::{Answer, Step};
 use std::alloc::Global;
 use steps::MOST_ACTS;
+use steps::common_step::Common;
 use streams::source::Source;
 use streams::stream_fault::StreamFault;
 
@@ -89,6 +91,35 @@ fn answer_step<H: Hooks + Drop>(
     keep(&mut log.remarks, remark_on(before, seat, &answer))
 }
 
+/// Performs a common step, and keeps its remark.
+// In each arm the step is known.
+#[inline(always)]
+fn answer_common<H: Hooks + Drop>(
+    core: &mut Core<H>,
+    log: &mut Log,
+    seat: u16,
+    common: Common,
+) -> Result<(), StreamFault>
+    requires seat { seat < core.old.header.seats }
+    requires few { length log.old.past.items + length core.old.entries < 2 ^ 32 }
+    ensures ok { OnOk result (IsStepLogged core.old (logged log.old) seat (step_of common) core.new
+        (logged log.new)) }
+    ensures err { IfErr result (λ fault. fault ≡ Memory) }
+{
+    match common {
+        Common::Acquire => answer_step(core, log, seat, Step::Acquire(Mode::X, 1)),
+        Common::AcquireShared => answer_step(core, log, seat, Step::Acquire(Mode::S, 1)),
+        Common::Give => answer_step(core, log, seat, Step::Give(Mode::X, 1)),
+        Common::GiveShared => answer_step(core, log, seat, Step::Give(Mode::S, 1)),
+        Common::Look => answer_step(core, log, seat, Step::Look),
+        Common::Try => answer_step(core, log, seat, Step::Try(Mode::X, 1)),
+        Common::TryFair => answer_step(core, log, seat, Step::TryFair(Mode::X, 1)),
+        Common::EntryInterrupt => answer_step(core, log, seat, Step::EntryInterrupt(Mode::X, 1)),
+        Common::Expire => answer_step(core, log, seat, Step::Expire),
+        Common::Interrupt => answer_step(core, log, seat, Step::Interrupt),
+    }
+}
+
 /// Appends the entries of a history to those that were folded before.
 fn keep_entries(past: &mut Vec<Entry>, history: &History) -> Result<(), StreamFault>
     ensures ok { OnOk result (past.new.items ≡ past.old.items ++ reverse history.now.entries) }
@@ -140,7 +171,7 @@ fn answer_trim<H: Hooks + Drop>(core: &mut Core<H>, log: &mut Log) -> Result<(),
 }
 
 /// Performs an act, and keeps what isn't in the history.
-#[inline(always)]
+#[inline(never)]
 fn answer_act<H: Hooks + Drop>(
     core: &mut Core<H>,
     log: &mut Log,
@@ -196,13 +227,18 @@ pub fn replay<H: Hooks + Drop, R: Source>(
         past: Vec::new(alloc),
         remarks: Vec::new(alloc),
     };
-    while let Some(act) = steps.next(reader)? {
+    loop {
+        while let Some((seat, common)) = steps.next_common() {
+            answer_common(core, &mut log, seat, common)?;
+        }
+        let Some(act) = steps.next(reader)? else {
+            core.recall_lawful();
+            return Ok(log);
+        };
         if steps.count() > MOST_ACTS {
             steps.read_to_fault(reader)?;
             return Err(StreamFault::Memory);
         }
         answer_act(core, &mut log, act)?;
     }
-    core.recall_lawful();
-    Ok(log)
 }

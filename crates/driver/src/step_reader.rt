@@ -1,14 +1,16 @@
 //! Reading the steps and trims of a text from their source, one at a time.
 
 ghost use Rattle.std.specs.Prelude.{◌≡◌, ◌⊎◌, ◌+◌, ◌^◌, ◌<◌, ◌≤◌, ◌∷◌, ◌++◌, ◌↔◌, ◌-◌, [], false, length};
-ghost use Rattle.std.specs.Prelude.{None, Ok, IsErr, IsTrue, IsErrOf, IfOk, IfErr, IfSome, OnErr, OnOk};
+ghost use Rattle.std.specs.Prelude.{List, None, Ok, Option, Some, ℕ};
+ghost use Rattle.std.specs.Prelude.{IsErr, IsTrue, IsErrOf, IfOk, IfErr, IfNone, IfSome, OnErr, OnOk};
 ghost use Rattle.std.specs.Io.KnownBytes.{IsAtEnd};
 ghost use Rattle.history.specs.Header.{IsInRange};
 ghost use Rattle.history.specs.Text.{HasNoBreak};
-ghost use Rattle.driver.specs.StepReader.{progress};
+ghost use Rattle.driver.specs.StepReader.{common_act, progress};
 ghost use Rattle.driver.specs.inner.StepReader.{passed};
 ghost use Rattle.driver.specs.TextReader.{IsFaultOf, IsFaultOn, IsNext, IsOfNoText, KeepsPlace, WereRead};
 ghost use Rattle.steps.specs.StepLines.{IsAct};
+ghost use Rattle.steps.specs.declared.end_line.TheConstants.{MOST_ACTS};
 ghost use Rattle.steps.specs.StepsText.{steps_form};
 ghost use Rattle.streams.specs.ReadingOn.{IsTooLong};
 ghost use Rattle.streams.specs.Window.{room};
@@ -19,6 +21,8 @@ use frame::acts::Act;
 use line_text::fault::TextFault;
 use std::alloc::Global;
 use std::marker::Model;
+use steps::MOST_ACTS;
+use steps::common_step::{Common, common_step};
 use steps::header::StepsHeader;
 use steps::next_line::{header_of, next_line};
 use streams::source::Source;
@@ -94,6 +98,17 @@ impl StepReader {
         self.count
     }
 
+    /// Goes on behind the line of an act, which is counted. `left` is the number of bytes after the line.
+    #[inline(always)]
+    fn advance(&mut self, left: usize)
+        requires within { left ≤ length self.old.bytes }
+        requires few { self.old.count + 4 < 2 ^ 64 }
+        ensures { self.new ≡ passed left self.old }
+    {
+        self.count += 1;
+        self.window.keep_last(left);
+    }
+
     /// Counts one more act. `left` is the number of bytes after its line.
     #[inline(always)]
     fn pass(&mut self, left: usize) -> Result<(), StreamFault>
@@ -108,9 +123,30 @@ impl StepReader {
         if self.count == MOST {
             return Err(StreamFault::Memory);
         }
-        self.count += 1;
-        self.window.keep_last(left);
+        self.advance(left);
         Ok(())
+    }
+
+    /// Returns the seat and the step of the next line, if the window has all of it and it is one of the most
+    /// frequent. Otherwise `next` reads the line. After as many acts as a good text may have there is none.
+    #[inline(always)]
+    pub fn next_common(&mut self) -> Option<(u16, Common)>
+        ensures next { IfSome result (λ found. (left : Option (List ℕ)) → IsNext steps_form
+            (progress self.old left) (Ok (Some (common_act found))) (progress self.new left) left) }
+        ensures seated { IfSome result (λ found. IsAct self.old.header (common_act found)) }
+        ensures counted { IfSome result (λ _. self.new.count ≡ self.old.count + 1) }
+        ensures few { IfSome result (λ _. self.new.count ≤ MOST_ACTS) }
+        ensures header { self.new.header ≡ self.old.header }
+        ensures places { self.new.places ≡ self.old.places }
+        ensures held { length self.new.bytes ≤ room }
+        ensures none { IfNone result (self.new ≡ self.old) }
+    {
+        if self.count >= MOST_ACTS {
+            return None;
+        }
+        let (found, left) = common_step(self.window.bytes(), self.header.header.seats)?;
+        self.advance(left);
+        Some(found)
     }
 
     /// As `next`, if the window doesn't hold a whole line yet.

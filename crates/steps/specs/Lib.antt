@@ -1,3 +1,4 @@
+pub mod CommonSteps
 pub mod StepLines
 pub mod StepReading
 pub mod StepsText

@@ -2,6 +2,8 @@
 
 ghost use Rattle.std.specs.Prelude.{◌≡◌, ◌++◌, length, List, ℕ, IfSome};
 ghost use Rattle.history.specs.Text.{ended};
+ghost use Rattle.history.specs.declared.step.Step.{Step};
+ghost use Rattle.steps.specs.CommonSteps.{step_of, stepped};
 ghost use Rattle.steps.specs.StepLines.{IsStep, step_line};
 ghost use Rattle.steps.specs.inner.StepLines.{BeginsWith};
 
@@ -12,9 +14,69 @@ use line_text::at_once::{behind_byte, behind_four};
 use line_text::once::mode_of_once;
 use line_text::seat::seat_of;
 
+/// A step whose line is read at once. It asks for 1, if it asks for an amount.
+///
+/// It is a number in a register, while a [`Step`] is four bytes or more of memory.
+#[derive(Clone, Copy, Debug, PartialEq, Eq)]
+pub enum Common {
+    Acquire,
+    AcquireShared,
+    Give,
+    GiveShared,
+    Look,
+    Try,
+    TryFair,
+    EntryInterrupt,
+    Expire,
+    Interrupt,
+}
+
+impl Common {
+    /// Returns the step.
+    #[inline(always)]
+    pub fn step(self) -> Step
+        ensures { result ≡ step_of self }
+    {
+        match self {
+            Common::Acquire => Step::Acquire(Mode::X, 1),
+            Common::AcquireShared => Step::Acquire(Mode::S, 1),
+            Common::Give => Step::Give(Mode::X, 1),
+            Common::GiveShared => Step::Give(Mode::S, 1),
+            Common::Look => Step::Look,
+            Common::Try => Step::Try(Mode::X, 1),
+            Common::TryFair => Step::TryFair(Mode::X, 1),
+            Common::EntryInterrupt => Step::EntryInterrupt(Mode::X, 1),
+            Common::Expire => Step::Expire,
+            Common::Interrupt => Step::Interrupt,
+        }
+    }
+}
+
+/// Returns the acquire of 1 in a mode.
+#[inline(always)]
+fn acquire_in(mode: Mode) -> Common
+    ensures { step_of result ≡ Step.Acquire mode 1 }
+{
+    match mode {
+        Mode::X => Common::Acquire,
+        Mode::S => Common::AcquireShared,
+    }
+}
+
+/// Returns the release of 1 in a mode.
+#[inline(always)]
+fn give_in(mode: Mode) -> Common
+    ensures { step_of result ≡ Step.Give mode 1 }
+{
+    match mode {
+        Mode::X => Common::Give,
+        Mode::S => Common::GiveShared,
+    }
+}
+
 /// Reads an acquire of 1.
 #[inline(always)]
-fn acquire(text: &[u8]) -> Option<(Step, usize)>
+fn acquire(text: &[u8]) -> Option<(Common, usize)>
     ensures { IfSome result (BeginsWith text.now) }
 {
     // One test of the length instead of three.
@@ -24,12 +86,12 @@ fn acquire(text: &[u8]) -> Option<(Step, usize)>
     let name_end = behind_four(*b"acqu", text)?;
     let asked = behind_four(*b"ire ", name_end)?;
     let (mode, left) = mode_of_once(asked)?;
-    Some((Step::Acquire(mode, 1), left))
+    Some((acquire_in(mode), left))
 }
 
 /// Reads a release of 1.
 #[inline(always)]
-fn give(text: &[u8]) -> Option<(Step, usize)>
+fn give(text: &[u8]) -> Option<(Common, usize)>
     ensures { IfSome result (BeginsWith text.now) }
 {
     if text.len() < 9 {
@@ -38,45 +100,42 @@ fn give(text: &[u8]) -> Option<(Step, usize)>
     let name_end = behind_four(*b"give", text)?;
     let asked = behind_byte(b' ', name_end)?;
     let (mode, left) = mode_of_once(asked)?;
-    Some((Step::Give(mode, 1), left))
+    Some((give_in(mode), left))
 }
 
 /// Reads a retry.
 #[inline(always)]
-fn look(text: &[u8]) -> Option<(Step, usize)>
+fn look(text: &[u8]) -> Option<(Common, usize)>
     ensures { IfSome result (BeginsWith text.now) }
 {
     let name_end = behind_four(*b"look", text)?;
     let rest = behind_byte(b'\n', name_end)?;
-    Some((Step::Look, rest.len()))
+    Some((Common::Look, rest.len()))
 }
 
 /// Reads a try of X: one that doesn't barge, or one that may.
 #[inline(always)]
-fn tries(text: &[u8]) -> Option<(Step, usize)>
+fn tries(text: &[u8]) -> Option<(Common, usize)>
     ensures { IfSome result (BeginsWith text.now) }
 {
     match behind(b"try x 1\n", text) {
-        Some(rest) => Some((Step::Try(Mode::X, 1), rest.len())),
-        None => Some((
-            Step::TryFair(Mode::X, 1),
-            behind(b"tryfair x 1\n", text)?.len(),
-        )),
+        Some(rest) => Some((Common::Try, rest.len())),
+        None => Some((Common::TryFair, behind(b"tryfair x 1\n", text)?.len())),
     }
 }
 
 /// Reads a timeout, an interrupt, or an acquire with an interrupt pending.
 #[inline(always)]
-fn ends_wait(text: &[u8]) -> Option<(Step, usize)>
+fn ends_wait(text: &[u8]) -> Option<(Common, usize)>
     ensures { IfSome result (BeginsWith text.now) }
 {
     if let Some(rest) = behind(b"expire\n", text) {
-        return Some((Step::Expire, rest.len()));
+        return Some((Common::Expire, rest.len()));
     }
     match behind(b"interrupt\n", text) {
-        Some(rest) => Some((Step::Interrupt, rest.len())),
+        Some(rest) => Some((Common::Interrupt, rest.len())),
         None => Some((
-            Step::EntryInterrupt(Mode::X, 1),
+            Common::EntryInterrupt,
             behind(b"entryinterrupt x 1\n", text)?.len(),
         )),
     }
@@ -85,7 +144,7 @@ fn ends_wait(text: &[u8]) -> Option<(Step, usize)>
 /// Returns the step whose words and line break begin the text, if it is one of the most frequent, and how
 /// many bytes follow.
 #[inline(always)]
-fn common_words(text: &[u8]) -> Option<(Step, usize)>
+fn common_words(text: &[u8]) -> Option<(Common, usize)>
     ensures { IfSome result (BeginsWith text.now) }
 {
     if let Some(found) = acquire(text) {
@@ -107,16 +166,16 @@ fn common_words(text: &[u8]) -> Option<(Step, usize)>
 /// Returns the seat and the step whose line begins the text, if it is one of the most frequent, and how many
 /// bytes follow.
 ///
-/// The rest is returned as a number of bytes, which stays in a register.
+/// All of it is numbers, which stay in registers.
 #[inline(always)]
-pub fn common_step(text: &[u8], seats: u16) -> Option<((u16, Step), usize)>
-    ensures { IfSome result (λ r. IsStep seats r.0 × ((rest : List ℕ) ×
-        (text.now ≡ ended (step_line r.0) ++ rest) × (length rest ≡ r.1))) }
+pub fn common_step(text: &[u8], seats: u16) -> Option<((u16, Common), usize)>
+    ensures { IfSome result (λ r. IsStep seats (stepped r.0) × ((rest : List ℕ) ×
+        (text.now ≡ ended (step_line (stepped r.0)) ++ rest) × (length rest ≡ r.1))) }
 {
     let (seat, at) = seat_of(text)?;
     if u64::from(seats) <= seat {
         return None;
     }
-    let (step, left) = common_words(&text[at..])?;
-    Some(((seat as u16, step), left))
+    let (common, left) = common_words(&text[at..])?;
+    Some(((seat as u16, common), left))
 }

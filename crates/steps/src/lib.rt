@@ -5,7 +5,7 @@
 #![tactic(auto)]
 
 mod act_line;
-mod common_step;
+pub mod common_step;
 mod end_line;
 pub mod header;
 mod law;

@@ -77,7 +77,7 @@ pub fn next_line(
     ensures last { result ≡ Ok None → rest.now ≡ ended (end_line count) }
 {
     match common_step(rest, header.header.seats) {
-        Some(((seat, step), left)) => Ok(Some((Act::Do(seat, step), left))),
+        Some(((seat, common), left)) => Ok(Some((Act::Do(seat, common.step()), left))),
         None => line_by_words(rest, header, count),
     }
 }

@@ -3,7 +3,7 @@ use Rattle.std.specs.Prelude.{ℕ, List, Option, IfSome}
 use Rattle.script.specs.Reading.{IsFault}
 use Rattle.streams.specs.declared.stream_fault.StreamFault.TheVariants.{Text, ReadFailed, WriteFailed, Memory as StreamMemory}
 use Rattle.tasks.specs.declared.fault.Fault.{Fault}
-use Rattle.tasks.specs.declared.fault.Fault.TheVariants.{Usage, BadFrom, BadTo, Memory, Stream, Script, Run}
+use Rattle.tasks.specs.declared.fault.Fault.TheVariants.{Usage, BadFrom, BadTo, BadAt, Memory, Stream, Script, Run}
 
 -- why a script can't be read
 abbrev pub IsFaultOfScript : Option (List ℕ) → Fault → Type 0
@@ -16,4 +16,5 @@ IsFaultOfScript left (Run fault) = ⊥
 IsFaultOfScript left Usage = ⊥
 IsFaultOfScript left BadFrom = ⊥
 IsFaultOfScript left BadTo = ⊥
+IsFaultOfScript left BadAt = ⊥
 IsFaultOfScript left Memory = ⊥

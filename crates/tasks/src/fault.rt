@@ -21,6 +21,9 @@ pub enum Fault {
     /// The last entry to draw is no number.
     #[error("bad --to")]
     BadTo,
+    /// The entry to explain is no number.
+    #[error("bad --at")]
+    BadAt,
     #[error("out of memory")]
     Memory,
     #[error("{0}")]
@@ -39,7 +42,7 @@ impl Fault {
     {
         match self {
             Fault::Usage => 2,
-            Fault::BadFrom | Fault::BadTo => 2,
+            Fault::BadFrom | Fault::BadTo | Fault::BadAt => 2,
             Fault::Stream(StreamFault::Memory)
             | Fault::Memory
             | Fault::Script(ScriptFault::OutOfMemory)

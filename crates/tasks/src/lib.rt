@@ -7,3 +7,4 @@ pub mod fault;
 pub mod perform;
 pub mod run_script;
 pub mod task;
+pub mod tell;

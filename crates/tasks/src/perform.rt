@@ -10,7 +10,10 @@ use crate::task::Task;
 use audit::verdict::Verdict;
 use driver::audit_stream::audit_stream;
 use driver::draw_stream::draw_stream;
+use driver::explain_stream::explain_stream;
+use driver::page_stream::page_stream;
 use driver::replay_stream::replay_stream;
+use driver::summary_stream::summary_stream;
 use std::alloc::Global;
 use streams::sink::Sink;
 use streams::source::Source;
@@ -49,5 +52,8 @@ pub fn perform<R: Source, W: Sink>(
         }
         Task::Audit => Ok(status_for(audit_stream(alloc, reader, writer)?)),
         Task::Draw(choice) => Ok(status_for(draw_stream(alloc, reader, writer, choice)?)),
+        Task::Page(choice) => Ok(status_for(page_stream(alloc, reader, writer, choice)?)),
+        Task::Explain(at) => Ok(status_for(explain_stream(alloc, reader, writer, at)?)),
+        Task::Summary => Ok(status_for(summary_stream(alloc, reader, writer)?)),
     }
 }

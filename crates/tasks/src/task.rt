@@ -2,6 +2,7 @@
 
 use driver::choice::Choice;
 use driver::form::Form;
+use manual::page::Page;
 
 /// What is done for a command line.
 #[derive(Clone, Copy, Debug, PartialEq, Eq)]
@@ -10,6 +11,8 @@ pub enum Job {
     Answer(Task),
     /// The threads of a script are run.
     Run,
+    /// A page of the manual is written.
+    Tell(Page),
 }
 
 /// What is done with a text that is read.
@@ -21,4 +24,10 @@ pub enum Task {
     Audit,
     /// The history of a history text is drawn.
     Draw(Choice),
+    /// A page is written that steps through the history of a history text.
+    Page(Choice),
+    /// The entry of a number in a history text is explained; without a number the first illegal one.
+    Explain(Option<u64>),
+    /// A history text is summed up.
+    Summary,
 }

@@ -1,4 +1,4 @@
-use Rattle.std.proofs.Common.{◌∷◌, [], ◌++◌, length, reverse, refl, ap, sym, ◌∙◌, subst, arith}
+use Rattle.std.proofs.Common.{◌<◌, ◌∷◌, [], ◌++◌, length, reverse, refl, ap, sym, ◌∙◌, subst, arith}
 use Rattle.std.proofs.lemmas.List.Elements.{All-append}
 use Rattle.frame.specs.Acts.{IsOfSeats}
 use Rattle.history.specs.declared.header.Header.{Header}
@@ -7,7 +7,7 @@ use Rattle.line_text.proofs.Faults.{err_is}
 use Rattle.steps.specs.declared.header.StepsHeader.{StepsHeader}
 use Rattle.steps.specs.StepsText.{steps_form, steps_so_far}
 use Rattle.driver.specs.inner.Logged.{logged}
-use Rattle.driver.specs.StepReader.{progress}
+use Rattle.driver.specs.StepReader.{Held, common_act, progress}
 use Rattle.driver.proofs.Doing.{of_seats, spelt_on}
 use Rattle.driver.proofs.Driven.{answering_none, answering_act, answering_all, one_entry_more}
 use Rattle.driver.proofs.StepsAhead.{no_text}
@@ -16,28 +16,33 @@ use Rattle.driver.proofs.replay.replay.Goals as goal
 
 pub answer_act-requires-clause-seat : goal.answer_act-requires-clause-seat
 answer_act-requires-clause-seat g c =
-    subst (λ (k : Header). IsOfSeats k.seats c.in-Some.act) (sym c.loop-log.invariant.header)
-    (of_seats c.loop-log.steps.header c.in-Some.act (rw c.in-Some.is at c.in_ok-act.ensures.seated))
+    let held = c.in_default.ensures.none in
+    subst (λ (k : Header). IsOfSeats k.seats c.in-Some-2.act)
+    (ap (λ (h : Held). h.header.header) held ∙ sym c.loop-seat-2.invariant.header)
+    (of_seats c.next_common.new.self.header c.in-Some-2.act (rw c.in-Some-2.is at c.in_ok-act.ensures.seated))
 
 pub answer_act-requires-clause-few : goal.answer_act-requires-clause-few
 answer_act-requires-clause-few g c =
     omega (
       arith,
-      c.loop-log.invariant.few,
-      rw c.in-Some.is at c.in_ok-act.ensures.counted,
+      c.loop-seat-2.invariant.few,
+      ap (λ (h : Held). h.count) c.in_default.ensures.none,
+      rw c.in-Some-2.is at c.in_ok-act.ensures.counted,
       c.count.ensures,
       c.if-count-gt-MOST_ACTS.false,
     )
 
-pub loop-log-preserved : goal.loop-log-preserved
-loop-log-preserved g c =
-    let was = c.loop-log in
-    let next = rw c.in-Some.is at c.in_ok-act.ensures.next in
-    let same = c.in_ok-act.ensures.header in
+pub loop-seat-preserved : goal.loop-seat-preserved
+loop-seat-preserved g c =
+    let was = c.loop-seat-2 in
+    let held = c.in_default.ensures.none in
+    let next = rw c.in-Some-2.is at c.in_ok-act.ensures.next in
+    let same = c.in_ok-act.ensures.header ∙ ap (λ (h : Held). h.header) held in
     let a =
-    answering_act _ _ _ c.in-Some.act was.core c.answer_act.new.core (logged was.log)
-    (logged c.answer_act.new.log) (g.R.Source.left c.next.new.reader) next same c.in_ok-answer_act.ensures.ok
-    c.in_ok-answer_act.ensures.may_fold was.invariant.answering in
+    answering_act _ _ _ c.in-Some-2.act was.core c.answer_act.new.core (logged was.log)
+    (logged c.answer_act.new.log) (g.R.Source.left c.next.new.reader) next c.in_ok-act.ensures.header
+    c.in_ok-answer_act.ensures.ok c.in_ok-answer_act.ensures.may_fold
+    (rw (← held) at was.invariant.answering) in
     record {
       going = goes_on c.in_ok-act.field-0 (g.R.Source.failed c.next.new.reader)
           (λ t. c.in_ok-act.ensures.failing.1 t);
@@ -45,49 +50,51 @@ loop-log-preserved g c =
       few = omega (
         arith,
         was.invariant.few,
-        rw c.in-Some.is at c.in_ok-act.ensures.counted,
-        one_entry_more c.in-Some.act was.core c.answer_act.new.core (logged was.log)
+        ap (λ (h : Held). h.count) held,
+        rw c.in-Some-2.is at c.in_ok-act.ensures.counted,
+        one_entry_more c.in-Some-2.act was.core c.answer_act.new.core (logged was.log)
             (logged c.answer_act.new.log) c.in_ok-answer_act.ensures.ok,
       );
       header = a.1 ∙ was.invariant.header ∙ ap (λ (k : StepsHeader). k.header) (sym same);
       answering = a.0;
     }
 
-pub loop-log-smaller : goal.loop-log-smaller
-loop-log-smaller g c =
-    omega (arith, rw c.in-Some.is at c.in_ok-act.ensures.counted, c.in_ok-act.ensures.few)
+pub loop-seat-smaller : goal.loop-seat-smaller
+loop-seat-smaller g c =
+    omega (arith, c.loop-seat-2.invariant.further, ap (λ (h : Held). h.count) c.in_default.ensures.none, rw c.in-Some-2.is at c.in_ok-act.ensures.counted, c.in_ok-act.ensures.few)
 
-pub returns-clause-ok : goal.returns-clause-ok
-returns-clause-ok g c =
-    answering_all _ _ (progress c.next.new.self (g.R.Source.left c.next.new.reader))
-    c.loop-log.core.base c.loop-log.core.entries c.loop-log.log.past.items c.loop-log.log.remarks.items
+pub returns-in_default-2-clause-ok : goal.returns-in_default-2-clause-ok
+returns-in_default-2-clause-ok g c =
+    answering_all _ (progress c.next_common.new.self (g.R.Source.left c.loop-seat.reader))
+    (progress c.next.new.self (g.R.Source.left c.next.new.reader))
+    c.loop-seat-2.core.base c.loop-seat-2.core.entries c.loop-seat-2.log.past.items c.loop-seat-2.log.remarks.items
     (g.R.Source.left c.next.new.reader)
-    c.loop-log.invariant.same
-    (rw c.in_default.is at c.in_ok-act.ensures.next)
+    (ap (λ (h : Held). h.header) c.in_default.ensures.none ∙ c.loop-seat-2.invariant.same)
+    (rw c.in_default-2.is at c.in_ok-act.ensures.next)
     (record {
       legal = c.recall_lawful.ensures.legal;
       seated = c.recall_lawful.ensures.seated;
       in_order = c.recall_lawful.ensures.order;
       in_fair_order = c.recall_lawful.ensures.fair;
-    }) c.loop-log.invariant.answering
+    }) (rw (← c.in_default.ensures.none) at c.loop-seat-2.invariant.answering)
 
-pub returns-clause-spelt : goal.returns-clause-spelt
-returns-clause-spelt g c =
-    All-append IsSpelt c.loop-log.log.past.items (reverse c.loop-log.core.entries)
-    c.loop-log.invariant.answering.spelt
-    (spelt_on c.loop-log.core.base c.loop-log.core.entries c.recall_lawful.ensures.may_fold.can)
+pub returns-in_default-2-clause-spelt : goal.returns-in_default-2-clause-spelt
+returns-in_default-2-clause-spelt g c =
+    All-append IsSpelt c.loop-seat-2.log.past.items (reverse c.loop-seat-2.core.entries)
+    c.loop-seat-2.invariant.answering.spelt
+    (spelt_on c.loop-seat-2.core.base c.loop-seat-2.core.entries c.recall_lawful.ensures.may_fold.can)
 
-pub returns-clause-folded : goal.returns-clause-folded
-returns-clause-folded g c = record {
-  header = c.recall_lawful.ensures.header ∙ c.loop-log.invariant.header
-      ∙ ap (λ (k : StepsHeader). k.header) c.loop-log.invariant.same;
-  entries = c.loop-log.invariant.answering.counted;
-  ended = c.loop-log.invariant.answering.ended;
+pub returns-in_default-2-clause-folded : goal.returns-in_default-2-clause-folded
+returns-in_default-2-clause-folded g c = record {
+  header = c.recall_lawful.ensures.header ∙ c.loop-seat-2.invariant.header
+      ∙ ap (λ (k : StepsHeader). k.header) c.loop-seat-2.invariant.same;
+  entries = c.loop-seat-2.invariant.answering.counted;
+  ended = c.loop-seat-2.invariant.answering.ended;
   good = c.recall_lawful.ensures.may_fold.can.good;
 }
 
-pub loop-log-init : goal.loop-log-init
-loop-log-init g c = record {
+pub loop-seat-init : goal.loop-seat-init
+loop-seat-init g c = record {
   going = c.requires.reader;
   same = refl;
   header = c.requires.header;
@@ -99,45 +106,110 @@ loop-log-init g c = record {
 
 pub returns-in_err-act-clause-err : goal.returns-in_err-act-clause-err
 returns-in_err-act-clause-err g c =
-    let passed = c.from_residual in
-    let a = c.loop-log.invariant.answering in
+    let passed = c.from_residual-in_err-act in
+    let a = rw (← c.in_default.ensures.none) at c.loop-seat-2.invariant.answering in
     rw (err_is passed.result c.in_err-act.field-0.0 passed.ensures) (λ text were.
     c.in_err-act.ensures.next text a.acts (a.read text were))
 
 pub returns-in_err-answer_act-clause-err : goal.returns-in_err-answer_act-clause-err
 returns-in_err-answer_act-clause-err g c =
-    let a = c.loop-log.invariant.answering in
-    let next = rw c.in-Some.is at c.in_ok-act.ensures.next in
+    let a = rw (← c.in_default.ensures.none) at c.loop-seat-2.invariant.answering in
+    let next = rw c.in-Some-2.is at c.in_ok-act.ensures.next in
     let first = progress c.args.steps.now (g.R.Source.left c.args.reader.now) in
     let passed = c.from_residual-in_err-answer_act in
     let full = err_is passed.result c.in_err-answer_act.field-0.0 passed.ensures in
     rw (full, c.in_err-answer_act.ensures.err)
     (memory_after steps_form first
-    (a.acts ++ c.in-Some.act ∷ []) (steps_so_far c.next.new.self.header c.next.new.self.count)
+    (a.acts ++ c.in-Some-2.act ∷ []) (steps_so_far c.next.new.self.header c.next.new.self.count)
     c.next.new.self.bytes (g.R.Source.left c.next.new.reader) c.in_ok-act.ensures.held
     (λ text were. next text a.acts (a.read text were)))
 
-pub returns-clause-memory : goal.returns-clause-memory
-returns-clause-memory g c =
-    let was = c.loop-log in
+pub returns-in_default-2-clause-memory : goal.returns-in_default-2-clause-memory
+returns-in_default-2-clause-memory g c =
+    let held = c.next_common.new.self in
+    let a = rw (← c.in_default.ensures.none) at c.loop-seat-2.invariant.answering in
     memory_at_end steps_form (progress c.args.steps.now (g.R.Source.left c.args.reader.now))
-    was.invariant.answering.acts (steps_so_far was.steps.header was.steps.count) was.steps.bytes
-    c.next.new.self.bytes (g.R.Source.left was.reader) (g.R.Source.left c.next.new.reader)
-    c.in_ok-act.ensures.held (rw c.in_default.is at c.in_ok-act.ensures.stands)
-    was.invariant.answering.read
+    a.acts (steps_so_far held.header held.count) held.bytes
+    c.next.new.self.bytes (g.R.Source.left c.loop-seat.reader) (g.R.Source.left c.next.new.reader)
+    c.in_ok-act.ensures.held (rw c.in_default-2.is at c.in_ok-act.ensures.stands)
+    a.read
 
 pub returns-in_err-read_to_fault-clause-err : goal.returns-in_err-read_to_fault-clause-err
 returns-in_err-read_to_fault-clause-err g c =
-    let a = c.loop-log.invariant.answering in
-    let next = rw c.in-Some.is at c.in_ok-act.ensures.next in
+    let a = rw (← c.in_default.ensures.none) at c.loop-seat-2.invariant.answering in
+    let next = rw c.in-Some-2.is at c.in_ok-act.ensures.next in
     let passed = c.from_residual-in_err-read_to_fault in
     rw (err_is passed.result c.in_err-read_to_fault.field-0.0 passed.ensures) (λ text were.
-    c.in_err-read_to_fault.ensures.err text (a.acts ++ c.in-Some.act ∷ [])
+    c.in_err-read_to_fault.ensures.err text (a.acts ++ c.in-Some-2.act ∷ [])
     (next text a.acts (a.read text were)))
 
 pub returns-then-count-gt-MOST_ACTS-clause-err : goal.returns-then-count-gt-MOST_ACTS-clause-err
 returns-then-count-gt-MOST_ACTS-clause-err g c = λ text were.
-    let a = c.loop-log.invariant.answering in
-    let next = rw c.in-Some.is at c.in_ok-act.ensures.next in
+    let a = rw (← c.in_default.ensures.none) at c.loop-seat-2.invariant.answering in
+    let next = rw c.in-Some-2.is at c.in_ok-act.ensures.next in
     no_text steps_form (progress c.next.new.self (g.R.Source.left c.next.new.reader)) text
-    (a.acts ++ c.in-Some.act ∷ []) _ c.in_ok-read_to_fault.ensures.none (next text a.acts (a.read text were))
+    (a.acts ++ c.in-Some-2.act ∷ []) _ c.in_ok-read_to_fault.ensures.none (next text a.acts (a.read text were))
+
+-- ---- a common step
+
+pub loop-seat-2-init : goal.loop-seat-2-init
+loop-seat-2-init g c =
+    let was = c.loop-seat.invariant in
+    record {
+      same = was.same;
+      header = was.header;
+      few = was.few;
+      further = omega arith;
+      answering = was.answering;
+    }
+
+pub answer_common-requires-clause-seat : goal.answer_common-requires-clause-seat
+answer_common-requires-clause-seat g c =
+    subst (λ (k : Header). c.in-Some.seat < k.seats) (sym c.loop-seat-2.invariant.header)
+    c.in-Some.ensures.seated.0
+
+pub answer_common-requires-clause-few : goal.answer_common-requires-clause-few
+answer_common-requires-clause-few g c =
+    omega (arith, c.loop-seat-2.invariant.few, c.in-Some.ensures.counted, c.in-Some.ensures.few)
+
+pub loop-seat-2-smaller : goal.loop-seat-2-smaller
+loop-seat-2-smaller g c = omega (arith, c.in-Some.ensures.counted, c.in-Some.ensures.few)
+
+pub loop-seat-2-preserved : goal.loop-seat-2-preserved
+loop-seat-2-preserved g c =
+    let was = c.loop-seat-2 in
+    let act = common_act (c.in-Some.seat, c.in-Some.common) in
+    let next = c.in-Some.ensures.next (g.R.Source.left c.loop-seat.reader) in
+    let same = c.in-Some.ensures.header in
+    let a =
+    answering_act _ _ _ act was.core c.answer_common.new.core (logged was.log)
+    (logged c.answer_common.new.log) (g.R.Source.left c.loop-seat.reader) next same
+    c.in_ok-answer_common.ensures.ok (λ e. cc) was.invariant.answering in
+    record {
+      same = same ∙ was.invariant.same;
+      header = a.1 ∙ was.invariant.header ∙ ap (λ (k : StepsHeader). k.header) (sym same);
+      few = omega (
+        arith,
+        was.invariant.few,
+        c.in-Some.ensures.counted,
+        one_entry_more act was.core c.answer_common.new.core (logged was.log)
+            (logged c.answer_common.new.log) c.in_ok-answer_common.ensures.ok,
+      );
+      further = omega (arith, was.invariant.further, c.in-Some.ensures.counted);
+      answering = a.0;
+    }
+
+pub returns-in_err-answer_common-clause-err : goal.returns-in_err-answer_common-clause-err
+returns-in_err-answer_common-clause-err g c =
+    let a = c.loop-seat-2.invariant.answering in
+    let left = g.R.Source.left c.loop-seat.reader in
+    let next = c.in-Some.ensures.next left in
+    let first = progress c.args.steps.now (g.R.Source.left c.args.reader.now) in
+    let passed = c.from_residual in
+    let full = err_is passed.result c.in_err-answer_common.field-0.0 passed.ensures in
+    rw (full, c.in_err-answer_common.ensures.err)
+    (memory_after steps_form first
+    (a.acts ++ common_act (c.in-Some.seat, c.in-Some.common) ∷ [])
+    (steps_so_far c.next_common.new.self.header c.next_common.new.self.count)
+    c.next_common.new.self.bytes left c.in-Some.ensures.held
+    (λ text were. next text a.acts (a.read text were)))

@@ -3,16 +3,32 @@ use Rattle.driver.specs.StepReader.{progress}
 use Rattle.driver.proofs.Driven.{Answering}
 use Rattle.driver.proofs.replay.replay.Given as goal
 
-abbrev pub invariant-loop-log : goal.invariant-loop-log
-invariant-loop-log g l = record {
+-- before the common steps
+abbrev pub invariant-loop-seat : goal.invariant-loop-seat
+invariant-loop-seat g l = record {
   going : g.R.Source.failed l.reader ≡ false;
-  same : l.steps.header ≡ l.initial.steps.header;
+  same : l.steps.header ≡ l.fn.steps.header;
   header : l.core.header ≡ l.steps.header.header;
   few : length l.log.past.items + length l.core.entries ≤ l.steps.count;
-  answering : Answering (progress l.initial.steps (g.R.Source.left l.initial.reader))
+  answering : Answering (progress l.fn.steps (g.R.Source.left l.fn.reader))
       (progress l.steps (g.R.Source.left l.reader)) l.core.base l.core.entries l.log.past.items
       l.log.remarks.items;
 }
 
-abbrev pub decreases-loop-log : goal.decreases-loop-log
-decreases-loop-log g l = 2 ^ 64 - l.steps.count
+abbrev pub decreases-loop-seat : goal.decreases-loop-seat
+decreases-loop-seat g l = 2 ^ 64 - l.steps.count
+
+-- after each common step; the reader stays
+abbrev pub invariant-loop-seat-2 : goal.invariant-loop-seat-2
+invariant-loop-seat-2 g l = record {
+  same : l.steps.header ≡ l.fn.steps.header;
+  header : l.core.header ≡ l.steps.header.header;
+  few : length l.log.past.items + length l.core.entries ≤ l.steps.count;
+  further : l.initial.steps.count ≤ l.steps.count;
+  answering : Answering (progress l.fn.steps (g.R.Source.left l.fn.reader))
+      (progress l.steps (g.R.Source.left l.reader)) l.core.base l.core.entries l.log.past.items
+      l.log.remarks.items;
+}
+
+abbrev pub decreases-loop-seat-2 : goal.decreases-loop-seat-2
+decreases-loop-seat-2 g l = 2 ^ 64 - l.steps.count

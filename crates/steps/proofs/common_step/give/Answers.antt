@@ -4,7 +4,8 @@ use Rattle.steps.proofs.common_step.give.Goals as goal
 
 pub returns : goal.returns
 returns c =
-    let named = c.in_ok-name_end.ensures ∙ ap (λ (t : List ℕ). codes "give" ++ t) c.in_ok-asked.ensures in (
+    let named = c.in_ok-name_end.ensures ∙ ap (λ (t : List ℕ). codes "give" ++ t) c.in_ok-asked.ensures in
+    rw c.give_in.ensures (
       omega arith,
       asked_behind (codes "give") c.args.text.now _ (c.in_ok-mode.mode, c.in_ok-mode.left) named
           c.in_ok-mode.ensures.found,
