@@ -1,12 +1,11 @@
 -- What the calls of readers leave of a pass's holds.
-use Rattle.std.proofs.Common.{◌≡◌, ℕ, ◌+◌, ◌-◌, ◌<◌, true, List}
-use Rattle.std.proofs.Common.{Option, Some, Result, Ok, Err, sym, ap, ◌∙◌, subst, arith}
+use Rattle.std.proofs.Common.{◌≡◌, ℕ, ◌-◌, ◌<◌, true}
+use Rattle.std.proofs.Common.{Option, Some, Result, sym, ap, ◌∙◌, subst, arith}
 use Rattle.std.specs.Option.{IfSome}
 use Rattle.history.specs.declared.entry.Entry.{Entry}
 use Rattle.history.specs.declared.entry.Mode.{Mode}
 use Rattle.history.specs.declared.entry.Mode.TheVariants.{X, S}
 use Rattle.history.specs.declared.fault.Fault.{Fault}
-use Rattle.history.specs.declared.step.Step.TheVariants.{Give}
 use Rattle.history.specs.Counts.{counts, held}
 use Rattle.history.specs.Object.{is_lock}
 use Rattle.history.specs.Start.{opening}
@@ -16,36 +15,22 @@ use Rattle.monitor.specs.Lawful.{start_at}
 use Rattle.monitor.specs.Load.{holds_of}
 use Rattle.monitor.specs.Observing.{IsLook}
 use Rattle.monitor.specs.Shown.{Shown, IsSound}
-use Rattle.monitor.specs.Stepping.{IsEntered, IsSame}
+use Rattle.monitor.specs.Stepping.{IsSame}
 use Rattle.monitor.specs.declared.room.WhenFull.{WhenFull}
 use Rattle.monitor.proofs.Loads.{true_holds}
-use Rattle.monitor_fronts.specs.Holding.{gained, holds, with_yes}
-use Rattle.monitor_fronts.specs.Returned.{done_of, whether_of}
-use Rattle.monitor_fronts.proofs.Counting.{of_lock, of_own}
-use Rattle.monitor_fronts.proofs.Exactly.{acquire_gains, gave_is, give_takes, try_gains}
+use Rattle.monitor_fronts.specs.Holding.{holds}
+use Rattle.monitor_fronts.specs.Returned.{whether_of}
+use Rattle.monitor_fronts.proofs.Counting.{of_lock}
+use Rattle.monitor_fronts.proofs.Exactly.{acquire_gains, try_gains}
 use Rattle.monitor_fronts.proofs.MakingRoom.{in_room}
 use Rattle.guarded.specs.declared.asking.Reading.{Reading}
 use Rattle.guarded.specs.declared.asking.Reading.TheVariants as asks
-use Rattle.guarded.specs.Reading.{GainsReads, Saw, reads}
-use Rattle.guarded.specs.inner.Reading.{Sees, reading_of}
+use Rattle.guarded.specs.Reading.{GainsReads, Saw, Sees, reads}
+use Rattle.guarded.specs.inner.Reading.{reading_of}
 use Rattle.guarded.specs.Stowed.{Rests}
 use Rattle.guarded.specs.declared.slot.Slot.{Slot}
 use Rattle.guarded.specs.declared.slot.Slot.TheVariants.{Empty, Full}
 use Rattle.guarded.proofs.Stowing.{rests_as}
-
--- a reader's give takes one read hold if it returns so
-pub give_reads : (did : Deed → Type 0) (old new : Shown) (r : Result Entry Fault) →
-    is_lock old.lock.header.object ≡ true → IsSame old new → IsSound new → IsEntered did old (Give S 1) r new →
-    0 < reads old → (reads new + gained (with_yes (done_of r)) ≡ reads old) × (holds new ≡ holds old)
-give_reads did old new (Ok e) lock same shows s some =
-    let takes = give_takes did old new S e lock same shows s some in
-    let returned : gained (with_yes (done_of (Ok e))) ≡ 1 =
-    ap (λ (z : Entry). gained (with_yes (done_of (Ok z)))) (gave_is did old new S e lock same shows s some) in
-    let one = takes.0 in (omega (arith, one, returned), takes.1)
-give_reads did old new (Err f) lock same shows s some =
-    let own : (m : Mode) → holds_of new m ≡ holds_of old m = λ m.
-    of_own old new m same ∙ ap (λ (l : List Entry). held (opening old.lock.header) l old.seat m) s.mine in
-    let reads_as = own S in (omega (arith, reads_as), own X)
 
 -- a look leaves a pass's holds
 pub looks_on : (old new : Shown) → IsLook old new → (reads new ≡ reads old) × (holds new ≡ holds old)

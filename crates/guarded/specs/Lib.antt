@@ -4,6 +4,7 @@ pub mod Full
 pub mod Asking
 pub mod GuardLending
 pub mod Reading
+pub mod Waiting
 pub mod Shelved
 pub mod Pooling
 pub mod inner

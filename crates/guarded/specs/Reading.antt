@@ -15,6 +15,7 @@ use Rattle.monitor.specs.declared.machine.Request.TheVariants.{Acquire}
 use Rattle.monitor_fronts.specs.Holding.{gained, holds}
 use Rattle.monitor_fronts.specs.Returned.{done_of}
 use Rattle.permit.specs.Deed.{Deed}
+use Rattle.guarded.specs.declared.slot.Slot.{Slot}
 use Rattle.guarded.specs.declared.slot.Slot.TheVariants.{Full}
 use Rattle.guarded.specs.Full.{Call}
 use Rattle.guarded.specs.Stowed.{Rests}
@@ -44,3 +45,7 @@ pub record GainsReads (old : Shown) (returned : Result Bool Fault) (new : Shown)
 abbrev pub Saw : {T A : Type 0} → (T → A → Type 0) → Shown → A → Type 0
 Saw {T} returns p answer =
     (value : T) × Rests (Full value) (counts (start_at p.seen) p.seen.entries) × returns value answer
+
+-- an answer was given at the value of a slot
+abbrev pub Sees : {T A : Type 0} → (T → A → Type 0) → Slot T → A → Type 0
+Sees {T} returns slot answer = (value : T) × (slot ≡ Full value) × returns value answer

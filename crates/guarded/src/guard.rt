@@ -1,15 +1,19 @@
 //! The owner's side of a lock that guards a value.
-ghost use Rattle.std.specs.Prelude.{◌≡◌, ◌+◌, ◌<◌, true, false};
+ghost use Rattle.std.specs.Prelude.{◌≡◌, ◌+◌, ◌-◌, ◌^◌, ◌<◌, IfErr, IfOk, Ok, true, false, min, not};
 ghost use Rattle.std.specs.Borrow.{sem};
+ghost use Rattle.std.specs.Fn.{FnReturnsAt};
 ghost use Rattle.history.specs.declared.entry.Mode.TheVariants.{X};
 ghost use Rattle.history.specs.declared.step.Step.TheVariants.{Give};
+ghost use Rattle.monitor.specs.Acquire.{moment_after};
 ghost use Rattle.monitor.specs.Shown.{IsSound};
 ghost use Rattle.monitor.specs.Stepping.{IsSame};
 ghost use Rattle.monitor.specs.declared.how.How.TheVariants.{Plain, Interruptible, Timed};
 ghost use Rattle.monitor_fronts.specs.Holding.{gained, holds};
 ghost use Rattle.guarded.specs.Asking.{IsRecorded, CallReturns, CallReturnsDone, acquires, awaits, signals};
 ghost use Rattle.guarded.specs.Guarding.{Guards};
+ghost use Rattle.guarded.specs.Reading.{Sees};
 ghost use Rattle.guarded.specs.Stowed.{IsFull};
+ghost use Rattle.guarded.specs.Waiting.{LastFailed, TimeWasUp};
 ghost use Rattle.guarded.specs.declared.slot.Slot.TheVariants.{Full};
 
 use crate::asking::Asked;
@@ -23,6 +27,21 @@ use permit::Parking;
 use reentrant::lock::LockHooks;
 use std::sync::Wait;
 use std::time::Clock;
+
+// The moment that comes this number of milliseconds after another, or the last one.
+fn moment_after(moment: u64, milliseconds: u32) -> u64
+    ensures { result ≡ moment_after moment milliseconds }
+{
+    moment.saturating_add(u64::from(milliseconds))
+}
+
+// The milliseconds from a moment to the end, or as many as a wait may last.
+fn milliseconds_until(end: u64, moment: u64) -> u32
+    requires { moment < end }
+    ensures { result ≡ min (end - moment) (2 ^ 32 - 1) }
+{
+    (end - moment).min(u64::from(u32::MAX)) as u32
+}
 
 /// The value of a lock, with its owner. Dropping it unlocks the lock, so a `?` may leave a section. That can't
 /// fail: room and memory for the entry were reserved when the hold was recorded.
@@ -70,6 +89,7 @@ impl<'a, T: Drop, P: Parking, R: Wait + Clock, H: Hooks + Drop> Guard<'a, T, P, 
         requires guards { Guards self.old.lock.now (P.seats self.old.parking.now) self.old.pass.now self.old.slot }
         ensures same_reference { self.new.pass.ghost_name ≡ self.old.pass.ghost_name }
         ensures same { IsSame self.old.pass.now self.new.pass.now }
+        ensures same_lock { (self.new.lock.now ≡ self.old.lock.now) × (self.new.parking.now ≡ self.old.parking.now) }
         ensures guards { Guards self.new.lock.now (P.seats self.new.parking.now) self.new.pass.now self.new.slot }
         ensures keeps { holds self.new.pass.now ≡ holds self.old.pass.now }
         ensures awaited { CallReturns self.old.lock.now.when_full
@@ -93,6 +113,7 @@ impl<'a, T: Drop, P: Parking, R: Wait + Clock, H: Hooks + Drop> Guard<'a, T, P, 
         requires guards { Guards self.old.lock.now (P.seats self.old.parking.now) self.old.pass.now self.old.slot }
         ensures same_reference { self.new.pass.ghost_name ≡ self.old.pass.ghost_name }
         ensures same { IsSame self.old.pass.now self.new.pass.now }
+        ensures same_lock { (self.new.lock.now ≡ self.old.lock.now) × (self.new.parking.now ≡ self.old.parking.now) }
         ensures guards { Guards self.new.lock.now (P.seats self.new.parking.now) self.new.pass.now self.new.slot }
         ensures keeps { holds self.new.pass.now ≡ holds self.old.pass.now }
         ensures awaited { CallReturns self.old.lock.now.when_full
@@ -116,6 +137,7 @@ impl<'a, T: Drop, P: Parking, R: Wait + Clock, H: Hooks + Drop> Guard<'a, T, P, 
         requires guards { Guards self.old.lock.now (P.seats self.old.parking.now) self.old.pass.now self.old.slot }
         ensures same_reference { self.new.pass.ghost_name ≡ self.old.pass.ghost_name }
         ensures same { IsSame self.old.pass.now self.new.pass.now }
+        ensures same_lock { (self.new.lock.now ≡ self.old.lock.now) × (self.new.parking.now ≡ self.old.parking.now) }
         ensures guards { Guards self.new.lock.now (P.seats self.new.parking.now) self.new.pass.now self.new.slot }
         ensures keeps { holds self.new.pass.now ≡ holds self.old.pass.now }
         ensures awaited { CallReturns self.old.lock.now.when_full
@@ -133,12 +155,75 @@ impl<'a, T: Drop, P: Parking, R: Wait + Clock, H: Hooks + Drop> Guard<'a, T, P, 
         )
     }
 
+    /// Waits on the condition as long as the predicate is true of the value, and doesn't wait at all if it is false.
+    /// When it returns `Ok`, it is false. Each wait is a [`wait`](Guard::wait), and ends it with its fault.
+    pub fn wait_while<F: Fn(&T) -> bool>(
+        &mut self,
+        condition: u8,
+        predicate: F,
+    ) -> Result<(), Fault>
+        requires guards { Guards self.old.lock.now (P.seats self.old.parking.now) self.old.pass.now self.old.slot }
+        requires callable { F.IsAlwaysCallable predicate }
+        ensures same_reference { self.new.pass.ghost_name ≡ self.old.pass.ghost_name }
+        ensures same { IsSame self.old.pass.now self.new.pass.now }
+        ensures same_lock { (self.new.lock.now ≡ self.old.lock.now) × (self.new.parking.now ≡ self.old.parking.now) }
+        ensures guards { Guards self.new.lock.now (P.seats self.new.parking.now) self.new.pass.now self.new.slot }
+        ensures keeps { holds self.new.pass.now ≡ holds self.old.pass.now }
+        ensures over { IfOk result (λ _. Sees (FnReturnsAt F.Fn predicate) self.new.slot false) }
+        ensures failed { IfErr result (λ fault. LastFailed self.old.lock.now.when_full
+            (awaits (P.did self.old.parking.now) condition Interruptible) self.new.pass.now fault) }
+    {
+        for _ in self.rt.forever() {
+            if !predicate(self.value()) {
+                return Ok(());
+            }
+            self.wait(condition)?;
+        }
+        unreachable!()
+    }
+
+    /// [`wait_while`](Guard::wait_while), for `ms` milliseconds at most, all waits together. Returns whether the
+    /// predicate is false of the value. It tests once more after the time is up.
+    pub fn wait_while_for<F: Fn(&T) -> bool>(
+        &mut self,
+        condition: u8,
+        ms: u32,
+        predicate: F,
+    ) -> Result<bool, Fault>
+        requires guards { Guards self.old.lock.now (P.seats self.old.parking.now) self.old.pass.now self.old.slot }
+        requires callable { F.IsAlwaysCallable predicate }
+        ensures same_reference { self.new.pass.ghost_name ≡ self.old.pass.ghost_name }
+        ensures same { IsSame self.old.pass.now self.new.pass.now }
+        ensures same_lock { (self.new.lock.now ≡ self.old.lock.now) × (self.new.parking.now ≡ self.old.parking.now) }
+        ensures guards { Guards self.new.lock.now (P.seats self.new.parking.now) self.new.pass.now self.new.slot }
+        ensures keeps { holds self.new.pass.now ≡ holds self.old.pass.now }
+        ensures over { IfOk result (λ is_over. Sees (FnReturnsAt F.Fn predicate) self.new.slot (not is_over)) }
+        ensures in_time { result ≡ Ok false → TimeWasUp (P.did self.old.parking.now) ms }
+        ensures failed { IfErr result (λ fault. (left : _) × LastFailed self.old.lock.now.when_full
+            (awaits (P.did self.old.parking.now) condition (Timed left)) self.new.pass.now fault) }
+    {
+        let begun = self.parking.now(self.rt);
+        let end = moment_after(begun, ms);
+        for _ in self.rt.forever() {
+            if !predicate(self.value()) {
+                return Ok(true);
+            }
+            let moment = self.parking.now(self.rt);
+            if end <= moment {
+                return Ok(false);
+            }
+            self.wait_for(condition, milliseconds_until(end, moment))?;
+        }
+        unreachable!()
+    }
+
     /// Moves the first waiter of the condition into the wait queue of the lock, if there is one. The guard keeps the
     /// value. This is `Condition.signal()`.
     pub fn signal(&mut self, condition: u8) -> Result<(), Fault>
         requires guards { Guards self.old.lock.now (P.seats self.old.parking.now) self.old.pass.now self.old.slot }
         ensures same_reference { self.new.pass.ghost_name ≡ self.old.pass.ghost_name }
         ensures same { IsSame self.old.pass.now self.new.pass.now }
+        ensures same_lock { (self.new.lock.now ≡ self.old.lock.now) × (self.new.parking.now ≡ self.old.parking.now) }
         ensures guards { Guards self.new.lock.now (P.seats self.new.parking.now) self.new.pass.now self.new.slot }
         ensures keeps { holds self.new.pass.now ≡ holds self.old.pass.now }
         ensures signalled { CallReturnsDone self.old.lock.now.when_full
@@ -159,6 +244,7 @@ impl<'a, T: Drop, P: Parking, R: Wait + Clock, H: Hooks + Drop> Guard<'a, T, P, 
         requires guards { Guards self.old.lock.now (P.seats self.old.parking.now) self.old.pass.now self.old.slot }
         ensures same_reference { self.new.pass.ghost_name ≡ self.old.pass.ghost_name }
         ensures same { IsSame self.old.pass.now self.new.pass.now }
+        ensures same_lock { (self.new.lock.now ≡ self.old.lock.now) × (self.new.parking.now ≡ self.old.parking.now) }
         ensures guards { Guards self.new.lock.now (P.seats self.new.parking.now) self.new.pass.now self.new.slot }
         ensures keeps { holds self.new.pass.now ≡ holds self.old.pass.now }
         ensures signalled { CallReturnsDone self.old.lock.now.when_full
@@ -176,6 +262,7 @@ impl<'a, T: Drop, P: Parking, R: Wait + Clock, H: Hooks + Drop> Guard<'a, T, P, 
         requires guards { Guards self.old.lock.now (P.seats self.old.parking.now) self.old.pass.now self.old.slot }
         ensures same_reference { self.new.pass.ghost_name ≡ self.old.pass.ghost_name }
         ensures same { IsSame self.old.pass.now self.new.pass.now }
+        ensures same_lock { (self.new.lock.now ≡ self.old.lock.now) × (self.new.parking.now ≡ self.old.parking.now) }
         ensures guards { Guards self.new.lock.now (P.seats self.new.parking.now) self.new.pass.now self.new.slot }
         ensures gains { holds self.new.pass.now ≡ holds self.old.pass.now + gained result }
         ensures acquired { CallReturns self.old.lock.now.when_full
@@ -192,6 +279,7 @@ impl<'a, T: Drop, P: Parking, R: Wait + Clock, H: Hooks + Drop> Guard<'a, T, P, 
         requires several { 1 < holds self.old.pass.now }
         ensures same_reference { self.new.pass.ghost_name ≡ self.old.pass.ghost_name }
         ensures same { IsSame self.old.pass.now self.new.pass.now }
+        ensures same_lock { (self.new.lock.now ≡ self.old.lock.now) × (self.new.parking.now ≡ self.old.parking.now) }
         ensures guards { Guards self.new.lock.now (P.seats self.new.parking.now) self.new.pass.now self.new.slot }
         ensures loses { holds self.new.pass.now + 1 ≡ holds self.old.pass.now }
         ensures recorded { IsRecorded (P.did self.old.parking.now) self.old.pass.now (Give X 1) self.new.pass.now }

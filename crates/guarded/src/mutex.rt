@@ -9,6 +9,7 @@ ghost use Rattle.history.specs.Legal.{AreSeated, calls};
 ghost use Rattle.history.specs.declared.entry.Mode.TheVariants.{X};
 ghost use Rattle.history.specs.declared.fault.Fault.TheVariants.{OutOfMemory};
 ghost use Rattle.history.specs.declared.header.Object.TheVariants.{Lock};
+ghost use Rattle.history.specs.declared.header.Policy.TheVariants.{NonFair};
 ghost use Rattle.history.specs.declared.step.Step.TheVariants.{Give};
 ghost use Rattle.monitor.specs.Acquire.{is_timed};
 ghost use Rattle.monitor.specs.declared.how.How.TheVariants.{Plain};
@@ -17,6 +18,7 @@ ghost use Rattle.monitor.specs.declared.closing.CloseFault.TheVariants.{MissingP
 ghost use Rattle.monitor.specs.Lawful.{IsLawful, blank};
 ghost use Rattle.monitor.specs.Shown.{IsSound, opening_passes};
 ghost use Rattle.monitor.specs.Stepping.{IsSame};
+ghost use Rattle.monitor.specs.declared.room.WhenFull.TheVariants.{Trim};
 ghost use Rattle.monitor_fronts.specs.Holding.{gained, holds};
 ghost use Rattle.guarded.specs.Asking.{IsRecorded, CallReturns, acquires, awaits};
 ghost use Rattle.guarded.specs.inner.Asking.{IsTake, call_of, gained_by};
@@ -25,8 +27,10 @@ ghost use Rattle.guarded.specs.Stowed.{Carries, Rests, slot_of};
 ghost use Rattle.word_lock.specs.Point.{Before};
 
 use crate::asking::Asked;
+use crate::options::Options;
 use crate::slot::Slot;
 use crate::try_lock::TryLockFault;
+use crate::view::View;
 use frame::hooks::Hooks;
 use history::entry::{Entry, Mode};
 use history::fault::Fault;
@@ -61,6 +65,56 @@ impl<T: Drop, H: Hooks + Drop> Model for Mutex<T, H> {
 }
 
 impl<T: Drop> Mutex<T> {
+    /// Opens a lock that guards the value, for this many threads. Returns a pass for each thread too, in order, as in
+    /// `let (number, mut passes) = Mutex::new(alloc, 0u64, 2)?;`.
+    ///
+    /// The lock isn't fair, and has conditions 0 to 15. It keeps at most 4096 entries, and folds them if it finds no
+    /// room: with at most one hold for each thread, no call returns `HistoryFull`. [`open_for`](Mutex::open_for)
+    /// takes other choices. If memory is refused, the value is dropped; [`open`](Mutex::open) returns it.
+    pub fn new(alloc: Global, value: T, seats: u16) -> Result<(Mutex<T>, Vec<Pass>), Fault>
+        requires some { 1 ≤ seats }
+        requires few { seats ≤ 256 }
+        ensures header { IfOk result (λ r. r.0.lock.header ≡ header_of (Lock NonFair) seats 16 4096) }
+        ensures when_full { IfOk result (λ r. r.0.when_full ≡ Trim) }
+        ensures passes { IfOk result (λ r.
+            r.1.items ≡ opening_passes r.0.lock (blank r.0.lock.header) 0 seats) }
+        ensures own { IfOk result (λ r. All (λ p. p.lock ≡ r.0.lock) r.1.items) }
+        ensures free { IfOk result (λ r. All (λ p. holds p ≡ 0) r.1.items) }
+        ensures err { IfErr result (λ fault. fault ≡ OutOfMemory) }
+    {
+        Mutex::open_for(alloc, value, seats, Options::new())
+    }
+
+    /// [`new`](Mutex::new) with these choices, as in
+    /// `Mutex::open_for(alloc, 0u64, 2, Options::new().policy(Policy::Fair))?`.
+    pub fn open_for(
+        alloc: Global,
+        value: T,
+        seats: u16,
+        options: Options,
+    ) -> Result<(Mutex<T>, Vec<Pass>), Fault>
+        requires { IsInRange (header_of (Lock options.policy) seats options.conditions options.cap) }
+        ensures header { IfOk result (λ r.
+            r.0.lock.header ≡ header_of (Lock options.policy) seats options.conditions options.cap) }
+        ensures when_full { IfOk result (λ r. r.0.when_full ≡ options.when_full) }
+        ensures passes { IfOk result (λ r.
+            r.1.items ≡ opening_passes r.0.lock (blank r.0.lock.header) 0 seats) }
+        ensures own { IfOk result (λ r. All (λ p. p.lock ≡ r.0.lock) r.1.items) }
+        ensures free { IfOk result (λ r. All (λ p. holds p ≡ 0) r.1.items) }
+        ensures err { IfErr result (λ fault. fault ≡ OutOfMemory) }
+    {
+        let Options {
+            policy,
+            when_full,
+            conditions,
+            cap,
+        } = options;
+        match Mutex::open(alloc, value, policy, when_full, seats, conditions, cap) {
+            Ok((lock, passes)) => Ok((lock, passes)),
+            Err((_value, fault)) => Err(fault),
+        }
+    }
+
     /// Opens a lock with conditions 0 to `conditions - 1` that guards the value. Returns a pass for each seat too, in
     /// order. `cap` is the greatest number of entries of its history, owed ones included. If memory is refused,
     /// it returns the value.
@@ -134,11 +188,13 @@ impl<T: Drop, H: Hooks + Drop> Mutex<T, H> {
         }
     }
 
-    /// Returns the monitor, for its observers, and for `trim` and `meet`.
-    pub fn monitor(&self) -> &Monitor<H, Slot<T>>
-        ensures { result.now ≡ self.now.lock }
+    /// Returns a view of the lock, which shows who holds it and who waits, and which trims its history.
+    pub fn view(&self) -> View<'_, H, Slot<T>>
+        ensures { result.monitor.now ≡ self.now.lock }
     {
-        &self.monitor
+        View {
+            monitor: &self.monitor,
+        }
     }
 }
 

@@ -9,12 +9,14 @@ ghost use Rattle.history.specs.Header.{IsInRange};
 ghost use Rattle.history.specs.Legal.{AreSeated, calls};
 ghost use Rattle.history.specs.declared.fault.Fault.TheVariants.{OutOfMemory};
 ghost use Rattle.history.specs.declared.header.Object.TheVariants.{Semaphore};
+ghost use Rattle.history.specs.declared.header.Policy.TheVariants.{NonFair};
 ghost use Rattle.monitor.specs.Acquire.{is_timed};
 ghost use Rattle.monitor.specs.Closing.{IsBased, IsMissing, IsWithin, left_by, passes_of, shares};
 ghost use Rattle.monitor.specs.declared.closing.CloseFault.TheVariants.{MissingPass};
 ghost use Rattle.monitor.specs.Lawful.{IsLawful, blank};
 ghost use Rattle.monitor.specs.Shown.{IsSound, opening_passes};
 ghost use Rattle.monitor.specs.Stepping.{IsSame};
+ghost use Rattle.monitor.specs.declared.room.WhenFull.TheVariants.{Trim};
 ghost use Rattle.monitor_fronts.specs.Returned.{whether_of};
 ghost use Rattle.guarded.specs.Asking.{CallReturns, yes_if_some};
 ghost use Rattle.monitor_fronts.specs.Holding.{with_yes};
@@ -26,6 +28,7 @@ ghost use Rattle.word_lock.specs.Point.{Before};
 
 use crate::asking::PoolCall;
 use crate::shelf::Shelf;
+use crate::view::View;
 use counting::semaphore::SemaphoreHooks;
 use history::entry::{Entry, Mode};
 use history::fault::Fault;
@@ -68,6 +71,33 @@ impl<T: Drop> Model for Pool<T> {
 }
 
 impl<T: Drop> Pool<T> {
+    /// Opens a pool of these items, for this many threads. Returns a pass for each thread too, in order, as in
+    /// `let (pool, mut passes) = Pool::new(alloc, items, 2)?;`.
+    ///
+    /// The pool isn't fair. It keeps at most 4096 entries, and folds them if it finds no room. [`open`](Pool::open)
+    /// takes other choices. If memory is refused, the items are dropped; `open` returns them.
+    pub fn new(
+        alloc: Global,
+        items: LinkedList<T>,
+        seats: u16,
+    ) -> Result<(Pool<T>, Vec<Pass>), Fault>
+        requires some { 1 ≤ seats }
+        requires few { seats ≤ 256 }
+        requires items { length items < 2 ^ 31 }
+        ensures header { IfOk result (λ r.
+            r.0.lock.header ≡ header_of (Semaphore NonFair (pos (length items))) seats 0 4096) }
+        ensures when_full { IfOk result (λ r. r.0.when_full ≡ Trim) }
+        ensures passes { IfOk result (λ r.
+            r.1.items ≡ opening_passes r.0.lock (blank r.0.lock.header) 0 seats) }
+        ensures own { IfOk result (λ r. All (λ p. p.lock ≡ r.0.lock) r.1.items) }
+        ensures err { IfErr result (λ fault. fault ≡ OutOfMemory) }
+    {
+        match Pool::open(alloc, items, Policy::NonFair, WhenFull::Trim, seats, 4096) {
+            Ok((pool, passes)) => Ok((pool, passes)),
+            Err((_items, fault)) => Err(fault),
+        }
+    }
+
     /// Opens a pool of these items, with a permit for each. Returns a pass for each seat too, in order. `cap` is the
     /// greatest number of entries of its history, owed ones included. If memory is refused, it returns the items.
     pub fn open(
@@ -160,11 +190,13 @@ impl<T: Drop> Pool<T> {
         }
     }
 
-    /// Returns the monitor, for its observers, and for `trim` and `meet`.
-    pub fn monitor(&self) -> &Monitor<SemaphoreHooks, Shelf<T>>
-        ensures { result.now ≡ self.now.lock }
+    /// Returns a view of the pool, which shows how many items it has and who waits, and which trims its history.
+    pub fn view(&self) -> View<'_, SemaphoreHooks, Shelf<T>>
+        ensures { result.monitor.now ≡ self.now.lock }
     {
-        &self.monitor
+        View {
+            monitor: &self.monitor,
+        }
     }
 }
 

@@ -12,6 +12,7 @@ ghost use Rattle.history.specs.declared.fault.Fault.TheVariants.{OutOfMemory};
 ghost use Rattle.history.specs.declared.entry.Mode.TheVariants.{X};
 ghost use Rattle.history.specs.declared.step.Step.TheVariants.{Give};
 ghost use Rattle.history.specs.declared.header.Object.TheVariants.{ReadWrite};
+ghost use Rattle.history.specs.declared.header.Policy.TheVariants.{NonFair};
 ghost use Rattle.monitor.specs.contracts.pass.Pass.{the_row};
 ghost use Rattle.monitor.specs.declared.how.How.TheVariants.{Plain, Interruptible, Timed};
 ghost use Rattle.monitor.specs.Closing.{IsBased, IsMissing, IsWithin, left_by, passes_of, shares};
@@ -20,6 +21,7 @@ ghost use Rattle.monitor.specs.Lawful.{IsLawful, blank};
 ghost use Rattle.monitor.specs.Observing.{IsLook};
 ghost use Rattle.monitor.specs.Shown.{IsSound, opening_passes};
 ghost use Rattle.monitor.specs.Stepping.{IsSame};
+ghost use Rattle.monitor.specs.declared.room.WhenFull.TheVariants.{Trim};
 ghost use Rattle.monitor_fronts.specs.Holding.{gained, holds, with_yes};
 ghost use Rattle.guarded.specs.Asking.{IsRecorded, CallReturns, acquires, tries};
 ghost use Rattle.guarded.specs.Guarding.{Guards, Locked, NotLocked, yes_unless_missed};
@@ -30,8 +32,10 @@ ghost use Rattle.word_lock.specs.Point.{Before};
 use crate::asking::Reading;
 use crate::guard::Guard;
 use crate::mutex::Mutex;
+use crate::options::Options;
 use crate::slot::Slot;
 use crate::try_lock::TryLockFault;
+use crate::view::View;
 use history::fault::Fault;
 use history::header::Policy;
 use monitor::{CloseFault, Closed, How, Monitor, Pass, WhenFull};
@@ -67,6 +71,52 @@ impl<T: Drop> Model for RwMutex<T> {
 }
 
 impl<T: Drop> RwMutex<T> {
+    /// Opens a lock that guards the value, for this many threads. Returns a pass for each thread too, in order, as in
+    /// `let (table, mut passes) = RwMutex::new(alloc, value, 2)?;`. The other choices are those of
+    /// [`Mutex::new`], and [`open_for`](RwMutex::open_for) takes others.
+    pub fn new(alloc: Global, value: T, seats: u16) -> Result<(RwMutex<T>, Vec<Pass>), Fault>
+        requires some { 1 ≤ seats }
+        requires few { seats ≤ 256 }
+        ensures header { IfOk result (λ r. r.0.lock.header ≡ header_of (ReadWrite NonFair) seats 16 4096) }
+        ensures when_full { IfOk result (λ r. r.0.when_full ≡ Trim) }
+        ensures passes { IfOk result (λ r.
+            r.1.items ≡ opening_passes r.0.lock (blank r.0.lock.header) 0 seats) }
+        ensures own { IfOk result (λ r. All (λ p. p.lock ≡ r.0.lock) r.1.items) }
+        ensures free { IfOk result (λ r. All (λ p. holds p ≡ 0) r.1.items) }
+        ensures err { IfErr result (λ fault. fault ≡ OutOfMemory) }
+    {
+        RwMutex::open_for(alloc, value, seats, Options::new())
+    }
+
+    /// [`new`](RwMutex::new) with these choices.
+    pub fn open_for(
+        alloc: Global,
+        value: T,
+        seats: u16,
+        options: Options,
+    ) -> Result<(RwMutex<T>, Vec<Pass>), Fault>
+        requires { IsInRange (header_of (ReadWrite options.policy) seats options.conditions options.cap) }
+        ensures header { IfOk result (λ r.
+            r.0.lock.header ≡ header_of (ReadWrite options.policy) seats options.conditions options.cap) }
+        ensures when_full { IfOk result (λ r. r.0.when_full ≡ options.when_full) }
+        ensures passes { IfOk result (λ r.
+            r.1.items ≡ opening_passes r.0.lock (blank r.0.lock.header) 0 seats) }
+        ensures own { IfOk result (λ r. All (λ p. p.lock ≡ r.0.lock) r.1.items) }
+        ensures free { IfOk result (λ r. All (λ p. holds p ≡ 0) r.1.items) }
+        ensures err { IfErr result (λ fault. fault ≡ OutOfMemory) }
+    {
+        let Options {
+            policy,
+            when_full,
+            conditions,
+            cap,
+        } = options;
+        match RwMutex::open(alloc, value, policy, when_full, seats, conditions, cap) {
+            Ok((lock, passes)) => Ok((lock, passes)),
+            Err((_value, fault)) => Err(fault),
+        }
+    }
+
     /// Opens a lock that guards the value, and whose write lock has conditions 0 to `conditions - 1`. Returns a
     /// pass for each seat too, in order. `cap` is the greatest number of entries of its history, owed ones
     /// included. If memory is refused, it returns the value.
@@ -142,11 +192,11 @@ impl<T: Drop> RwMutex<T> {
         }
     }
 
-    /// Returns the monitor, for its observers, and for `trim` and `meet`.
-    pub fn monitor(&self) -> &Monitor<RwHooks, Slot<T>>
-        ensures { result.now ≡ self.now.lock }
+    /// Returns a view of the lock, which shows who holds it and who waits, and which trims its history.
+    pub fn view(&self) -> View<'_, RwHooks, Slot<T>>
+        ensures { result.monitor.now ≡ self.now.lock }
     {
-        self.mutex.monitor()
+        self.mutex.view()
     }
 }
 
@@ -396,6 +446,7 @@ impl<T: Drop, P: Parking, R: Wait + Clock> Guard<'_, T, P, R, RwHooks> {
         requires guards { Guards self.old.lock.now (P.seats self.old.parking.now) self.old.pass.now self.old.slot }
         ensures same_reference { self.new.pass.ghost_name ≡ self.old.pass.ghost_name }
         ensures same { IsSame self.old.pass.now self.new.pass.now }
+        ensures same_lock { (self.new.lock.now ≡ self.old.lock.now) × (self.new.parking.now ≡ self.old.parking.now) }
         ensures guards { Guards self.new.lock.now (P.seats self.new.parking.now) self.new.pass.now self.new.slot }
         ensures returned { CallReturns self.old.lock.now.when_full
             (reads_by (P.did self.old.parking.now) Plain)

@@ -10,6 +10,7 @@ pub use Rattle.guarded.specs.Pooling
 pub use Rattle.guarded.specs.Reading
 pub use Rattle.guarded.specs.Shelved
 pub use Rattle.guarded.specs.Stowed
+pub use Rattle.guarded.specs.Waiting
 pub use Rattle.history.specs.Counts
 pub use Rattle.history.specs.Entries
 pub use Rattle.history.specs.Header

@@ -33,10 +33,7 @@
 //! /// Opens a lock that guards 0, lets two threads add, and locks again to read the sum.
 //! fn sum<R: Threads + Wait + Clock + Sync>(rt: &R, alloc: Global) -> Result<u64, Fault> {
 //!     let parking = ThreadParking::open(rt, alloc, 2)?;
-//!     let opened = Mutex::open(alloc, 0u64, Policy::Fair, WhenFull::Trim, 2, 0, 64);
-//!     let Ok((number, mut passes)) = opened else {
-//!         return Err(Fault::OutOfMemory);
-//!     };
+//!     let (number, mut passes) = Mutex::new(alloc, 0u64, 2)?;
 //!     let Some(mut one) = passes.pop() else {
 //!         unreachable!()
 //!     };
@@ -144,7 +141,7 @@
 //! `wait_for`.
 #![tactic(auto)]
 
-pub use guarded::{Guard, Mutex, Pool, RwMutex, TryLockFault};
+pub use guarded::{Guard, Mutex, Options, Pool, RwMutex, TryLockFault, View};
 pub use history::entries::History;
 pub use history::fault::Fault;
 pub use history::header::{Header, Object, Policy};

@@ -38,14 +38,9 @@ use Rattle.monitor.proofs.Acquiring.{idle_made}
 use Rattle.monitor.proofs.InLine.{records}
 use Rattle.monitor.proofs.Loads.{own_holds}
 use Rattle.monitor_fronts.specs.Returned.{whether_by, whether_of}
-use Rattle.monitor_fronts.specs.Holding.{gained}
+use Rattle.monitor_fronts.specs.Holding.{Adds, gained, other}
 use Rattle.monitor_fronts.proofs.Counting.{after, found_lock, of_own, queued_adds_none}
 use Rattle.history.proofs.OneOwner.{lock_holds}
-
--- the other mode
-abbrev pub other : Mode → Mode
-other X = S
-other S = X
 
 -- An entry that makes this number of a seat's holds in a mode, and leaves those in the other.
 record Counts_as (m : Mode) (k : Header) (i : ℕ) (e : Entry) (holds_then : ℕ → ℕ) : Type 0 where
@@ -139,11 +134,6 @@ end_gains m how k i e lock (inr (inl q)) =
     gains_as m k i e _ q.0 (gains_by m k i word.Left 1 0 end.Timeout (λ had. adds_none had))
 end_gains m how k i e lock (inr (inr q)) =
     gains_as m k i e _ q.0 (gains_by m k i word.Left 1 0 end.Interrupt (λ had. adds_none had))
-
--- the pass has as many holds more in a mode as is told, and as many in the other as it had
-pub record Adds (m : Mode) (old : Shown) (told : Result Bool Fault) (new : Shown) : Type 0 where
-  pub own : holds_of new m ≡ holds_of old m + gained told
-  pub others : holds_of new (other m) ≡ holds_of old (other m)
 
 -- the holds of a pass, by what its own entries are now
 by_own : (old new : Shown) (m : Mode) (mine : List Entry) → IsSame old new → new.mine ≡ mine →

@@ -1,5 +1,5 @@
 -- What a call keeps, whether it made room or not.
-use Rattle.std.proofs.Common.{◌≡◌, inl, inr, ℕ, ◌+◌, Bool, true, false, Result, Ok, Err, refl, sym, subst}
+use Rattle.std.proofs.Common.{◌≡◌, inl, inr, ℕ, ◌+◌, Bool, true, false, Result, Ok, Err, refl, sym, ap, ◌∙◌, subst}
 use Rattle.history.specs.declared.entry.Entry.{Entry}
 use Rattle.history.specs.declared.fault.Fault.{Fault}
 use Rattle.history.specs.declared.fault.Fault.TheVariants.{HistoryFull, TrimFull}
@@ -12,6 +12,7 @@ use Rattle.permit.specs.Deed.{Deed}
 use Rattle.word_lock.specs.Point.{Before}
 use Rattle.word_lock.proofs.PointLaws.{before_trans}
 use Rattle.monitor.specs.Acquire.{is_timed}
+use Rattle.monitor.specs.Load.{holds_of}
 use Rattle.monitor.specs.inner.Load.{is_signal}
 use Rattle.monitor.specs.Room.{InRoom, at_point}
 use Rattle.monitor.specs.Shown.{Shown}
@@ -20,7 +21,7 @@ use Rattle.monitor.specs.declared.how.How.{How}
 use Rattle.monitor.specs.declared.room.WhenFull.{WhenFull}
 use Rattle.monitor.specs.declared.room.WhenFull.TheVariants.{Refuse, Trim}
 use Rattle.monitor_fronts.specs.FrontCalls.{Acquires, Awaits, Steps}
-use Rattle.monitor_fronts.specs.Holding.{Gains, gained, holds, with_yes}
+use Rattle.monitor_fronts.specs.Holding.{Adds, AddsIn, Gains, gained, holds, with_yes}
 use Rattle.monitor_fronts.specs.Returned.{done_of, whether_of, without}
 use Rattle.monitor_fronts.proofs.Counting.{await_holds, of_lock, signal_keeps}
 use Rattle.monitor_fronts.proofs.Exactly.{acquire_gains, try_gains, waits_to_the_end}
@@ -84,6 +85,24 @@ tries_gain w did step old new r same x is = λ lock.
     (λ from z of at c. (try_gains did from new X z (of_lock of lock) at c).own)
     (subst (λ (s : Step). Steps w did s old new r) is x)
 
+-- an acquire in a mode adds a hold there exactly where it says so, and none in the other
+pub acquires_add : (w : WhenFull) (did : Deed → Type 0) (m : Mode) (how : How) (old new : Shown)
+    (r : Result Entry Fault) → IsSame old new →
+    Acquires w did m 1 how old new r → AddsIn m old (whether_of r) new
+acquires_add w did m how old new r same x = λ lock.
+    in_room (λ (from : Shown). λ (z : Result Entry Fault). Adds m from (whether_of z) new) w _ _ old new r same
+    (λ p y. record { own = y.own; others = y.others }) (λ y. record { own = y.own; others = y.others })
+    (λ from z of at c. acquire_gains did from new m how z (of_lock of lock) at c) x
+
+pub tries_add : (w : WhenFull) (did : Deed → Type 0) (step : Step) (m : Mode) (old new : Shown)
+    (r : Result Entry Fault) → IsSame old new → Steps w did step old new r →
+    step ≡ Try m 1 → AddsIn m old (whether_of r) new
+tries_add w did step m old new r same x is = λ lock.
+    in_room (λ (from : Shown). λ (z : Result Entry Fault). Adds m from (whether_of z) new) w _ _ old new r same
+    (λ p y. record { own = y.own; others = y.others }) (λ y. record { own = y.own; others = y.others })
+    (λ from z of at c. try_gains did from new m z (of_lock of lock) at c)
+    (subst (λ (s : Step). Steps w did s old new r) is x)
+
 -- an await keeps the holds
 pub awaits_keep : (w : WhenFull) (did : Deed → Type 0) (condition : ℕ) (how : How) (old new : Shown)
     (r : Result Entry Fault) → IsSame old new → Awaits w did condition how old new r → holds new ≡ holds old
@@ -118,3 +137,15 @@ pub untimed_gain : (w : WhenFull) (did : Deed → Type 0) (how : How) (old new :
     gained (with_yes (done_of r)) ≡ gained (whether_of r)
 untimed_gain w did how old new r untimed same x =
     same_told (whether_of r) (never_missed w did X 1 how old new r untimed same x)
+
+-- an acquire without a time limit, of which only is told that it got the lock
+pub untimed_adds : (w : WhenFull) (did : Deed → Type 0) (m : Mode) (how : How) (old new : Shown)
+    (r : Result Entry Fault) (told : Result (Unit {0}) Fault) → (is_timed how → ⊥) → IsSame old new →
+    Acquires w did m 1 how old new r → told ≡ done_of r → AddsIn m old (whether_of r) new →
+    AddsIn m old (with_yes told) new
+untimed_adds w did m how old new r told untimed same x is adds = λ lock.
+    let a = adds lock in
+    let says : gained (with_yes told) ≡ gained (whether_of r) =
+    ap (λ (z : Result (Unit {0}) Fault). gained (with_yes z)) is
+    ∙ same_told (whether_of r) (never_missed w did m 1 how old new r untimed same x) in
+    record { own = a.own ∙ ap (λ (n : ℕ). holds_of old m + n) (sym says); others = a.others }

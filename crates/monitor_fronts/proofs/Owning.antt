@@ -1,9 +1,9 @@
 -- The release of a hold is recorded: whoever owns is idle, and its release was owed room and memory.
 use Rattle.std.proofs.Common.{◌≡◌, ℕ, ◌+◌, ◌<◌, Bool, true, false, not, cond, List, Option, Some, Result, Ok, Err}
-use Rattle.std.proofs.Common.{IsOk, refl, ap, ◌∙◌, sym, subst}
+use Rattle.std.proofs.Common.{IsOk, refl, ap, ◌∙◌, sym, subst, arith}
 use Rattle.history.specs.declared.entry.Entry.{Entry}
 use Rattle.history.specs.declared.entry.Mode.{Mode}
-use Rattle.history.specs.declared.entry.Mode.TheVariants.{X}
+use Rattle.history.specs.declared.entry.Mode.TheVariants.{X, S}
 use Rattle.history.specs.declared.entry.Word.{Word}
 use Rattle.history.specs.declared.entry.Word.TheVariants as word
 use Rattle.history.specs.declared.fault.Fault.{Fault}
@@ -17,7 +17,7 @@ use Rattle.history.specs.Counts.{counts, held}
 use Rattle.history.specs.Faults.{is_bad_number, lacks_mode}
 use Rattle.history.specs.Object.{is_lock}
 use Rattle.history.specs.Phase.{Phase, Idle, phase, suits}
-use Rattle.history.specs.Start.{Start}
+use Rattle.history.specs.Start.{Start, opening}
 use Rattle.history.specs.Steps.{entry_for, phase_entry, plain}
 use Rattle.history.proofs.IdleOwners.{owner_idle}
 use Rattle.permit.specs.Deed.{Deed}
@@ -28,8 +28,10 @@ use Rattle.monitor.specs.Shown.{Shown, IsSound}
 use Rattle.monitor.specs.Stepping.{IsEntered, IsSame}
 use Rattle.monitor.proofs.Loads.{own_holds}
 use Rattle.monitor.proofs.Opening.{header_shown}
-use Rattle.monitor_fronts.specs.Holding.{holds}
+use Rattle.monitor.specs.Load.{holds_of}
+use Rattle.monitor_fronts.specs.Holding.{Takes, gained, holds, with_yes}
 use Rattle.monitor_fronts.specs.Returned.{done_of}
+use Rattle.monitor_fronts.proofs.Counting.{of_own}
 use Rattle.monitor_fronts.proofs.Exactly.{gave_is, gave_own, give_takes}
 
 -- an owner's give makes one entry
@@ -80,6 +82,18 @@ give_recorded did old new (Err f) lock same shows s some =
     subst (λ (f : Mode → ℕ). 0 < f X) own some in
     s.owed (plain old.seat word.Gave X 1, point_gives s.found old.seat s.lawful is there, is)
 
+-- a release that was recorded takes a hold
+take_as : (m : Mode) (did : Deed → Type 0) (old new : Shown) (e : Entry) (told : Result (Unit {0}) Fault) →
+    is_lock old.lock.header.object ≡ true → IsSame old new → IsSound new →
+    IsEntered did old (Give m 1) (Ok e) new → 0 < holds_of old m → told ≡ done_of (Ok e) →
+    Takes m old (with_yes told) new
+take_as m did old new e told lock same shows s some is =
+    let takes = give_takes did old new m e lock same shows s some in
+    let one : gained (with_yes told) ≡ 1 =
+    ap (λ (z : Result (Unit {0}) Fault). gained (with_yes z)) is
+    ∙ ap (λ (z : Entry). gained (with_yes (done_of (Ok z)))) (gave_is did old new m e lock same shows s some) in
+    let left = takes.0 in record { own = omega (arith, left, one); others = takes.1 }
+
 -- so an owner's unlock succeeds
 pub give_is_ok : (did : Deed → Type 0) (old new : Shown) (r : Result Entry Fault) (told : Result (Unit {0}) Fault) →
     is_lock old.lock.header.object ≡ true → IsSame old new → IsSound old → IsSound new →
@@ -97,3 +111,26 @@ pub give_loses : (did : Deed → Type 0) (old new : Shown) (r : Result Entry Fau
 give_loses did old new (Ok e) lock same was shows s some = (give_takes did old new X e lock same shows s some).0
 give_loses did old new (Err f) lock same was shows s some =
     absurd (let ok = give_recorded did old new (Err f) lock same was s some in cc)
+
+-- and leaves those in the other mode
+pub write_takes : (did : Deed → Type 0) (old new : Shown) (r : Result Entry Fault)
+    (told : Result (Unit {0}) Fault) → is_lock old.lock.header.object ≡ true → IsSame old new → IsSound old →
+    IsSound new → IsEntered did old (Give X 1) r new → 0 < holds old → told ≡ done_of r →
+    Takes X old (with_yes told) new
+write_takes did old new (Ok e) told lock same was shows s some is =
+    take_as X did old new e told lock same shows s some is
+write_takes did old new (Err f) told lock same was shows s some is =
+    absurd (let ok = give_recorded did old new (Err f) lock same was s some in cc)
+
+-- a reader's release takes a read hold if it is recorded
+pub read_takes : (did : Deed → Type 0) (old new : Shown) (r : Result Entry Fault)
+    (told : Result (Unit {0}) Fault) → is_lock old.lock.header.object ≡ true → IsSame old new → IsSound new →
+    IsEntered did old (Give S 1) r new → 0 < holds_of old S → told ≡ done_of r → Takes S old (with_yes told) new
+read_takes did old new (Ok e) told lock same shows s some is =
+    take_as S did old new e told lock same shows s some is
+read_takes did old new (Err f) told lock same shows s some is =
+    let own : (m : Mode) → holds_of new m ≡ holds_of old m = λ m.
+    of_own old new m same ∙ ap (λ (l : List Entry). held (opening old.lock.header) l old.seat m) s.mine in
+    let none : gained (with_yes told) ≡ 0 = ap (λ (z : Result (Unit {0}) Fault). gained (with_yes z)) is in
+    let reads_as = own S in
+    record { own = omega (arith, reads_as, none); others = own X }

@@ -1,12 +1,13 @@
--- The exclusive holds of a pass.
-use Rattle.std.specs.Prelude.{◌≡◌, ◌+◌, ℕ, Bool, true, Result, Ok, Err}
+-- The holds of a pass.
+use Rattle.std.specs.Prelude.{◌≡◌, ◌+◌, ◌<◌, ℕ, Bool, true, Result, Ok, Err}
 use Rattle.history.specs.Object.{is_lock}
-use Rattle.history.specs.declared.entry.Mode.TheVariants.{X}
+use Rattle.history.specs.declared.entry.Mode.{Mode}
+use Rattle.history.specs.declared.entry.Mode.TheVariants.{X, S}
 use Rattle.history.specs.declared.fault.Fault.{Fault}
 use Rattle.monitor.specs.Load.{holds_of}
 use Rattle.monitor.specs.Shown.{Shown}
 
--- how often the pass's seat holds the lock, by its own entries alone
+-- how often the pass's seat holds the lock, or its write lock, by its own entries alone
 abbrev pub holds : Shown → ℕ
 holds p = holds_of p X
 
@@ -23,3 +24,26 @@ with_yes (Err f) = Err f
 -- a call of a lock added a hold if it returned yes, and none if not
 abbrev pub Gains : Shown → Result Bool Fault → Shown → Type 0
 Gains old told new = is_lock old.lock.header.object ≡ true → holds new ≡ holds old + gained told
+
+-- the other mode
+abbrev pub other : Mode → Mode
+other X = S
+other S = X
+
+-- the pass has as many holds more in a mode as the call added by what it returns, and as many in the other as it had
+pub record Adds (m : Mode) (old : Shown) (told : Result Bool Fault) (new : Shown) : Type 0 where
+  pub own : holds_of new m ≡ holds_of old m + gained told
+  pub others : holds_of new (other m) ≡ holds_of old (other m)
+
+-- the pass has as many holds fewer in a mode as the release took by what it returns, and as many in the other as it had
+pub record Takes (m : Mode) (old : Shown) (told : Result Bool Fault) (new : Shown) : Type 0 where
+  pub own : holds_of new m + gained told ≡ holds_of old m
+  pub others : holds_of new (other m) ≡ holds_of old (other m)
+
+-- a call of a read-write lock adds holds in this mode
+abbrev pub AddsIn : Mode → Shown → Result Bool Fault → Shown → Type 0
+AddsIn m old told new = is_lock old.lock.header.object ≡ true → Adds m old told new
+
+-- a release by a pass that has holds in this mode takes one of them
+abbrev pub TakesIn : Mode → Shown → Result Bool Fault → Shown → Type 0
+TakesIn m old told new = is_lock old.lock.header.object ≡ true → 0 < holds_of old m → Takes m old told new

@@ -2,14 +2,16 @@
 ghost use Rattle.std.specs.Prelude.{◌≡◌, ◌<◌, ◌≤◌, false, true, IsOk};
 ghost use Rattle.history.specs.Object.{is_lock};
 ghost use Rattle.history.specs.Phase.{waits};
+ghost use Rattle.history.specs.declared.entry.Mode.{Mode};
 ghost use Rattle.history.specs.declared.entry.Mode.TheVariants.{X, S};
 ghost use Rattle.history.specs.declared.step.Step.TheVariants.{Try, Give, Signal, SignalAll};
+ghost use Rattle.monitor.specs.inner.Load.{is_signal};
 ghost use Rattle.monitor.specs.Shown.{IsSound};
 ghost use Rattle.monitor.specs.Stepping.{IsSame, IsEntered};
 ghost use Rattle.monitor.specs.declared.how.How.TheVariants.{Plain, Interruptible, Timed};
 ghost use Rattle.monitor.specs.declared.room.WhenFull.TheVariants.{Trim};
 ghost use Rattle.monitor_fronts.specs.FrontCalls.{Acquires, Awaits, Steps};
-ghost use Rattle.monitor_fronts.specs.Holding.{holds};
+ghost use Rattle.monitor_fronts.specs.Holding.{AddsIn, TakesIn, holds, with_yes};
 ghost use Rattle.monitor_fronts.specs.Returned.{ReturnedAs, done_of, whether_of};
 ghost use Rattle.word_lock.specs.Point.{Before};
 
@@ -69,6 +71,7 @@ impl<'m> ReadWriteLock<'m> {
         ensures shows { IsSound pass.new }
         ensures acquired { ReturnedAs done_of
             (Acquires self.now.when_full (P.did parking.now) X 1 Plain pass.old pass.new) result }
+        ensures gains { AddsIn X pass.old (with_yes result) pass.new }
     {
         done(self.acquire_as(rt, parking, pass, Mode::X, How::Plain))
     }
@@ -87,6 +90,7 @@ impl<'m> ReadWriteLock<'m> {
         ensures shows { IsSound pass.new }
         ensures acquired { ReturnedAs done_of
             (Acquires self.now.when_full (P.did parking.now) X 1 Interruptible pass.old pass.new) result }
+        ensures gains { AddsIn X pass.old (with_yes result) pass.new }
     {
         done(self.acquire_as(rt, parking, pass, Mode::X, How::Interruptible))
     }
@@ -106,6 +110,7 @@ impl<'m> ReadWriteLock<'m> {
         ensures shows { IsSound pass.new }
         ensures entered { ReturnedAs whether_of
             (Steps self.now.when_full (P.did parking.now) (Try X 1) pass.old pass.new) result }
+        ensures gains { AddsIn X pass.old result pass.new }
     {
         whether(self.enter(rt, parking, pass, Step::Try(Mode::X, 1)))
     }
@@ -127,6 +132,7 @@ impl<'m> ReadWriteLock<'m> {
         ensures shows { IsSound pass.new }
         ensures acquired { ReturnedAs whether_of
             (Acquires self.now.when_full (P.did parking.now) X 1 (Timed ms) pass.old pass.new) result }
+        ensures gains { AddsIn X pass.old result pass.new }
     {
         whether(self.acquire_as(rt, parking, pass, Mode::X, How::Timed(ms)))
     }
@@ -147,6 +153,7 @@ impl<'m> ReadWriteLock<'m> {
         ensures entered { ReturnedAs done_of
             (λ reply. IsEntered (P.did parking.now) pass.old (Give X 1) reply pass.new) result }
         ensures owner { is_lock self.now.monitor.now.header.object ≡ true → 0 < holds pass.old → IsOk result }
+        ensures loses { TakesIn X pass.old (with_yes result) pass.new }
     {
         pass.is_true();
         done(self.monitor.release(rt, parking, pass, Mode::X, 1))
@@ -169,6 +176,7 @@ impl<'m> ReadWriteLock<'m> {
         ensures shows { IsSound pass.new }
         ensures awaited { ReturnedAs done_of
             (Awaits self.now.when_full (P.did parking.now) condition Interruptible pass.old pass.new) result }
+        ensures keeps { holds pass.new ≡ holds pass.old }
     {
         done(self.wait_as(rt, parking, pass, condition, How::Interruptible))
     }
@@ -188,6 +196,7 @@ impl<'m> ReadWriteLock<'m> {
         ensures shows { IsSound pass.new }
         ensures awaited { ReturnedAs done_of
             (Awaits self.now.when_full (P.did parking.now) condition Plain pass.old pass.new) result }
+        ensures keeps { holds pass.new ≡ holds pass.old }
     {
         done(self.wait_as(rt, parking, pass, condition, How::Plain))
     }
@@ -209,6 +218,7 @@ impl<'m> ReadWriteLock<'m> {
         ensures shows { IsSound pass.new }
         ensures awaited { ReturnedAs whether_of
             (Awaits self.now.when_full (P.did parking.now) condition (Timed ms) pass.old pass.new) result }
+        ensures keeps { holds pass.new ≡ holds pass.old }
     {
         whether(self.wait_as(rt, parking, pass, condition, How::Timed(ms)))
     }
@@ -228,6 +238,7 @@ impl<'m> ReadWriteLock<'m> {
         ensures shows { IsSound pass.new }
         ensures entered { ReturnedAs done_of
             (Steps self.now.when_full (P.did parking.now) (Signal condition) pass.old pass.new) result }
+        ensures keeps { holds pass.new ≡ holds pass.old }
     {
         done(self.enter(rt, parking, pass, Step::Signal(condition)))
     }
@@ -247,6 +258,7 @@ impl<'m> ReadWriteLock<'m> {
         ensures shows { IsSound pass.new }
         ensures entered { ReturnedAs done_of
             (Steps self.now.when_full (P.did parking.now) (SignalAll condition) pass.old pass.new) result }
+        ensures keeps { holds pass.new ≡ holds pass.old }
     {
         done(self.enter(rt, parking, pass, Step::SignalAll(condition)))
     }
@@ -266,6 +278,7 @@ impl<'m> ReadWriteLock<'m> {
         ensures shows { IsSound pass.new }
         ensures acquired { ReturnedAs done_of
             (Acquires self.now.when_full (P.did parking.now) S 1 Plain pass.old pass.new) result }
+        ensures gains { AddsIn S pass.old (with_yes result) pass.new }
     {
         done(self.acquire_as(rt, parking, pass, Mode::S, How::Plain))
     }
@@ -284,6 +297,7 @@ impl<'m> ReadWriteLock<'m> {
         ensures shows { IsSound pass.new }
         ensures acquired { ReturnedAs done_of
             (Acquires self.now.when_full (P.did parking.now) S 1 Interruptible pass.old pass.new) result }
+        ensures gains { AddsIn S pass.old (with_yes result) pass.new }
     {
         done(self.acquire_as(rt, parking, pass, Mode::S, How::Interruptible))
     }
@@ -303,6 +317,7 @@ impl<'m> ReadWriteLock<'m> {
         ensures shows { IsSound pass.new }
         ensures entered { ReturnedAs whether_of
             (Steps self.now.when_full (P.did parking.now) (Try S 1) pass.old pass.new) result }
+        ensures gains { AddsIn S pass.old result pass.new }
     {
         whether(self.enter(rt, parking, pass, Step::Try(Mode::S, 1)))
     }
@@ -324,6 +339,7 @@ impl<'m> ReadWriteLock<'m> {
         ensures shows { IsSound pass.new }
         ensures acquired { ReturnedAs whether_of
             (Acquires self.now.when_full (P.did parking.now) S 1 (Timed ms) pass.old pass.new) result }
+        ensures gains { AddsIn S pass.old result pass.new }
     {
         whether(self.acquire_as(rt, parking, pass, Mode::S, How::Timed(ms)))
     }
@@ -342,6 +358,7 @@ impl<'m> ReadWriteLock<'m> {
         ensures shows { IsSound pass.new }
         ensures entered { ReturnedAs done_of
             (λ reply. IsEntered (P.did parking.now) pass.old (Give S 1) reply pass.new) result }
+        ensures loses { TakesIn S pass.old (with_yes result) pass.new }
     {
         done(self.monitor.release(rt, parking, pass, Mode::S, 1))
     }
@@ -361,6 +378,7 @@ impl<'m> ReadWriteLock<'m> {
         ensures begins { Before pass.old.seen pass.new.seen }
         ensures shows { IsSound pass.new }
         ensures acquired { Acquires self.now.when_full (P.did parking.now) mode 1 how pass.old pass.new result }
+        ensures gains { AddsIn mode pass.old (whether_of result) pass.new }
     {
         self.monitor.acquire_when_full(
             rt,
@@ -389,6 +407,7 @@ impl<'m> ReadWriteLock<'m> {
         ensures begins { Before pass.old.seen pass.new.seen }
         ensures shows { IsSound pass.new }
         ensures awaited { Awaits self.now.when_full (P.did parking.now) condition how pass.old pass.new result }
+        ensures keeps { holds pass.new ≡ holds pass.old }
     {
         self.monitor.await_when_full(
             rt,
@@ -416,6 +435,8 @@ impl<'m> ReadWriteLock<'m> {
         ensures begins { Before pass.old.seen pass.new.seen }
         ensures shows { IsSound pass.new }
         ensures entered { Steps self.now.when_full (P.did parking.now) step pass.old pass.new result }
+        ensures gains { (m : Mode) → step ≡ Try m 1 → AddsIn m pass.old (whether_of result) pass.new }
+        ensures keeps { is_signal step ≡ true → holds pass.new ≡ holds pass.old }
     {
         self.monitor
             .enter_when_full(rt, parking, pass, &mut Empty {}, step, self.when_full)

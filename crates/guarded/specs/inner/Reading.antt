@@ -1,17 +1,10 @@
 -- What readers of a lock that guards a value ask of its monitor.
-use Rattle.std.specs.Prelude.{◌≡◌}
 use Rattle.permit.specs.Deed.{Deed}
 use Rattle.guarded.specs.declared.asking.Reading.{Reading}
 use Rattle.guarded.specs.declared.asking.Reading.TheVariants as asks
-use Rattle.guarded.specs.declared.slot.Slot.{Slot}
-use Rattle.guarded.specs.declared.slot.Slot.TheVariants.{Full}
 use Rattle.guarded.specs.Full.{Call}
 use Rattle.guarded.specs.Reading.{reads_by, tries_read}
 
 abbrev pub reading_of : (Deed → Type 0) → Reading → Call
 reading_of did (asks.Acquire how) = reads_by did how
 reading_of did (asks.Try) = tries_read did
-
--- an answer was given at the value of a slot
-abbrev pub Sees : {T A : Type 0} → (T → A → Type 0) → Slot T → A → Type 0
-Sees {T} returns slot answer = (value : T) × (slot ≡ Full value) × returns value answer

@@ -1,0 +1,13 @@
+use Rattle.std.proofs.Common.{◌≡◌}
+use Rattle.monitor.specs.Stepping.{IsSame}
+use Rattle.monitor_fronts.specs.Holding.{holds}
+use Rattle.guarded.specs.Guarding.{Guards}
+use Rattle.guarded.proofs.guard.Guard.wait_while.Given as goal
+
+abbrev pub invariant-loop : goal.invariant-loop
+invariant-loop g l =
+    (goal.iterator-loop g).can_next l.iterator' × (goal.iterator-loop g).is_finite l.iterator'
+    × (l.self.pass.ghost_name ≡ l.initial.self.pass.ghost_name)
+    × (l.self.lock.now ≡ l.fn.self.lock.now) × (l.self.parking.now ≡ l.fn.self.parking.now)
+    × Guards l.self.lock.now (g.P.Parking.seats l.self.parking.now) l.self.pass.now l.self.slot
+    × IsSame l.fn.self.pass.now l.self.pass.now × (holds l.self.pass.now ≡ holds l.fn.self.pass.now)
