@@ -1,9 +1,9 @@
-//! A first program: two threads add to one number that a fair lock guards.
+//! A first program: two threads add to one number that a lock guards.
 #![tactic(auto)]
 
 ghost use Rattle.locks.specs.Calling.{CanLock};
 
-use locks::{Fault, Mutex, Pass, Policy, ThreadParking, WhenFull};
+use locks::{Fault, Mutex, Pass, ThreadParking};
 use std::alloc::Global;
 use std::sync::Wait;
 use std::thread::Threads;
@@ -30,10 +30,7 @@ fn add<R: Wait + Clock>(
 /// Opens a lock that guards 0, lets two threads add, and locks again to read the sum.
 fn sum<R: Threads + Wait + Clock + Sync>(rt: &R, alloc: Global) -> Result<u64, Fault> {
     let parking = ThreadParking::open(rt, alloc, 2)?;
-    let opened = Mutex::open(alloc, 0u64, Policy::Fair, WhenFull::Trim, 2, 0, 64);
-    let Ok((number, mut passes)) = opened else {
-        return Err(Fault::OutOfMemory);
-    };
+    let (number, mut passes) = Mutex::new(alloc, 0u64, 2)?;
     let Some(mut one) = passes.pop() else {
         unreachable!()
     };
