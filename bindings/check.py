@@ -1,5 +1,5 @@
 #!/usr/bin/env python3
-"""Tests the callers of each language: check.py [c] [sanitizers] [rust] [python] [java].
+"""Tests the callers of each language: check.py [c] [pthread] [sanitizers] [rust] [python] [java].
 
 With no words it tests them all. It builds the library first, by make. What the machine has no tools for is left
 out, and told. Each test has a time limit, since a lost wake would hang. The histories that the tests leave are
@@ -7,6 +7,7 @@ judged by `aqs audit`, if the program is built (crates/aqs/out/aqs, or AQS), and
 (checks/rules.py). The last line is 'N passed, M failed'.
 """
 import glob
+import importlib.util
 import os
 import pathlib
 import re
@@ -16,7 +17,8 @@ import sys
 import tempfile
 
 HERE = pathlib.Path(__file__).resolve().parent
-sys.path.insert(0, str(HERE.parent / "checks"))
+sys.path[:0] = [str(HERE.parent / "checks"), str(HERE / "pthread")]
+import check_recorder
 import rules
 
 C = HERE / "c"
@@ -27,6 +29,7 @@ AQS = os.environ.get("AQS", str(HERE.parent / "crates" / "aqs" / "out" / "aqs"))
 STORMS = (("4", "400"), ("16", "120"), ("256", "12"))
 SHOWN = 3000
 MINUTES = 60
+PATIENCE = 5  # how often as long as on a usual machine a command may take on one that is slow, or busy
 
 
 def has_program():
@@ -40,6 +43,49 @@ def judged(file):
         return (told + fault).decode()
     ran = subprocess.run([AQS, "audit", file], capture_output=True, timeout=60, errors="replace", check=False)
     return ran.stdout + ran.stderr
+
+
+# Tests of C and C++ that take no words, which the sanitizers run too.
+PLAIN = {
+    "times": "times that are never over too early",
+    "thread_numbers": "numbers of threads that end",
+    "closes": "closes right after the last call",
+    "or_abort": "calls that end the program",
+    "over": "a mutex and a barrier",
+    "durations": "durations of any length in C++",
+}
+# Tests of what each call does, which take no words.
+CONTENT = {
+    "answers": "which step each call makes, and what it makes of each answer",
+    "wakes": "whom each call wakes",
+    "interrupts": "what an interrupt does to each call",
+    "statuses": "each status, and what is left after it",
+    "histories": "texts of histories",
+    "waits": "how long each call waits, and who has a processor meanwhile",
+    "limits": "limits, and threads that end",
+    "seats": "who has which seat, objects without an opening, and conditions as objects",
+    "stops": "a thread that is stopped at each instruction of a call",
+}
+# Those of them that the sanitizers run too: a sanitizer takes processor time, and the others stand in for the library.
+SANITIZED = ("wakes", "interrupts", "statuses", "histories", "limits", "seats")
+# What the linker puts in the place of other functions.
+WRAPPED = {
+    "thread_numbers": ["pthread_setspecific"],
+    "closes": ["aqs_step_now", "aqs_begin", "aqs_go_on"],
+}
+
+
+def statuses_are_checked():
+    """Whether the compiler warns of each call of aqs.h whose status nobody looks at, and what it says."""
+    text = re.sub(r"/\*.*?\*/", "", (C / "aqs.h").read_text(), flags=re.S)
+    calls = re.findall(r"aqs_status_t (aqs_\w+)\(([^)]*)\);", text)
+    lines = [f"{name}({', '.join(['0'] * len(taken.split(',')))});" for name, taken in calls]
+    source = "\n".join(['#include "aqs.h"', "int main(void) {", *lines, "}"])
+    words = ["cc", "-std=gnu11", "-c", "-o", "/dev/null", "-Wunused-result", "-I.", "-x", "c", "-"]
+    ran = subprocess.run(words, cwd=C, input=source, capture_output=True, text=True, check=False)
+    warned = set(re.findall(r"ignoring return value of .(aqs_\w+)", ran.stderr))
+    without = [name for name, _ in calls if name not in warned]
+    return len(calls) > 40 and not without, f"{ran.stderr}\nnot warned of: {without}"
 
 
 class Tests:
@@ -63,10 +109,10 @@ class Tests:
         try:
             ran = subprocess.run(
                 [str(word) for word in words], cwd=cwd, stdin=subprocess.DEVNULL, capture_output=True,
-                timeout=seconds, errors="replace", env={**os.environ, **environment},
+                timeout=seconds * PATIENCE, errors="replace", env={**os.environ, **environment},
             )
         except subprocess.TimeoutExpired:
-            return self.count(name, False, f"it did not end in {seconds} seconds")
+            return self.count(name, False, f"it did not end in {seconds * PATIENCE} seconds")
         except OSError as error:
             return self.count(name, False, str(error))
         told = ran.stdout + ran.stderr
@@ -99,17 +145,26 @@ def has(*tools):
 
 
 def check_c(tests):
-    if not tests.run("the C and C++ tests are built", ["make", "-s", "tests"], 300):
+    if not tests.run("the C and C++ tests are built", ["make", "-s", "-j4", "tests"], 300):
         return
     kept = tests.histories("c")
     tests.run("each call of aqs.h", [OUT / "calls", kept])
+    for name, what in {**CONTENT, **PLAIN}.items():
+        tests.run(what, [OUT / name], 120)
     tests.run("allocations that fail", [OUT / "memory"])
+    tests.run("names that the library has inside", [OUT / "names"])
+    tests.run("a library that is closed under its threads", [OUT / "unload", OUT / "libaqs.so"])
     tests.run("guards of C++", [OUT / "guards", kept])
+    tests.run("C++11 without exceptions", [OUT / "plain"])
+    tests.count("each status has to be looked at", *statuses_are_checked())
     for threads, rounds in STORMS:
         tests.run(f"storms of {threads} threads", [OUT / "storms", kept, threads, rounds], 120)
     tests.run("the cache of C++", [OUT / "lru_cache", f"{kept}/lru-cache.history"])
+    tests.run("the first program of C", [OUT / "first"])
+    tests.run("the bounded buffer of C", [OUT / "buffer", f"{kept}/buffer.history"])
     tests.audit("C and C++", kept)
     tests.draw("the cache", f"{kept}/lru-cache.history")
+    tests.draw("the buffer", f"{kept}/buffer.history")
     check_install(tests)
 
 
@@ -124,7 +179,13 @@ def check_install(tests):
         program, kept = f"{room}/calls", tests.histories("shared")
         words = ["cc", "-std=gnu11", "-Itest", "test/calls.c", *flags, "-o", program]
         if tests.run("a program links with what was installed", words):
-            tests.run("it runs with libaqs.so", [program, kept], LD_LIBRARY_PATH=f"{room}/lib")
+            tests.run("it finds libaqs.so, and runs", [program, kept])
+            os.remove(program)
+        if has_program():
+            tests.run("the program aqs is installed", [f"{room}/bin/aqs", "audit", f"{kept}/calls-lock.history"])
+        tests.run("make uninstall", ["make", "-s", "uninstall", f"PREFIX={room}"])
+        left = [it for _, _, files in os.walk(room) for it in files]
+        tests.count("it leaves no file", not left, str(left))
 
 
 def flags_of(prefix):
@@ -142,7 +203,7 @@ def flags_of(prefix):
     return text.split()
 
 
-# What a sanitizer is given beside the sources. ThreadSanitizer wants addresses where it expects them.
+# What a sanitizer is given beside the sources.
 SANITIZERS = (
     ("ThreadSanitizer", "thread", {"TSAN_OPTIONS": "halt_on_error=1"}),
     ("AddressSanitizer", "address,undefined", {"ASAN_OPTIONS": "detect_leaks=1"}),
@@ -152,36 +213,69 @@ SANITIZERS = (
 def check_sanitizers(tests):
     for name, flag, environment in SANITIZERS:
         check_sanitizer(tests, name, flag, environment)
+    check_installed(tests)
     if not has("valgrind"):
         tests.left_out("valgrind", "it is not installed")
         return
-    if tests.run("the tests are built for valgrind", ["make", "-s", "tests"], 300):
+    if tests.run("the tests are built for valgrind", ["make", "-s", "-j4", "tests"], 300):
         kept = tests.histories("valgrind")
         words = ["valgrind", "-q", "--error-exitcode=9", "--leak-check=full"]
         tests.run("valgrind: calls", [*words, OUT / "calls", kept], 120, silent=True)
         tests.run("valgrind: allocations that fail", [*words, OUT / "memory"], 120, silent=True)
         storm = [*words, OUT / "storms", kept, "4", "20"]
         tests.run("valgrind: storms of 4 threads", storm, 120, silent=True)
+        if not pathlib.Path("/usr/include/valgrind/helgrind.h").is_file():
+            tests.left_out("helgrind", "its header is not installed, so the library is built without")
+            return
+        words = ["valgrind", "-q", "--tool=helgrind", "--suppressions=helgrind.supp", "--error-exitcode=9"]
+        storm = [*words, OUT / "storms", kept, "4", "20"]
+        tests.run("helgrind: storms of 4 threads", storm, 120, silent=True)
+        tests.run("helgrind: the cache of C++", [*words, OUT / "lru_cache"], 120)
+
+
+def without_slides(flag):
+    """ThreadSanitizer wants addresses where it expects them."""
+    return ["setarch", "-R"] if flag == "thread" and has("setarch") else []
+
+
+def built(test, flag, library):
+    """The words that build a test with a sanitizer."""
+    [source] = C.glob(f"test/{test}.c*")
+    compiler = ["gcc", "-std=gnu11"] if source.suffix == ".c" else ["g++", "-std=c++17"]
+    wraps = [f"-Wl,--wrap={it}" for it in WRAPPED.get(test, ())]
+    return [*compiler, "-O1", "-g", f"-fsanitize={flag}", "-I.", *wraps, source, *library, "-pthread", "-o"]
 
 
 def check_sanitizer(tests, name, flag, environment):
     folder = tests.histories(flag.split(",")[0])
-    library = [f"{OUT}/members.a"]
-    built = ["gcc", "-std=gnu11", "-O1", "-g", f"-fsanitize={flag}", "-I.", "aqs.c"]
-    without = f"cp out/libaqs.a {library[0]} && ar d {library[0]} aqs.o"
-    if subprocess.run(["sh", "-c", without], cwd=C, check=False).returncode:
-        tests.left_out(name, "the library has no member aqs.o")
-        return
-    prefix = ["setarch", "-R"] if flag == "thread" and has("setarch") else []
-    for test, words in (("calls", []), ("storms", ["4", "100"]), ("storms", ["16", "20"])):
-        program = f"{folder}/{test}"
-        made = [*built, f"test/{test}.c", *library, "-pthread", "-o", program]
-        if not tests.run(f"{name}: {test} is built", made, 120):
+    library = [OUT / "core.o"]
+    for source in ("aqs", "aqs_over"):
+        library = [f"{folder}/{source}.o", *library]
+        words = ["gcc", "-std=gnu11", "-O1", "-g", f"-fsanitize={flag}", "-I.", "-c", f"{source}.c", "-o", library[0]]
+        if not tests.run(f"{name}: {source}.c is built", words, 120):
             return
-        shown = f"{name}: {test} {' '.join(words)}".strip()
-        tests.run(shown, [*prefix, program, folder, *words], 120, silent=True, **environment)
-    os.remove(library[0])
+    kept = [("calls", [folder]), ("storms", [folder, "4", "100"]), ("storms", [folder, "16", "20"])]
+    for test, words in [*kept, *[(test, []) for test in (*SANITIZED, *PLAIN)]]:
+        program = f"{folder}/{test}"
+        if not tests.run(f"{name}: {test} is built", [*built(test, flag, library), program], 120):
+            return
+        shown = f"{name}: {test} {' '.join(words[1:])}".strip()
+        words = [*without_slides(flag), program, *words]
+        tests.run(shown, words, 120, silent=True, **environment)
     tests.audit(name, folder)
+
+
+def check_installed(tests):
+    """A program with ThreadSanitizer, and the library as it is installed, which was built without."""
+    _, flag, environment = SANITIZERS[0]
+    folder = tests.histories("installed")
+    for library in ([OUT / "libaqs.a"], [OUT / "libaqs.so", f"-Wl,-rpath,{OUT}"]):
+        name = f"ThreadSanitizer in the program alone, with {library[0].name}"
+        program = f"{folder}/storms"
+        if not tests.run(f"{name}: storms is built", [*built("storms", flag, library), program], 120):
+            return
+        words = [*without_slides(flag), program, folder, "4", "100"]
+        tests.run(f"{name}: storms 4 100", words, 120, silent=True, **environment)
 
 
 def check_rust(tests):
@@ -200,9 +294,13 @@ def check_rust(tests):
 
 def check_python(tests):
     kept = tests.histories("python")
-    words = [sys.executable, "-B", "-m", "unittest", "-q", "test_aqs"]
-    tests.run("Python", words, cwd=HERE / "python", AQS_HISTORIES=kept)
+    words = [sys.executable, "-B", "-m", "unittest", "-q"]
+    tests.run("Python", [*words, "test_aqs"], 120, cwd=HERE / "python", AQS_HISTORIES=kept)
     tests.audit("Python", kept)
+    if importlib.util.find_spec("test") and importlib.util.find_spec("test.lock_tests"):
+        tests.run("CPython's own tests of locks", [*words, "test_cpython"], 180, cwd=HERE / "python")
+    else:
+        tests.left_out("CPython's own tests of locks", "this Python has no test.lock_tests")
 
 
 def check_java(tests):
@@ -210,14 +308,39 @@ def check_java(tests):
         tests.left_out("Java", "there is no JDK")
         return
     folder, kept = HERE / "java", tests.histories("java")
-    if tests.run("the Java tests are built", ["make", "-s"], 120, cwd=folder):
-        words = ["java", "-Djava.library.path=out", "-cp", "out/classes", "AqsTest", kept]
-        tests.run("Java", words, 120, cwd=folder)
-        tests.audit("Java", kept)
+    if not tests.run("the Java tests are built", ["make", "-s", "tests"], 120, cwd=folder):
+        return
+    classes = ["-Djava.library.path=out", "-cp", "out/classes:out/tests"]
+    # The jar has its own copy of the native library.
+    scenarios = ["java", "-cp", "out/aqs.jar:out/tests", "Scenarios", "test/scenarios.txt", kept]
+    tests.run("Java: the jar, beside the JDK's classes", scenarios, 240, cwd=folder)
+    tests.run("Java: many threads", ["java", *classes, "AqsTest", kept], 240, cwd=folder)
+    tests.run("Java: inside", ["java", "-Xcomp", *classes, "aqs.InsideTest"], 240, cwd=folder)
+    virtual = java_with_virtual_threads()
+    if virtual:
+        words = [virtual, "--enable-native-access=ALL-UNNAMED", *classes, "VirtualTest"]
+        tests.run("Java: virtual threads are refused", words, 120, cwd=folder)
+    else:
+        tests.left_out("Java: virtual threads", "no JDK here has them")
+    tests.audit("Java", kept)
+
+
+def java_with_virtual_threads():
+    """A program `java` of JDK 21 or later, or None."""
+    for java in ("java", *sorted(glob.glob("/usr/lib/jvm/*/bin/java"))):
+        told = subprocess.run([java, "-version"], capture_output=True, text=True, check=False).stderr
+        version = re.search(r'version "(\d+)', told)
+        if version and int(version[1]) >= 21:
+            return java
+    return None
+
+
+def check_pthread(tests):
+    check_recorder.check(tests, judged)
 
 
 PARTS = {
-    "c": check_c, "sanitizers": check_sanitizers, "rust": check_rust, "python": check_python,
+    "c": check_c, "pthread": check_pthread, "sanitizers": check_sanitizers, "rust": check_rust, "python": check_python,
     "java": check_java,
 }
 

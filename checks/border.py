@@ -16,14 +16,17 @@ import sys
 ROOT = pathlib.Path(__file__).resolve().parent.parent
 HEADERS = ROOT / "bindings" / "c"
 ARCHIVE = ROOT / "crates" / "aqs_c" / "out" / "libaqs_c.a"
+LIBRARY = HEADERS / "out" / "libaqs.a"
 RUST = ROOT / "bindings" / "rust" / "aqs" / "src"
 # Where other languages have numbers of aqs.h, and in what form.
 COPIES = (
     (RUST / "error.rs", r"Error::(\w+) => (\d+),"),
     (RUST / "object.rs", r"const (\w+): sys::Status = (\d+);"),
-    (ROOT / "bindings" / "python" / "aqs.py", r"(?m)^ *([A-Z_]+) = (\d+)$"),
-    (ROOT / "bindings" / "java" / "src" / "aqs" / "Native.java", r"(?m)^    static final int ([A-Z_]+) = (\d+);$"),
+    (ROOT / "bindings" / "python" / "aqs" / "_library.py", r"(?m)^ *([A-Z_]+) = (\d+)$"),
+    (ROOT / "bindings" / "java" / "src" / "aqs" / "Native.java", r"\b([A-Z_]+) = (\d+)[,;]"),
 )
+# Of Java only the list of statuses: other numbers follow it.
+JAVA = r"static final int OK = 0,[^;]*;"
 NUMBERED = ["history/src/fault.rt", "aqs_c/src/answers.rt", "aqs_c/src/calls.rt", "aqs_c/src/opening.rt",
             "aqs_c/src/steps.rt"]
 
@@ -48,7 +51,7 @@ OF_C = {"AQS_CORE_H", "AQS_NO_PASS"}
 
 TYPES = {
     "u8": "uint8_t", "u16": "uint16_t", "u32": "uint32_t", "u64": "uint64_t", "i32": "int32_t", "i64": "int64_t",
-    "usize": "size_t", "bool": "bool", "c_char": "char", "Status": "aqs_status_t", "RwLock": "aqs_rwlock_t",
+    "usize": "size_t", "bool": "_Bool", "c_char": "char", "Status": "aqs_status_t", "RwLock": "aqs_rwlock_t",
 }
 
 
@@ -210,7 +213,10 @@ def copies_differ(include=HEADERS):
     """How the numbers of statuses and policies in other languages differ from those of aqs.h."""
     lines = ['#include "aqs.h"']
     for file, form in COPIES:
-        found = re.findall(form, file.read_text())
+        text = file.read_text()
+        if file.suffix == ".java":
+            text = "".join(re.findall(JAVA, text))
+        found = re.findall(form, text)
         lines += [same(f"AQS_{name if name.isupper() else words_of(name)} == {n}", file.name) for name, n in found]
         if not found:
             lines.append(f"#error {file.name} has no numbers")
@@ -225,9 +231,18 @@ def symbols_differ(archive=ARCHIVE):
     return [f"{name} isn't in both the library and its sources" for name in sorted(named ^ exports)]
 
 
+def inner_names(library=LIBRARY):
+    """What the library for programs defines for all to see, and doesn't begin with aqs_."""
+    ran = subprocess.run(["nm", "-g", "--defined-only", library], capture_output=True, text=True)
+    named = re.findall(r"^[0-9a-f]+ \w (\w+)$", ran.stdout, re.M)
+    inner = [f"{library.name} shows {it}" for it in sorted(named) if not it.startswith("aqs_")]
+    return inner if named else [f"{library.name} shows no names"]
+
+
 CHECKS = (
     ("aqs_core.h declares what crates/aqs_c exports", differences),
     ("the library defines these names", symbols_differ),
+    ("libaqs.a shows no other names", inner_names),
     ("the Rust crate declares what aqs.h does", rust_differences),
     ("Rust, Python and Java have the numbers of aqs.h", copies_differ),
 )
@@ -237,8 +252,9 @@ def checked():
     """Prints each check, and returns how many passed and how many failed."""
     passed, made = 0, 0
     for name, check in CHECKS:
-        if check is symbols_differ and not ARCHIVE.is_file():
-            print(f"left out: {name}: {ARCHIVE} isn't built", flush=True)
+        needs = {symbols_differ: ARCHIVE, inner_names: LIBRARY}.get(check)
+        if needs and not needs.is_file():
+            print(f"left out: {name}: {needs} isn't built", flush=True)
             continue
         made += 1
         found = check()

@@ -3,10 +3,12 @@
 
 - `limits.py`: each limit at its value and one past it, and long texts.
 - `devices.py`: devices that fail, a terminal, and ever less memory.
+- `leaks.py`: what each run takes and gives back.
 - `growth.py`: how time and memory grow with the input and with the seats.
 - `storms.py`: two short storms of threads.
 - `fuzz.py`: random texts, others each day.
 - `spoilt.py`: two examples with each byte changed.
+- `page.py`: the pages of `aqs draw --page`, under node and in a browser, where this machine has them.
 - `java.py`: scenarios on the JDK of this machine, if it has one.
 
 The seed, as the hash of a commit, chooses the examples, the storms and the scenarios. Each check has a line
@@ -25,7 +27,7 @@ import zlib
 import java
 
 HERE = pathlib.Path(__file__).resolve().parent
-MINUTES = 10
+MINUTES = 30
 
 
 def checks(seed):
@@ -33,11 +35,13 @@ def checks(seed):
     number = str(zlib.crc32(seed.encode()))
     yield ["limits.py"]
     yield ["devices.py"]
+    yield ["leaks.py"]
     yield ["growth.py"]
     yield ["storms.py", "2", "16", "4", number]
     yield ["storms.py", "1", "64", "8", number]
     yield ["fuzz.py", "4000"]
     yield ["spoilt.py", seed]
+    yield ["page.py"]
     if java.has_jdk():
         yield ["java.py", "200", number]
 

@@ -4,10 +4,11 @@
 Each pair NAME.steps and NAME.answers is replayed, and each pair NAME.history and NAME.answers audited, from
 the file. Cut after any byte but the last, each of them is cut short. The history text of each steps text is
 legal, and a trim after each step changes no answer. Each NAME.svg is the picture of NAME.history, or of the
-history that a replay of NAME.steps gives. Each NAME.script is run: the lines outside its histories are as
-NAME.answers has them, where * stands for a number that depends on the schedule, and `aqs audit` says the same
-of each history. Texts of an enemy follow, the cases of cases/ (`cases.py`), long random lists of steps
-(`crowds.py`), and the times of common lines (`common_lines.py`).
+history that a replay of NAME.steps gives. The explanations and summaries of docs/AQS.md, and the examples of `aqs
+manual`, are what the program writes. Each NAME.script is run: the lines outside its histories are as NAME.answers has them,
+where * stands for a number that depends on the schedule, and `aqs audit` says the same of each history. Texts of
+an enemy follow, the cases of cases/ (`cases.py`), long random lists of steps (`crowds.py`), and the times of
+common lines (`common_lines.py`).
 Compared are the exit status, standard output and standard error. The last line is 'N passed, M failed', and
 the status is 0 only if nothing failed and something passed.
 """
@@ -148,6 +149,25 @@ def trimmed(program, folder):
         yield f"replay {file.name} with a trim after each step", good
 
 
+def shown(program, folder):
+    """The explanations and summaries that docs/AQS.md shows are what the program writes of those files."""
+    page = (folder.parent / "docs" / "AQS.md").read_text()
+    for words, told in re.findall(r"`aqs ((?:explain|summary) [^`]+)`[^`]*```\n(.*?)```", page, re.S):
+        done = subprocess.run([program, *words.split()], cwd=folder.parent, capture_output=True, timeout=SECONDS)
+        status = 1 if told.startswith("not legal") else 0
+        yield words, (done.returncode, done.stdout, done.stderr) == (status, told.encode(), b"")
+
+
+def manuals(program):
+    """The examples of the manual's pages are what the program writes."""
+    for name in ("replay", "audit", "explain", "summary", "run"):
+        page = run(program, ["manual", name])[1].decode()
+        found = re.search(r"From the text\n\n(.*?\n)\nit writes\n\n((?:  [^\n]*\n)*)", page, re.S)
+        given, told = (re.sub(r"(?m)^  ", "", part).encode() for part in found.groups())
+        status = 1 if told.startswith(b"not legal") else 0
+        yield f"the example of manual {name}", run(program, [name], given) == (status, told, b"")
+
+
 def named_files(program, folder):
     """A file that is named is read in place of standard input."""
     steps, wrong = folder / "acquire_and_give.steps", folder / "taken_past_the_line.history"
@@ -192,9 +212,11 @@ def results(program, folder, scratch):
     yield from runs(program, folder, scratch)
     yield from pictures(program, folder)
     yield from named_files(program, folder)
+    yield from manuals(program)
     yield from hostile(program)
     if folder.name == "examples":
         yield from situations(folder)
+        yield from shown(program, folder)
     for file in unpaired(folder):
         yield f"{file.name} has its pair", False
     for wrong in [*cases.results(program, cases.all_files()), *crowds.results(program)]:

@@ -4,7 +4,9 @@
 Two of five texts are good steps: `aqs replay`, `aqs replay --history` and `aqs audit` of that history must
 answer as checks/rules.py does, and the history must be legal. A fifth are steps that were spoilt, a fifth
 histories that were, in their entries or in their bytes. Each history is drawn too: `aqs draw` must have the
-status or the fault of `aqs audit`, and show what checks/drawn.py does. A fifth are scripts of one thread, of
+status or the fault of `aqs audit`, and show what checks/drawn.py does. Each is explained, where it is not legal
+and at an entry: `aqs explain` must answer as checks/explained.py does, and `aqs summary` as checks/summed.py
+does. A fifth are scripts of one thread, of
 which one in four was spoilt: `aqs run` must answer as checks/runs.py does. The seed is the day if none is
 given, as 20261127. Whatever disagrees is printed, and the status is 1.
 """
@@ -17,8 +19,11 @@ import random
 import sys
 
 import drawn
+import explained
+import page
 import rules
 import runs
+import summed
 from program import Program
 
 # How many parts the texts come in, each with a seed of its own.
@@ -220,6 +225,13 @@ def script_tries(chance):
         yield ["run"], text, (0, wanted, b"")
 
 
+def explained_tries(chance, text):
+    """An explanation of a history, and one of an entry that chance chooses."""
+    yield ["explain"], text, explained.explain(text)
+    at = chance.choice((0, 1, chance.randrange(90), 2 ** 64 - 1))
+    yield ["explain", "--at", str(at)], text, explained.explain(text, at)
+
+
 def tries(chance):
     """The words, the text and the wanted answer of each run for one random text."""
     way = chance.randrange(5)
@@ -240,6 +252,8 @@ def tries(chance):
             text = spoil(chance, text) or b"\n"
         for name in ("audit", "draw"):
             yield [name], text, rules.audit(text)
+        yield from explained_tries(chance, text)
+        yield ["summary"], text, summed.summarise(text)
         return
     audited = rules.audit(history[1])
     assert audited[0] == 0, steps
@@ -247,10 +261,16 @@ def tries(chance):
     yield ["replay", "--history"], steps, history
     yield ["audit"], history[1], audited
     yield ["draw"], history[1], audited
+    if chance.random() < 0.25:
+        yield ["draw", "--page"], history[1], audited
+    yield from explained_tries(chance, history[1])
+    yield ["summary"], history[1], summed.summarise(history[1])
 
 
 def agrees(words, text, wanted, answer):
-    """Whether an answer is the wanted one; a picture must show what its history says."""
+    """Whether an answer is the wanted one; a picture and a page must show what their history says."""
+    if words == ["draw", "--page"]:
+        return (answer[0], answer[2]) == (wanted[0], b"") and page.has_data(answer[1], text)
     if words != ["draw"] or wanted[0] > 1:
         return answer == wanted
     return (answer[0], answer[2]) == (wanted[0], b"") and drawn.is_drawn(answer[1], text)
@@ -264,7 +284,7 @@ def fuzz(path, texts, seed):
     for _ in range(texts):
         for words, text, wanted in tries(chance):
             answer = program.answer(words, text)
-            kinds[" ".join(words), wanted[0]] += 1
+            kinds[words[0] if "--at" in words else " ".join(words), wanted[0]] += 1
             if not agrees(words, text, wanted, answer):
                 wrong.append((words, text, wanted, answer))
     program.close()

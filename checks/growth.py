@@ -4,12 +4,12 @@
 Each command gets a text of some size and one four times as long. It may take five times as long at most. It has the
 memory that docs/PERFORMANCE.md says of each entry and answer, and no more. Then the same calls are made in an object
 of 2 seats and in one of 256, in which the others are idle, wait in line or sleep: that may take a quarter longer at
-most. At last threads wait for a second by the clock, and may take a part of it at most, since a thread that waits
-sleeps. All other times are those of the processor, the least of three runs. A case that takes too long is measured
-twice more, since other work on the machine slows it. A run that takes longer than a minute fails. If the example
-program `example_locks` was built beside PROGRAM, it prints a history of a lock, which goes through `fits` and
-`write_text`. If `bench_pairs` was, it opens and closes locks of 64 seats, and as many of 256: that may take six times
-as long at most. The last line is 'N passed, M failed'.
+most. At last threads wait for a second by the clock, at each kind of object, and each may take five thousandths of it
+at most, since a thread that waits sleeps. All other times are those of the processor, the least of three runs. A case
+that takes too long is measured twice more, since other work on the machine slows it. A run that takes longer than a
+minute fails. If the example program `example_locks` was built beside PROGRAM, it prints a history of a lock, which
+goes through `fits` and `write_text`. If `bench_pairs` was, it opens and closes locks of 64 seats, and as many of 256:
+that may take six times as long at most. The last line is 'N passed, M failed'.
 """
 
 import json
@@ -37,7 +37,8 @@ START = 0.01  # seconds that a start may take, whatever it does
 CLOSES = 5_000  # locks that are opened and closed
 WIDER = 6  # as long with 256 seats as with 64 at most
 NAP = 1000  # milliseconds for which threads wait
-AWAKE = 0.1  # seconds that they may take meanwhile
+AWAKE = 0.005  # seconds that each of them may take meanwhile
+SLEEPERS = 7  # threads that wait
 
 
 @dataclass
@@ -61,7 +62,8 @@ def steps(object, first, round, count, last="", form=1):
 
 
 PAIR = "0 acquire x 1\n0 give x 1\n"
-LOCK = "lock fair seats {} conditions 1 cap 4294967295"
+PERMITS = "0 acquire s 1\n0 give s 1\n"
+LOCK = "lock fair seats {} conditions 2 cap 4294967295"
 LOCKS = "../../example_locks/out/example_locks"  # from the folder of the program
 PAIRS = "../../bench_pairs/out/bench_pairs"
 
@@ -84,14 +86,29 @@ def script(calls, count):
     return json.dumps({"objects": objects, "threads": [{"repeat": count, "calls": calls}]}).encode()
 
 
-def napping():
-    """A script in which one thread waits on a condition of an object, while it holds another that a second thread asks
-    for. The second asks only then, and has an interrupt pending that its wait doesn't heed."""
-    objects = [[name, LOCK.format(2)] for name in "ab"] + [["c", "latch seats 2 count 1 cap 64"]]
-    nap = ["a acquire x 1", "b acquire x 1", "c give s 1", f"b await-timed 0 {NAP}", "b give x 1", "a give x 1"]
-    asks = ["interrupt 1", "c acquire s 1", "a acquire x 1", "a give x 1"]
-    threads = [{"repeat": 1, "calls": calls} for calls in (nap, asks)]
-    return json.dumps({"objects": objects, "threads": threads}).encode()
+def napping(asks, *objects):
+    """A script in which threads make calls that wait. Before that, one thread takes the lock `a`, and lets the others
+    begin by the latch `go`. Then it sleeps on a condition of the lock `b`, and gives `a` back."""
+    seats = SLEEPERS + 1
+    known = [["a", LOCK.format(seats)], ["b", LOCK.format(seats)], ["go", f"latch seats {seats} count 1 cap 64"]]
+    holds = ["a acquire x 1", "b acquire x 1", "go give s 1", f"b await-timed 0 {NAP}", "b give x 1", "a give x 1"]
+    threads = [{"repeat": 1, "calls": holds}]
+    threads += [{"repeat": 1, "calls": ["go acquire s 1", *asks]}] * SLEEPERS
+    return json.dumps({"objects": known + [[*it] for it in objects], "threads": threads}).encode()
+
+
+def naps():
+    """For each kind of object that threads wait at, the script."""
+    seats = SLEEPERS + 1
+    rw, permits = f"rw fair seats {seats} conditions 0 cap 64", f"semaphore fair seats {seats} permits 0 cap 64"
+    yield "a lock", napping(["a acquire x 1", "a give x 1"])
+    # A wait that does not heed the interrupt that is pending.
+    yield "a lock, with an interrupt", napping(["interrupt 1", "a acquire x 1", "a give x 1"])
+    # The first reader or writer waits for the lock `a` while it writes, and the others for it.
+    yield "a read-write lock", napping(["c acquire x 1", "a acquire x 1", "a give x 1", "c give x 1"], ("c", rw))
+    yield "a condition", napping(["b acquire x 1", f"b await-timed 1 {NAP}", "b give x 1"])
+    yield "a semaphore", napping([f"c acquire-timed s 1 {NAP}"], ("c", permits))
+    yield "a latch", napping([f"c acquire-timed s 1 {NAP}"], ("c", f"latch seats {seats} count 1 cap 64"))
 
 
 def history(program, text):
@@ -149,11 +166,21 @@ def crowded(program):
     nap = "0 acquire x 1\n0 await 0\n0 expire\n0 look\n0 give x 1\n"
     asleep = lambda seats: steps(lock(seats), sleep(seats), nap, count)
     folded = lambda seats: steps(lock(seats), "", PAIR * 200 + "trim\n", count // 200, form=2)
+    line_folded = lambda seats: steps(lock(seats), waiting(seats), PAIR * 200 + "trim\n", count // 200, form=2)
+    left = "1 acquire x 1\n1 interrupt\n" * 100 + "trim\n"
+    left_folded = lambda seats: steps(lock(seats), before(seats), left, count // 400, form=2)
+    last_looks = lambda seats: steps(lock(seats), waiting(seats), f"{seats - 1} look\n", 2 * count)
+    last_owns = lambda seats: steps(lock(seats), "", PAIR.replace("0 ", f"{seats - 1} "), count)
+    permits = lambda seats: steps(f"semaphore fair seats {seats} permits 3 cap 4294967295", "", PERMITS, count)
+    conditions = lambda seats: steps(lock(seats).replace("conditions 2", f"conditions {min(seats, 16)}"), "", PAIR, count)
     replayed = [("idle", idle), ("in line", line), ("looks", looks), ("leaving", leave), ("asleep", asleep)]
-    for name, text in [*replayed, ("trims", folded)]:
+    replayed += [("looks of the last", last_looks), ("the last owns", last_owns), ("permits", permits)]
+    trims = [("trims", folded), ("trims with a line", line_folded), ("trims of a line that seats leave", left_folded)]
+    for name, text in [*replayed, *trims]:
         yield f"replay, {name}", ["replay"], text
     told = lambda text: lambda seats: history(program, text(seats))
-    for name, text in [("idle", idle), ("in line", line), ("leaving", leave), ("asleep", asleep)]:
+    audited = [("idle", idle), ("in line", line), ("leaving", leave), ("asleep", asleep)]
+    for name, text in [*audited, ("the last owns", last_owns), ("permits", permits), ("conditions", conditions)]:
         yield f"audit, {name}", ["audit"], told(text)
         yield f"draw, {name}", ["draw", "--from", "0"], told(text)
     yield "draw, signalled", ["draw", "--from", "0"], told(lambda seats: signals(lock(seats), seats, count))
@@ -210,13 +237,14 @@ def closes(pairs):
     return many <= WIDER * few + START, f"{few:.3f} s with 64 seats, {many:.3f} s with 256"
 
 
-def sleeps(program):
+def sleeps(program, script):
     """Whether threads wait as long as they are to, and take hardly any time of the processor, and the numbers."""
     begun = time.monotonic()
-    seconds, waited = once(program, ["run"], napping(), resource.RLIM_INFINITY), time.monotonic() - begun
+    seconds, waited = once(program, ["run"], script, resource.RLIM_INFINITY), time.monotonic() - begun
     if seconds is None:
         return False, "failed, or took more than a minute"
-    return seconds <= AWAKE and NAP / 1000 <= waited, f"{seconds:.3f} s of the processor in {waited:.3f} s for {NAP} ms"
+    is_asleep = seconds <= START + SLEEPERS * AWAKE and NAP / 1000 <= waited
+    return is_asleep, f"{seconds:.3f} s of the processor in {waited:.3f} s for {SLEEPERS} threads and {NAP} ms"
 
 
 def tried(measure, *given):
@@ -234,7 +262,7 @@ def main(program):
     pairs = beside(program, PAIRS)
     if os.path.exists(pairs):
         results.append(("locks that are closed", *tried(closes, pairs)))
-    results.append(("run, threads that wait", *tried(sleeps, program)))
+    results += [(f"run, threads that wait at {name}", *tried(sleeps, program, script)) for name, script in naps()]
     for name, is_good, numbers in results:
         print(f"{'good' if is_good else 'FAILED'}: {name}: {numbers}", flush=True)
     failed = sum(not is_good for _, is_good, _ in results)

@@ -3,9 +3,10 @@
 A refusal is a goal of one function that the prover does not close. It reads that function's text and proof, the
 contracts of what it calls, types, definitions and lemmas. It reads no other function's body or proof. rt ci
 leaves exactly this in the rlib of each crate: src without bodies, the definitions, and the files of lemmas. We
-call it the crate's face. So a wrong body's sum is made of the kit's logic, of the programs here that judge a trial, of
-the faces of its crate and of the crates below, of its function with its proof, and of the edit. It is the same on
-each machine.
+call it the crate's face. A crate above can call public functions alone. So of a crate below only the public face
+counts: the interface that the rlib shows to others, with the clauses of its functions. A wrong body's sum is made of
+the kit's logic, of the programs here that judge a trial, of the face of its crate and the public faces of the crates
+below, of its function with its proof, and of the edit. It is the same on each machine.
 
 Of the kit only the logic counts: the rules and libraries in which goals are stated. Two kits with one logic may differ
 in how they search. No sound search closes a false goal, so a line outlives such a change. A goal that is true and was
@@ -16,6 +17,7 @@ The lines stand in crates/NAME/wrong-bodies/refused.txt, a sum and a name each.
 """
 import hashlib
 import os
+import re
 
 from bodies import FOLDER, body_of, edits_of
 from kit import rt
@@ -24,7 +26,10 @@ HERE = os.path.dirname(os.path.realpath(__file__))
 JUDGES = ("bodies.py", "kit.py", "ledger.py", "said.py", "trial.py")
 KITS = f"{HERE}/kits.txt"
 SOURCES = ("src", "specs", "proofs")
-FACE = ("lang/src", "lang/antt/specs", "lang/antt/proofs")
+PROVED_BY = ("lang/antt/specs", "lang/antt/proofs")
+WHOLE = "lang/src"
+INTERFACE = "interface/lang/src"
+FOR_THE_COMPILER = re.compile(rb"# \[ (?:inline|cold)\b[^\]]*\] ")  # attributes that no contract depends on
 OF_A_FUNCTION = ("Answers.antt", "Invariants.antt", "Proof.antt")  # the parts of a function's proof, which no other reads
 DIGITS = 24
 
@@ -76,11 +81,41 @@ def sources_sum(crate):
     return sum_of(*[it for part in SOURCES for it in (part.encode(), *files(f"{crate.folder}/{part}"))])
 
 
+def proved_by(crate):
+    """Returns the names and bytes of the definitions and lemmas of a crate."""
+    return [it for part in PROVED_BY for it in (part.encode(), *files(f"{crate.rlib}/{part}", OF_A_FUNCTION))]
+
+
 def face(crate):
-    """Returns a sum of what others read of a crate; of a program, which has no rlib, of all its sources."""
+    """Returns a sum of what a function of a crate reads of it; of a program, which has no rlib, of all its sources."""
     if not os.path.isdir(crate.rlib):
         return sources_sum(crate)
-    return sum_of(*[it for part in FACE for it in (part.encode(), *files(f"{crate.rlib}/{part}", OF_A_FUNCTION))])
+    whole = [FOR_THE_COMPILER.sub(b"", it) for it in files(f"{crate.rlib}/{WHOLE}")]
+    return sum_of(*whole, *proved_by(crate))
+
+
+def head(item):
+    """Returns the first line of an item, as the interface writes it."""
+    return FOR_THE_COMPILER.sub(b"", item.split(b"\n", 1)[0]).rstrip(b" ;")
+
+
+def public_items(whole, interface):
+    """Returns the items of a source without bodies that the interface shows too, with all their clauses. An item begins
+    at the start of a line, and its clauses are indented."""
+    shown = {head(line) for line in interface.split(b"\n")}
+    items = re.split(rb"\n(?=\S)", whole)
+    return [FOR_THE_COMPILER.sub(b"", it) for it in items if head(it) in shown]
+
+
+def public_face(crate):
+    """Returns a sum of what a crate above reads; of an rlib without an interface, its face."""
+    top = f"{crate.rlib}/{INTERFACE}"
+    if not os.path.isdir(top):
+        return face(crate)
+    shown = [FOR_THE_COMPILER.sub(b"", it) for it in files(top)]
+    whole = dict(zip(*[iter(files(f"{crate.rlib}/{WHOLE}"))] * 2))
+    items = [it for name, text in zip(*[iter(shown)] * 2) for it in public_items(whole[name], text)]
+    return sum_of(*shown, *items, *proved_by(crate))
 
 
 def is_read_whole(crate):
@@ -111,12 +146,12 @@ def sums(crate, seen):
     if not seen:
         seen.update(kit=kit_sum(), judges=judges_sum())
     below = sorted(crate.below(), key=lambda it: it.name)
-    for it in (crate, *below):
+    for it in below:
         if it.name not in seen:
-            seen[it.name] = face(it)
+            seen[it.name] = public_face(it)
     kind = repr((sorted(crate.said.items()), crate.is_program, [*crate.of_kit])).encode()
     faces = [it for dep in below for it in (dep.name.encode(), seen[dep.name])]
-    above = sum_of(seen["kit"], seen["judges"], kind, *faces, seen[crate.name])
+    above = sum_of(seen["kit"], seen["judges"], kind, *faces, face(crate))
     return {
         edit: sum_of(above, own(crate, edit), os.path.basename(edit).encode(), read(edit)).hex()[:DIGITS]
         for edit in edits_of(crate)[0]

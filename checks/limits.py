@@ -2,8 +2,9 @@
 """Each limit at its value and one past it, through the program: checks/limits.py PROGRAM.
 
 The limits are those of docs/SPECIFICATION.md. What is past a limit has the fault that is told here, and
-nothing is written. What is at the limit is answered as checks/rules.py does, a script as checks/runs.py does.
-Texts that are larger than any buffer are among them. The last line is 'N passed, M failed'.
+nothing is written. A picture of more entries than it shows says so. What is at the limit is answered as checks/rules.py
+does, a script as checks/runs.py does. Texts that are larger than any buffer are among them. The last line is
+'N passed, M failed'.
 """
 
 import json
@@ -187,9 +188,31 @@ def is_so(program, words, text, fault):
     return answer == read and answer[0] < 3
 
 
+def drawn(program, entries, *words):
+    """The picture of a lock that one thread acquires and releases, without the line that says what it shows of it."""
+    pairs = ["0 got x 1", "0 gave x 1"] * (entries // 2)
+    text = history("lock fair seats 1 conditions 0 cap 4096", pairs).encode()
+    done = subprocess.run([program, "draw", *words], input=text, capture_output=True, timeout=60)
+    lines = done.stdout.splitlines()
+    said = [line for line in lines if line.startswith(b"<text x='8' y='36'>")]
+    return [line for line in lines if line not in said], said
+
+
+def pictures(program):
+    """A picture for which nobody chose the entries shows the first 2,000, and says so if there are more."""
+    yield "draw 2000 entries", drawn(program, 2000) == drawn(program, 2000, "--from", "0")
+    first, said = drawn(program, 2002)
+    is_said = len(said) == 1 and b">the first 2000 entries of 2002;" in said[0]
+    yield "draw 2002 entries", is_said and first == drawn(program, 2002, "--from", "0", "--to", "1999")[0]
+
+
 def main(words):
     program = str(pathlib.Path(words[0]).resolve())
     passed = failed = 0
+    for name, good in pictures(program):
+        passed, failed = passed + good, failed + (not good)
+        if not good:
+            print(f"failed: {name}")
     for asked, text, fault in (*headers(), *lines(), *holds(), *scripts(), *json_limits(), *crowds()):
         good = is_so(program, asked, text, fault)
         passed, failed = passed + good, failed + (not good)

@@ -1,29 +1,55 @@
 #!/usr/bin/env python3
-"""Says whether README, the pages of docs/ and the pages CALLING.md show what the sources have.
+"""Says whether the pages show what the sources have: README, CONTRIBUTING, docs/, CALLING.md and those of bindings/.
 
 usage: checks/pages.py [--write]      at the top of the repository
 
-- A caller, a block ```rust, is cut where a line without indentation follows a blank one. Each part has to stand
-  in some source, where it is checked and run, as it stands in the page, but for the indentation of the whole.
-  A block ```antt has to stand in some file of specs/ or proofs/ likewise.
+- A block of code is cut where a line without indentation follows a blank one. Each part has to stand in some
+  file, where it is proved or run, as it stands in the page, but for the indentation of the whole: a block ```rust
+  in a source of crates/ or bindings/, ```antt in a file of specs/ or proofs/, and ```c, ```cpp, ```java and
+  ```python in a file of that language in bindings/.
+- A block without a language, fenced or indented by four, is cut where a line is empty or `...`. Each part has to
+  stand in a file of examples/, or in one of cases/ as what is asked or answered.
+- A block ```sh is a list of commands and ```text is what they print. They stand only in pages whose commands a
+  check runs, exactly as they are written: `RUN` names these pages and the check of each.
+- Any other block has a mark in the lines before it, '<!-- not checked: WHY -->'.
+- A link leads to a file that is there, and if it names a heading, to that heading.
 - A table of contracts has a row for each file that it links, with all public functions of that file.
 - A reference stands between the lines '<!-- made by checks/pages.py: NAMES -->' and '<!-- end -->'. It has what the
   sources of the page's crate say of these types and functions: their comments, their declarations, and each public
   function with its contract. The name `head` stands for the head of the crate. Each name that the crate `locks` passes
   on has a reference in the page of its own crate. Elsewhere no page quotes a contract.
 
---write writes rows and references anew. The last line is 'N parts and rows, M that no source has', and the status is
-1 where any is not as the sources.
+--write writes rows and references anew. The last line is 'N parts and rows, M not as the sources', and the
+status is 1 if M is not 0.
 """
 import glob
 import os
 import re
 import sys
+from typing import NamedTuple
 
 import bodies
 import items
 
-BLOCK = re.compile(r"(?ms)^```(?:rust|antt)\n(.*?)^```$")
+FENCE = re.compile(r"^( *)```(\w*)$")
+INDENTED, ITEM = re.compile(r"^ {4,}\S"), re.compile(r"^ *(?:[-*]|\d+\.) ")
+MARK = re.compile(r"^ *<!-- not checked: \S.* -->$")
+# Pages whose commands are run, each by its check.
+RUN = {"docs/FIRST_HOUR.md": "first_hour.py", "docs/OWN_REPOSITORY.md": "own_repository.py"}
+# Where the code of a language stands.
+HOMES = {
+    "rust": ("crates/*/src/**/*.rt", "bindings/rust/**/*.rs"),
+    "antt": ("crates/*/specs/**/*.antt", "crates/*/proofs/**/*.antt"),
+    "c": ("bindings/**/*.c", "bindings/**/*.h"),
+    "cpp": ("bindings/**/*.cpp", "bindings/**/*.hpp"),
+    "java": ("bindings/**/*.java",),
+    "python": ("bindings/**/*.py",),
+    "": ("examples/*.*", "cases/*.cases"),
+}
+# What a line of a case begins with, before what is asked or answered.
+ASKED = re.compile(r"^[<>] ?")
+LINK = re.compile(r"\]\((?!\w+:)([^()\s#]*)(?:#([^()\s]*))?\)")
+HEADING = re.compile(r"(?m)^#+ (.*)$")
 ROW = re.compile(r"(?m)^\| \[(src/[\w/]+\.rt)\]\(\1\) \|.*\|$")
 QUOTED = re.compile(r"(?ms)^```text\n(.*?)^```$")
 CLAUSE = re.compile(r"(?m)^ *(?:requires|ensures)\b")
@@ -34,10 +60,53 @@ FACADE = "crates/locks"
 PUBLIC = re.compile(r"(?m)^( *)(pub )?(?:const )?fn (\w+)")
 
 
-def parts(page):
-    """Returns the parts of a page's blocks, each as its lines."""
-    blocks = BLOCK.findall(page)
-    return [part.split("\n") for block in blocks for part in re.split(r"\n\n+(?=\S)", block.strip("\n"))]
+class Block(NamedTuple):
+    """A block of a page: its language, its lines without their indentation, and whether it is marked as not checked."""
+
+    kind: str
+    lines: list
+    is_marked: bool
+
+
+def is_marked(lines):
+    """Whether the last of these lines that says something is a mark."""
+    said = [it for it in lines if it.strip()]
+    return bool(said and MARK.match(said[-1]))
+
+
+def end_of(lines, at, indent):
+    """Returns where the block that begins at this line ends, in a page in which fences are indented so."""
+    if indent is not None:
+        return next((to for to in range(at, len(lines)) if lines[to] == f"{indent}```"), len(lines))
+    end = at
+    for to in range(at, len(lines)):
+        if INDENTED.match(lines[to]):
+            end = to + 1
+        elif lines[to].strip():
+            break
+    return end
+
+
+def blocks(page):
+    """Returns the blocks of a page, fenced ones and those that are indented by four."""
+    lines, at, found = page.split("\n"), 0, []
+    while at < len(lines):
+        fence = FENCE.match(lines[at])
+        begins = INDENTED.match(lines[at]) and not ITEM.match(lines[at]) and (at == 0 or not lines[at - 1].strip())
+        if fence or begins:
+            first, indent = (at + 1, fence[1]) if fence else (at, None)
+            end = end_of(lines, first, indent)
+            cut = len(indent) if fence else 4
+            found.append(Block(fence[2] if fence else "", [it[cut:] for it in lines[first:end]], is_marked(lines[:at])))
+            at = end
+        at += 1
+    return found
+
+
+def parts(block):
+    """Returns the parts of a block, each as its lines."""
+    between = r"\n\n+(?=\S)" if block.kind else r"\n\n+|\n(?:\.\.\.\n)"
+    return [it.split("\n") for it in re.split(between, "\n".join(block.lines).strip("\n")) if it]
 
 
 def stands(part, source):
@@ -126,32 +195,79 @@ def missing(top):
             yield f"crates/{crate}/CALLING.md: no reference of {name}"
 
 
+def anchors_of(text):
+    """Returns the names by which links lead to the headings of a page."""
+    said = (re.sub(r"[^\w\- ]", "", it).strip().lower() for it in HEADING.findall(text))
+    return {it.replace(" ", "-") for it in said}
+
+
+def dead_links(page, text):
+    """Returns the links of a page that lead nowhere in the repository."""
+    for it in LINK.finditer(text):
+        file = os.path.join(os.path.dirname(page), it[1]) if it[1] else page
+        if not os.path.exists(file):
+            yield f"{it[1]} is not there"
+        elif it[2] and it[2] not in anchors_of("\n".join(lines_of(file))):
+            yield f"{it[1]} has no heading {it[2]}"
+
+
+def strays_of_block(page, block, sources):
+    """Returns how many parts a block has, and what is to be said of those that nothing holds."""
+    if block.kind in ("sh", "text"):
+        is_run = any(page.endswith(f"/{it}") or page == it for it in RUN)
+        return 1, [] if is_run or block.is_marked else [f"no check runs this, and no mark says why: {block.lines[0]}"]
+    if block.is_marked:
+        return 1, []
+    if block.kind not in HOMES:
+        return 1, [f"a block of {block.kind}, a language that no check knows: {block.lines[0]}"]
+    found, files = parts(block), sources(block.kind)
+    missing_ones = [it[0] for it in found if not any(stands(it, file) for file in files)]
+    return len(found), [f"no file has, and no mark says why: {it}" for it in missing_ones]
+
+
 def strays_of(page, text, sources):
-    """Returns how many parts and rows a page has, and the first lines of those that aren't as the sources."""
+    """Returns how many parts and rows a page has, and what is to be said of those that are not as the sources."""
     made = [*MADE.finditer(text)]
     text = MADE.sub(lambda it: it[2] if it[1] == "head" else "", text)
-    callers, rows = parts(text), [*ROW.finditer(text)]
-    strays = [part[0] for part in callers if not any(stands(part, it) for it in sources)]
-    strays += [it[0] for it in rows if row_of(page, it[1]) != it[0]]
-    strays += [f"the reference of {it[1]} as it stands" for it in made if made_of(page, it[1]) != it[2]]
-    strays += [it.strip() for block in QUOTED.findall(text) for it in CLAUSE.findall(block)]
-    return len(callers) + len(rows) + len(made), strays
+    rows, count, strays = [*ROW.finditer(text)], 0, []
+    for block in blocks(text):
+        number, said = strays_of_block(page, block, sources)
+        count, strays = count + number, strays + said
+    again = "is not as the sources have it: checks/pages.py --write writes it anew"
+    strays += [f"the row of {it[1]} {again}" for it in rows if row_of(page, it[1]) != it[0]]
+    strays += [f"the reference of {it[1]} {again}" for it in made if made_of(page, it[1]) != it[2]]
+    strays += [f"quotes a clause: {it.strip()}" for block in QUOTED.findall(text) for it in CLAUSE.findall(block)]
+    return count + len(rows) + len(made), strays
 
 
 def pages_of(top):
-    return sorted(it for some in ("README.md", "docs/*.md", "crates/*/CALLING.md") for it in glob.glob(f"{top}/{some}"))
+    some = ("README.md", "CONTRIBUTING.md", "docs/*.md", "crates/*/CALLING.md", "bindings/**/*.md")
+    return sorted(path for it in some for path in glob.glob(f"{top}/{it}", recursive=True))
+
+
+def sources_of(top):
+    """Returns a function from a language to the lines of each file in which its code stands."""
+    kept = {}
+
+    def sources(kind):
+        if kind not in kept:
+            files = {it for some in HOMES[kind] for it in glob.glob(f"{top}/{some}", recursive=True)}
+            kept[kind] = [lines_of(it) for it in sorted(files)]
+            if not kind:
+                kept[kind] = [[ASKED.sub("", it) for it in lines] for lines in kept[kind]]
+        return kept[kind]
+
+    return sources
 
 
 def checked(top):
-    """Returns how many parts and rows there are, and of each that no source has its page and first line."""
-    kinds = ("src/**/*.rt", "specs/**/*.antt", "proofs/**/*.antt")
-    files = [it for kind in kinds for it in glob.glob(f"{top}/crates/*/{kind}", recursive=True)]
-    sources, strays = [lines_of(it) for it in files], [*missing(top)]
+    """Returns how many parts and rows there are, and what is to be said of those that are not as the sources."""
+    sources, strays = sources_of(top), [*missing(top)]
     count = len(strays)
     for page in pages_of(top):
         number, found = strays_of(page, "\n".join(lines_of(page)), sources)
         count += number
-        strays += [f"{page[len(top) + 1 :]}: {it}" for it in found]
+        strays += [f"{page[len(top) + 1 :]}: {it}" for it in [*found, *dead_links(page, "\n".join(lines_of(page)))]]
     return count, strays
 
 
@@ -173,8 +289,8 @@ def main(words):
         written(".")
     count, strays = checked(".")
     for it in strays:
-        print(f"checks: no source has {it}")
-    print(f"{count} parts and rows, {len(strays)} that no source has")
+        print(f"checks: {it}")
+    print(f"{count} parts and rows, {len(strays)} not as the sources")
     return 1 if strays else 0
 
 

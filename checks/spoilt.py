@@ -4,7 +4,8 @@ checks/spoilt.py PROGRAM [SEED [TEXTS]].
 
 A SEED, as the hash of a commit, chooses one script and one other file of examples/. Of each some TEXTS are
 made, 12,000 if no number is given: each byte has as many values, first those that mean something, then others
-by chance. Without a SEED all files are taken, with all values, which takes an hour.
+by chance. Of all other files each byte has one value, which the seed chooses. Without a SEED all files are taken,
+with all values, which takes an hour.
 
 The program must answer each text as checks/rules.py does: with its first fault and nothing written, or whole.
 A script that is still good must be run as checks/runs.py says; one of several threads may wait for ever, so
@@ -116,27 +117,32 @@ def tried(path, file, places, count, seed):
 
 
 def files_by(seed):
-    """The script and the other file that a seed chooses, or all files, of each content one."""
+    """The files that get many values: the script and the other file that a seed chooses, or all. And the others. Of
+    those with the same content there is one."""
     found = {file.read_bytes(): file for file in sorted(EXAMPLES.iterdir()) if file.suffix in KINDS}
     files = sorted(found.values())
     if seed is None:
-        return files
+        return files, []
     chance = random.Random(seed)
     of_a_kind = lambda is_script: [file for file in files if (file.suffix == ".script") == is_script]
-    return [chance.choice(of_a_kind(True)), chance.choice(of_a_kind(False))]
+    chosen = [chance.choice(of_a_kind(True)), chance.choice(of_a_kind(False))]
+    return chosen, [file for file in files if file not in chosen]
 
 
 def main(words):
     seed = words[1] if len(words) > 1 else None
     texts = int(words[2]) if len(words) > 2 else 12_000
     parts = []
-    for file in files_by(seed):
+    chosen, others = files_by(seed)
+    for file in chosen:
         length = file.stat().st_size
         count = 256 if seed is None else max(len(TELLING), texts // length)
         parts.append((words[0], file, None, count, seed))
         places = [range(at, min(at + 20, length)) for at in range(0, length, 20)]
         parts += [(words[0], file, some, count, seed) for some in places]
         print(f"{file.name}, {min(count, 255)} values a byte")
+    parts += [(words[0], file, range(file.stat().st_size), 1, seed) for file in others]
+    print(f"{len(others)} other files, 1 value a byte")
     told, wrong = collections.Counter(), []
     with multiprocessing.Pool() as pool:
         for some, bad in pool.starmap(tried, parts, 1):

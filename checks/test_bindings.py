@@ -1,5 +1,13 @@
 """How the step of the bindings makes the library, and reads what make check prints."""
+import contextlib
+import io
+import os
+import pathlib
+import sys
+import tempfile
+import types
 import unittest
+from unittest import mock
 
 import bindings
 
@@ -15,10 +23,77 @@ class Numbers(unittest.TestCase):
 
 class Making(unittest.TestCase):
     def test_libraries_that_stand_are_not_made_anew(self):
-        self.assertEqual(bindings.making(False), ["rt", "lib"])
-        words = bindings.making(True)
-        self.assertEqual((words[1], words[-1]), ("build", bindings.CORE))
-        self.assertIn("staticlib", words)
+        for is_built, stand in ((True, False), (False, True), (True, True)):
+            with mock.patch.object(bindings, "stand_below", return_value=stand):
+                words, time = bindings.making(is_built)
+            self.assertEqual((words[1], words[-1]), ("build", bindings.CORE))
+            self.assertIn("staticlib", words)
+            self.assertIn("some minutes", time)
+
+    def test_other_libraries_are_proved_first(self):
+        with mock.patch.object(bindings, "stand_below", return_value=False):
+            words, time = bindings.making(False)
+        self.assertEqual(words, ["rt", "lib"])
+        self.assertIn("40 minutes", time)
+
+
+class Standing(unittest.TestCase):
+    """Libraries stand unless one is missing, or has a source that is newer."""
+
+    def setUp(self):
+        folder = tempfile.TemporaryDirectory()
+        self.addCleanup(folder.cleanup)
+        self.below = [self.library(f"{folder.name}/{name}") for name in ("low", "high")]
+        self.crate = types.SimpleNamespace(below=lambda: self.below)
+
+    def library(self, folder):
+        made = types.SimpleNamespace(folder=folder, rlib=f"{folder}/out/rlib/it.rlib")
+        for file, time in ((f"{folder}/src/lib.rt", 100), (f"{folder}/proofs/deep/It.antt", 200)):
+            self.write(file, time)
+        self.write(f"{made.rlib}/format", 300)
+        return made
+
+    def write(self, file, time):
+        os.makedirs(os.path.dirname(file), exist_ok=True)
+        pathlib.Path(file).touch()
+        os.utime(file, (time, time))
+
+    def test_all_stand(self):
+        self.assertTrue(bindings.stand_below(self.crate))
+
+    def test_one_is_missing(self):
+        os.remove(f"{self.below[1].rlib}/format")
+        self.assertFalse(bindings.stand_below(self.crate))
+
+    def test_a_source_is_newer(self):
+        for file in ("src/lib.rt", "proofs/deep/It.antt", "specs/Lib.antt"):
+            self.setUp()
+            self.write(f"{self.below[0].folder}/{file}", 400)
+            self.assertFalse(bindings.stand_below(self.crate), file)
+
+
+class Log(unittest.TestCase):
+    """What the prover prints is shown only if it fails."""
+
+    def made(self, script):
+        words = [sys.executable, "-c", script]
+        with tempfile.TemporaryDirectory() as folder, contextlib.redirect_stdout(io.StringIO()) as said:
+            with mock.patch.multiple(bindings, CORE=f"{folder}/core.a", LOG=f"{folder}/log", ROOT=folder):
+                os.makedirs(f"{folder}/crates/aqs_c")
+                with mock.patch.object(bindings, "making", return_value=(words, "soon")):
+                    return bindings.made(False), said.getvalue()
+
+    def test_one_that_was_made(self):
+        is_made, said = self.made("print('error[of a quick pass]'); open('../../core.a', 'w')")
+        self.assertTrue(is_made)
+        self.assertNotIn("error", said)
+        self.assertIn("soon", said)
+
+    def test_one_that_was_not(self):
+        is_made, said = self.made("import sys; print('error[true]', file=sys.stderr); sys.exit(3)")
+        self.assertFalse(is_made)
+        self.assertIn("error[true]", said)
+        self.assertIn("status 3", said)
 
 
 if __name__ == "__main__":

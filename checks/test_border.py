@@ -1,6 +1,7 @@
 """A header that differs from the exports in any way is found, and the one in bindings/ doesn't differ."""
 import pathlib
 import shutil
+import subprocess
 import tempfile
 import unittest
 
@@ -69,7 +70,7 @@ class Headers(unittest.TestCase):
         self.plant("aqs.h", "    AQS_NO_SPACE,", "    AQS_MORE,\n    AQS_NO_SPACE,")
         found = "\n".join(border.copies_differ(include=self.room))
         self.assertIn("object.rs", found)
-        self.assertIn("aqs.py", found)
+        self.assertIn("_library.py", found)
         self.plant("aqs.h", "    AQS_TIMED_OUT,", "    AQS_LESS,\n    AQS_TIMED_OUT,")
         found = "\n".join(border.copies_differ(include=self.room))
         self.assertIn("error.rs", found)
@@ -83,6 +84,27 @@ class Sources(unittest.TestCase):
         self.assertEqual(len(read.structs["AqsAnswer"]), 15)
         for family in [*border.FAMILIES.values(), "AQS_IS_"]:
             self.assertTrue(any(name.startswith(family) for name in read.numbers), family)
+
+
+class Names(unittest.TestCase):
+    """What a library shows beside the names of aqs.h."""
+
+    def shown(self, source):
+        with tempfile.TemporaryDirectory() as room:
+            library = pathlib.Path(f"{room}/it.a")
+            words = ["cc", "-x", "c", "-c", "-", "-o", f"{room}/it.o"]
+            subprocess.run(words, input=source, text=True, check=True)
+            subprocess.run(["ar", "rcs", library, f"{room}/it.o"], check=True)
+            return border.inner_names(library)
+
+    def test_names_of_aqs_alone(self):
+        self.assertEqual(self.shown("int aqs_lock_lock; static int rattle_alloc;"), [])
+
+    def test_another_name(self):
+        self.assertEqual(self.shown("int aqs_lock_lock; int rattle_alloc;"), ["it.a shows rattle_alloc"])
+
+    def test_no_name(self):
+        self.assertEqual(self.shown("static int rattle_alloc;"), ["it.a shows no names"])
 
 
 if __name__ == "__main__":

@@ -15,7 +15,7 @@ class Counts(unittest.TestCase):
         self.assertEqual(counts("print('20 passed, 3 failed'); exit(1)"), (20, 3))
 
     def test_what_breaks_off_has_failed(self):
-        self.assertEqual(counts("print('20 passed, 0 failed'); raise OSError"), (0, 1))
+        self.assertEqual(counts("print('20 passed, 0 failed', flush=True); raise OSError"), (0, 1))
         self.assertEqual(counts("print('20 passed, 0 failed'); exit(1)"), (20, 1))
         self.assertEqual(counts("print('20 passed, 0 failed', end='')"), (0, 1))
 

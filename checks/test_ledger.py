@@ -23,6 +23,20 @@ pub fn two() -> u32
 }
 """
 EDIT = "file: src/lib.rt\nold:     1\nnew:     3\n"
+INTERFACE = """\
+impl Clock {
+pub fn now ( & self ) -> u64
+    ensures { } ;
+}
+"""
+WHOLE = """\
+impl Clock {
+# [ inline ( always ) ] pub fn now ( & self ) -> u64
+    ensures { result ≡ self.now } ;
+# [ cold ] fn wind ( & mut self )
+    ensures { self.new ≡ 0 } ;
+}
+"""
 
 
 class Lines(unittest.TestCase):
@@ -81,6 +95,21 @@ class Lines(unittest.TestCase):
         self.assertFalse(self.changes("high/proofs/two/Answers.antt", "another"))
         self.assertFalse(self.changes("low/src/lib.rt", SOURCE.replace("    2\n", "    4 - 2\n")))
         self.assertFalse(self.changes("low/out/low.rlib/lang/antt/proofs/one/Answers.antt", "another"))
+
+    def test_of_a_crate_below_only_what_is_public_counts(self):
+        self.write("low/out/low.rlib/interface/lang/src/lib.rt", INTERFACE)
+        path = "low/out/low.rlib/lang/src/lib.rt"
+        self.write(path, WHOLE)
+        self.assertFalse(self.changes(path, WHOLE.replace("self.new ≡ 0", "self.new ≡ 1")))
+        self.assertFalse(self.changes(path, WHOLE.replace("# [ inline ( always ) ] ", "")))
+        self.assertTrue(self.changes(path, WHOLE.replace("result ≡ self.now", "result ≡ 0")))
+        self.assertTrue(self.changes("low/out/low.rlib/interface/lang/src/lib.rt", INTERFACE.replace("now", "then")))
+
+    def test_of_a_wrong_bodys_own_crate_all_contracts_count(self):
+        self.write("high/out/high.rlib/interface/lang/src/lib.rt", INTERFACE)
+        path = "high/out/high.rlib/lang/src/lib.rt"
+        self.write(path, WHOLE)
+        self.assertTrue(self.changes(path, WHOLE.replace("self.new ≡ 0", "self.new ≡ 1")))
 
     def test_a_kit_with_another_logic_changes_the_sum_and_one_with_the_same_does_not(self):
         mock.patch.stopall()

@@ -1,0 +1,316 @@
+#!/usr/bin/env python3
+"""The pages of `aqs draw --page`: checks/page.py PROGRAM.
+
+- The data of each page are what checks/rules.py makes of the history: its stretches, marks, entries and amounts, and
+  who waits before the first entry that is shown.
+- The fixed parts are the same in each page. Their policy names the hashes of their style and of their script, and they
+  name nothing outside the page.
+- The page's script runs under node, over `page_dom.js`. The panel says of an entry what `aqs explain` says of the state
+  after it, at ten entries of each history. Keys, buttons, the slider, the search and clicks on bars move it.
+- A page of 10,000 entries has at most 5 MB, and shows its first entry within a second.
+- Where chromium or google-chrome is found, it opens each page without a network, and its panel says the same.
+
+What is left out for want of node or of a browser is said. The last line is 'N passed, M failed'.
+"""
+
+import base64
+import hashlib
+import json
+import pathlib
+import re
+import shutil
+import subprocess
+import sys
+import tempfile
+
+import drawn
+import rules
+
+TOP = pathlib.Path(__file__).resolve().parent.parent
+DOM = TOP / "checks" / "page_dom.js"
+SECONDS = 60
+MOST_BYTES, MOST_SECONDS = 5_000_000, 1.0
+HISTORIES = ["bounded_buffer", "writer_between_readers_fair", "permits_below_zero", "latch_counts_down",
+             "taken_past_the_line"]
+BROWSERS = ("chromium", "chromium-browser", "google-chrome")
+
+
+def run(words, given=b""):
+    done = subprocess.run([str(word) for word in words], input=given, capture_output=True, timeout=SECONDS)
+    return done.returncode, done.stdout, done.stderr
+
+
+def page_of(program, history, words=()):
+    return run([program, "draw", "--page", *words], history)[1].decode()
+
+
+def parts(page):
+    """What stands before the data, the data, and what stands after."""
+    data = r"(.*<script type='application/json' id='data'>\n)(\{.*?\}\n)(</script>\n<script>.*)"
+    found = re.fullmatch(data, page, re.S)
+    return found.groups() if found else (page, "", "")
+
+
+def is_closed(head, foot):
+    """Whether a page's policy allows its own style and script alone, and nothing in it leads elsewhere."""
+    style = re.search(r"<style>(.*?)</style>", head, re.S).group(1)
+    script = re.search(r"<script>(.*?)</script>", foot, re.S).group(1)
+    hashes = [base64.b64encode(hashlib.sha256(text.encode()).digest()).decode() for text in (script, style)]
+    policy = (f"default-src 'none'; script-src 'sha256-{hashes[0]}'; style-src 'sha256-{hashes[1]}'; "
+              "base-uri 'none'; form-action 'none'")
+    if policy not in head:
+        print(f"the policy must be: {policy}")
+        return False
+    outside = (head + foot).replace("'http://www.w3.org/2000/svg'", "")
+    return re.search(r"https?:|\bsrc=|\bhref=|url\(|@import|fetch\(|XMLHttp|innerHTML|eval\(", outside) is None
+
+
+def kinds(key):
+    """The kind of a stretch as the data spell it, and its place among the kinds of a seat."""
+    _, kind, condition = key
+    return (kind, "xswz".index(kind)) if condition is None else (f"z{condition}", 3 + condition)
+
+
+def waiting(state):
+    """Who waits, in order."""
+    lines = [',"start":{"line":["seat"', *(f",{arrival.seat}" for arrival in state.line)]
+    lines.append('],"sleepers":[["condition","seat"]')
+    lines += [f",[{at},{seat}]" for at, asleep in enumerate(state.sleepers) for seat in asleep]
+    return [*lines, "]}"]
+
+
+def wanted(text, first=None, last=None):
+    """The data of the page of a history, by the rules: its lines. `first` and `last` are those chosen."""
+    header, lines = rules.read_history(text)
+    state, legal, wrong = lines.start(), [], None
+    folded = lines.folded()
+    for number, entry in enumerate(lines.entries):
+        if not state.is_entry(entry):
+            wrong = folded + number
+            break
+        state.add(entry)
+        legal.append(entry)
+    end = drawn.MOST if first is None and last is None else len(legal) if last is None else max(0, last + 1 - folded)
+    legal = legal[:end]
+    begin = min(max(0, (first or 0) - folded), len(legal))
+    state = lines.start()
+    for entry in legal[:begin]:
+        state.add(entry)
+    shown, before = legal[begin:], waiting(state)
+    stretches = drawn.bars(lines.start() if begin == 0 else state, shown)
+    rows = sorted((end, key[0], kinds(key)[1], kinds(key)[0], start, holds) for key, holds, start, end in stretches)
+    is_cut = first is None and last is None and len(lines.entries) > drawn.MOST
+    told = [f'{{"header":"{header.part.decode()}"',
+            f',"folded":"{folded}","entries":"{folded + len(lines.entries)}","from":{begin},"to":{len(legal)}'
+            f',"cut":{str(is_cut).lower()},"wrong":' + ("null" if wrong is None else f'"{wrong}"'),
+            ',"stretches":[["kind","seat","first","last","holds"]']
+    told += [f',["{kind}",{seat},{begin + start},{begin + end},"{holds}"]' for end, seat, _, kind, start, holds in rows]
+    told += ["]", ',"marks":[["sign","seat","entry"]']
+    for number, entry in enumerate(shown):
+        word = entry.word.split()[0]
+        if word in drawn.MARKS:
+            told.append(f',["{word.replace("signalall", "signal")}",{entry.seat},{begin + number}]')
+    told += ["]", ',"amounts":["amount"', *amounts(lines, legal, begin), "]"]
+    told += [',"entries_shown":[["seat","words"]']
+    told += [f',[{entry.seat},"{rules.spelt(entry)}"]' for entry in shown]
+    return [*told, "]", *before, "}"]
+
+
+def has_data(page, text):
+    """Whether a page has the data of a history of which no entries are chosen."""
+    return parts(page.decode())[1].splitlines() == wanted(text)
+
+
+def amounts(lines, legal, begin):
+    """The free permits, or the count, after each entry."""
+    state = lines.start()
+    for number, entry in enumerate(legal):
+        state.add(entry)
+        if number >= begin and state.header.kind in ("semaphore", "latch"):
+            yield f',"{state.free if state.header.kind == "semaphore" else state.count}"'
+
+
+def plural(count, word):
+    return f"{count} {word}" if count == "1" else f"{count} {word}s"
+
+
+def panel(explained):
+    """What the panel must say of the state that `aqs explain` told."""
+    lines = [line.split() for line in explained.splitlines()]
+    holds = [words for words in lines if words[0] == "holds"]
+    amount = {words[0]: words[1] for words in lines if words[0] in ("free", "count", "readers")}
+    owners = [f"seat {words[1]} with {plural(words[3], 'hold')}" for words in holds if words[3] != "0"]
+    sharing = [(words[1], words[5]) for words in holds if words[5] != "0"]
+    told = []
+    if "free" in amount:
+        held = [f"seat {seat} with {plural(count, 'permit')}" for seat, count in sharing]
+        told += [f"Held: {', '.join(held) or 'nothing'}", f"Free permits: {amount['free']}"]
+    elif "count" in amount:
+        told.append(f"Count: {amount['count']}")
+    else:
+        told.append(f"Owner: {', '.join(owners) or 'nobody'}")
+        if "readers" in amount:
+            readers = [f"seat {seat} with {plural(count, 'hold')}" for seat, count in sharing]
+            told.append(f"Readers: {', '.join(readers) or 'nobody'}")
+    queue = [f"seat {words[1]}" for words in lines if words[0] == "line"]
+    told.append(f"Queue, first to last: {', '.join(queue) or 'nobody'}")
+    asleep = {}
+    for words in lines:
+        if words[0] == "sleeper":
+            asleep.setdefault(words[1], []).append(f"seat {words[2]}")
+    told += [f"Asleep on condition {at}, longest first: {', '.join(asleep[at])}" for at in sorted(asleep, key=int)]
+    return told
+
+
+def acted(file, actions):
+    """The milliseconds before a page shows something under node, and what it shows then and after each action."""
+    status, said, error = run(["node", DOM, file], json.dumps(actions).encode())
+    if status != 0:
+        print(error.decode())
+        return 0.0, []
+    milliseconds, *shown = json.loads(said)
+    return milliseconds, shown
+
+
+def state_after(program, history, number):
+    return panel(run([program, "explain", "--at", number + 1], history)[1].decode())
+
+
+def stepped(program, name, history, words, first, last, scratch):
+    """At ten entries the panel says what `aqs explain` says of the state after them."""
+    file = scratch / "page.html"
+    file.write_text(page_of(program, history, words))
+    numbers = sorted({first + (last - first) * part // 9 for part in range(10)})
+    told = json.loads(parts(file.read_text())[1])
+    folded = int(told["folded"])
+    _, shown = acted(file, [{"set": ["at", str(number - folded)]} for number in numbers])
+    for number, at in zip(numbers, shown[1:]):
+        good = at["entry"].startswith(f"Entry {number}: seat ") and at["state"] == state_after(program, history, number)
+        if not good:
+            print(at, state_after(program, history, number))
+        yield f"{name} {' '.join(words)}: the panel at entry {number}", good
+    yield f"{name} {' '.join(words)}: the panel at all ten", len(shown) == len(numbers) + 1
+
+
+def moves(program, history, scratch):
+    """Keys, buttons, the search and clicks on bars move the panel."""
+    file = scratch / "page.html"
+    file.write_text(page_of(program, history))
+    told = json.loads(parts(file.read_text())[1])
+    last, rows = told["to"] - 1, told["entries_shown"][1:]
+    seat = rows[last // 2][0]
+    later = next(k for k in range(1, last + 1) if rows[k][0] == seat)
+    granted = next(k for k in range(later + 1, last + 1) if rows[k][1].startswith("back "))
+    actions = [({"key": "ArrowRight"}, 1), ({"key": "ArrowRight"}, 2), ({"key": "ArrowLeft"}, 1),
+               ({"key": "End"}, last), ({"key": "ArrowRight"}, last), ({"key": "Home"}, 0),
+               ({"key": "ArrowLeft"}, 0), ({"click": "last"}, last), ({"click": "back"}, last - 1),
+               ({"click": "forward"}, last), ({"click": "first"}, 0), ({"key": "+"}, 0), ({"key": "-"}, 0),
+               ({"click": "nearer"}, 0), ({"click": "farther"}, 0),
+               ({"set": ["seat", str(seat)]}, 0), ({"click": "next"}, later), ({"set": ["seat", ""]}, later),
+               ({"set": ["kind", "back"]}, later), ({"click": "next"}, granted), ({"key": "Home"}, 0),
+               ({"click": "previous"}, 0), ({"bar": 2}, told["stretches"][3][2])]
+    _, shown = acted(file, [action for action, _ in actions])
+    for (action, number), at in zip(actions, shown[1:]):
+        yield f"{json.dumps(action)} leads to entry {number}", at["entry"].startswith(f"Entry {number}: ")
+    yield "each action was answered", len(shown) == len(actions) + 1
+    yield "a search that finds nothing says so", shown[22]["found"] == "No earlier entry is like that."
+
+
+def browser():
+    return next((found for found in map(shutil.which, BROWSERS) if found), None)
+
+
+def opened(program, name, history, scratch):
+    """The page in a real browser: the panel of its first entry."""
+    file = scratch / "page.html"
+    file.write_text(page_of(program, history))
+    words = [browser(), "--headless=new", "--no-sandbox", "--disable-gpu", f"--user-data-dir={scratch}/browser",
+             "--dump-dom", file.as_uri()]
+    dumped = run(words)[1].decode()
+    lines = re.findall(r"<li>(.*?)</li>", dumped.split('<ul id="state">')[-1].split("</ul>")[0])
+    first = int(json.loads(parts(file.read_text())[1])["folded"])
+    yield f"{name}: the panel in {browser()}", lines == state_after(program, history, first)
+
+
+def is_data(program, name, history, words, chosen):
+    head, data, foot = parts(page_of(program, history, words))
+    told = wanted(history, **chosen)
+    good = data.splitlines() == told
+    if not good:
+        print("\n".join(f"{a!r} for {b!r}" for a, b in zip(data.splitlines(), told) if a != b)[:600])
+    yield f"{name} {' '.join(words)}: the data", good
+    yield f"{name} {' '.join(words)}: the fixed parts", head != "" and is_closed(head, foot)
+
+
+def history_of(name):
+    kept = TOP / "examples" / f"{name}.history"
+    return kept.read_bytes() if kept.exists() else rules.replay(kept.with_suffix(".steps").read_bytes(), True)[1]
+
+
+def results(program, scratch):
+    for name in HISTORIES:
+        history = history_of(name)
+        count = len(rules.read_history(history)[1].entries)
+        yield from is_data(program, name, history, [], {})
+        middle = count // 3
+        chosen = {"first": middle, "last": count - 2}
+        yield from is_data(program, name, history, ["--from", str(middle), "--to", str(count - 2)], chosen)
+    based = (TOP / "examples" / "sleeper_of_a_base.history").read_bytes()
+    yield from is_data(program, "sleeper_of_a_base", based, [], {})
+    if shutil.which("node") is None:
+        print("no node: the page's script is not run")
+        return
+    for name in HISTORIES:
+        history = history_of(name)
+        last = json.loads(parts(page_of(program, history))[1])["to"] - 1
+        yield from stepped(program, name, history, [], 0, last, scratch)
+        yield from stepped(program, name, history, ["--from", str(last // 3)], last // 3, last, scratch)
+    yield from moves(program, history_of("bounded_buffer"), scratch)
+    yield from large(program, scratch)
+    if browser() is None:
+        print("no chromium or google-chrome: no page is opened in a browser")
+        return
+    for name in HISTORIES:
+        yield from opened(program, name, history_of(name), scratch)
+
+
+def large(program, scratch):
+    """10,000 entries, and a history of more of which none are chosen."""
+    file, history = scratch / "large.html", long_entries(10_000)
+    file.write_text(page_of(program, history, ["--to", "9999"]))
+    milliseconds, shown = acted(file, [{"key": "End"}])
+    print(f"10,000 entries: {file.stat().st_size:,} bytes, {milliseconds:.0f} ms under node")
+    yield "10,000 entries: its size", file.stat().st_size <= MOST_BYTES
+    is_last = shown[1]["entry"].startswith("Entry 9999: ")
+    yield "10,000 entries: its time", milliseconds <= 1000 * MOST_SECONDS and is_last
+    file.write_text(page_of(program, history))
+    _, shown = acted(file, [])
+    told = "the first 2000 entries of 10000; --from and --to choose others"
+    yield "entries left out are told", shown[0]["part"] == told
+
+
+def long_entries(count):
+    """A history of a lock for which two seats contend, in groups of five entries."""
+    group = ["{a} got x 1", "{b} queued x 1", "{a} gave x 1", "{b} granted x 1", "{b} gave x 1"]
+    words = [group[n % 5].format(a=n // 5 % 256, b=(n // 5 + 7) % 256) for n in range(count)]
+    calls = sum(not word.split()[1].startswith("queued") for word in words)
+    lines = [f"aqs-history 1 lock fair seats 256 conditions 0 cap {count}"]
+    lines += [f"{n} {word}" for n, word in enumerate(words)]
+    return "\n".join([*lines, f"end {count} {calls}", ""]).encode()
+
+
+def main(program):
+    passed = failed = 0
+    with tempfile.TemporaryDirectory() as scratch:
+        for name, good in results(program, pathlib.Path(scratch)):
+            passed, failed = passed + bool(good), failed + (not good)
+            if not good:
+                print(f"FAILED: {name}")
+    print(f"{passed} passed, {failed} failed")
+    return 0 if passed and not failed else 1
+
+
+if __name__ == "__main__":
+    if len(sys.argv) != 2:
+        sys.exit(__doc__)
+    sys.exit(main(sys.argv[1]))
