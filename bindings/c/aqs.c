@@ -985,6 +985,46 @@ aqs_status_t aqs_latch_getcount(aqs_latch_t *latch, uint32_t *count) {
     return status_of_kind(kind);
 }
 
+/* Who has the object, and how many wait for it. */
+static aqs_status_t look_at(aqs_object_t *object, aqs_contention_t *contention) {
+    aqs_status_t status = AQS_OK;
+    seat_t *seat = come(object, &status);
+    if (!seat) return status;
+    uint8_t kind;
+    unsigned looks = 0;
+    while ((kind = aqs_contention_now(&seat->pass, contention)) == AQS_IS_BUSY) back_off(&looks);
+    depart(object, seat);
+    return status_of_kind(kind);
+}
+
+static aqs_status_t is_held(aqs_object_t *object, aqs_bool_t *held) {
+    aqs_contention_t contention = {.is_held = false};
+    aqs_status_t status = look_at(object, &contention);
+    if (status == AQS_OK) *held = contention.is_held;
+    return status;
+}
+
+aqs_status_t aqs_lock_is_locked(aqs_lock_t *lock, aqs_bool_t *is_locked) {
+    return is_held(&lock->object_, is_locked);
+}
+aqs_status_t aqs_rwlock_is_write_locked(aqs_rwlock_t *lock, aqs_bool_t *is_locked) {
+    return is_held(&lock->object_, is_locked);
+}
+
+aqs_status_t aqs_object_queue_length(aqs_object_t *object, uint32_t *count) {
+    aqs_contention_t contention = {.is_held = false};
+    aqs_status_t status = look_at(object, &contention);
+    if (status == AQS_OK) *count = contention.queue_length;
+    return status;
+}
+
+aqs_status_t aqs_object_waiters(aqs_object_t *object, uint32_t *count) {
+    aqs_contention_t contention = {.is_held = false};
+    aqs_status_t status = look_at(object, &contention);
+    if (status == AQS_OK) *count = (uint32_t)contention.waiting; /* at most one for each seat */
+    return status;
+}
+
 /* Why the calling thread keeps its seat: its holds. They are counted here, by the answers of the proved
    library. */
 static uint64_t stays_of_self(const aqs_object_t *object) {

@@ -214,6 +214,9 @@ AQS_CHECKED aqs_status_t aqs_lock_unlock(aqs_lock_t *lock);
 /* Returns how often the calling thread holds the lock, and whether it owns it. They record nothing. */
 uint32_t aqs_lock_holds(aqs_lock_t *lock);
 aqs_bool_t aqs_lock_is_mine(aqs_lock_t *lock);
+/* Puts into *is_locked whether any thread owns the lock. Another thread may change that before the caller
+   reads it. It records nothing. */
+AQS_CHECKED aqs_status_t aqs_lock_is_locked(aqs_lock_t *lock, aqs_bool_t *is_locked);
 
 /* Conditions have numbers from 0. Their calls are for the owner, also signal, which pthread allows anyone.
 
@@ -265,6 +268,8 @@ AQS_CHECKED aqs_status_t aqs_rwlock_wrunlock(aqs_rwlock_t *lock);
 uint32_t aqs_rwlock_read_holds(aqs_rwlock_t *lock);
 uint32_t aqs_rwlock_write_holds(aqs_rwlock_t *lock);
 aqs_bool_t aqs_rwlock_is_mine(aqs_rwlock_t *lock);
+/* Puts into *is_locked whether any thread has the write side, as aqs_lock_is_locked does of a lock. */
+AQS_CHECKED aqs_status_t aqs_rwlock_is_write_locked(aqs_rwlock_t *lock, aqs_bool_t *is_locked);
 
 /* Conditions of the write side, as those of a lock. A wait also returns AQS_HOLDS_READ, if the thread that
    writes also reads. */
@@ -340,8 +345,9 @@ AQS_CHECKED aqs_status_t aqs_mutex_wait_interruptibly(aqs_mutex_t *mutex, uint8_
 AQS_CHECKED aqs_status_t aqs_mutex_timedwait(aqs_mutex_t *mutex, uint8_t condition, uint32_t milliseconds);
 AQS_CHECKED aqs_status_t aqs_mutex_signal(aqs_mutex_t *mutex, uint8_t condition);
 AQS_CHECKED aqs_status_t aqs_mutex_signal_all(aqs_mutex_t *mutex, uint8_t condition);
-/* Returns whether the calling thread owns the mutex. It records nothing. */
+/* Return whether the calling thread owns the mutex, and whether any thread does. They record nothing. */
 aqs_bool_t aqs_mutex_is_mine(aqs_mutex_t *mutex);
+AQS_CHECKED aqs_status_t aqs_mutex_is_locked(aqs_mutex_t *mutex, aqs_bool_t *is_locked);
 
 /* Returns the lock that the mutex is made of, for the calls of a condition. */
 aqs_lock_t *aqs_mutex_as_lock(aqs_mutex_t *mutex);
@@ -382,7 +388,7 @@ void aqs_barrier_close(aqs_barrier_t *barrier);
    was. No interrupt ends it. */
 AQS_CHECKED aqs_status_t aqs_barrier_wait(aqs_barrier_t *barrier, aqs_bool_t *is_last);
 
-/* Histories ---------------------------------------------------------------------------------------------- */
+/* Any object --------------------------------------------------------------------------------------------- */
 
 /* Return any object as such, for the calls below. It lasts as long as the object. */
 aqs_object_t *aqs_lock_object(aqs_lock_t *lock);
@@ -394,6 +400,14 @@ aqs_object_t *aqs_barrier_object(aqs_barrier_t *barrier);
 
 /* Returns the policy that the object was opened with. */
 aqs_policy_t aqs_object_policy(const aqs_object_t *object);
+
+/* Put into *count how many threads are in the object's queue: those that wait for the lock, for permits or for
+   the latch; and how many wait in all: those in the queue, and those that wait on conditions. Others may come
+   or leave before the caller reads it. They record nothing. */
+AQS_CHECKED aqs_status_t aqs_object_queue_length(aqs_object_t *object, uint32_t *count);
+AQS_CHECKED aqs_status_t aqs_object_waiters(aqs_object_t *object, uint32_t *count);
+
+/* Histories ---------------------------------------------------------------------------------------------- */
 
 /* Puts the text of the history since the last trim into a buffer of `size` bytes, with no 0 at its end, and
    its length into *length. AQS_NO_SPACE: it has *length bytes, and the buffer is as it was. By the next call

@@ -157,6 +157,20 @@ inline std::string history(aqs_object_t *object) {
     return text;
 }
 
+// How many threads are in the object's queue, and how many wait in all: those there, and those on conditions.
+// Others may come or leave before the caller reads it. They record nothing.
+inline std::uint32_t queue_length(aqs_object_t *object) {
+    std::uint32_t count = 0;
+    check(aqs_object_queue_length(object, &count));
+    return count;
+}
+
+inline std::uint32_t waiters(aqs_object_t *object) {
+    std::uint32_t count = 0;
+    check(aqs_object_waiters(object, &count));
+    return count;
+}
+
 inline std::uint64_t trim(aqs_object_t *object) {
     std::uint64_t count = 0;
     check(aqs_history_trim(object, &count));
@@ -263,6 +277,14 @@ public:
     // Whether the calling thread owns it, and how often. They record nothing.
     bool is_mine() const noexcept { return aqs_lock_is_mine(&lock_); }
     std::uint32_t holds() const noexcept { return aqs_lock_holds(&lock_); }
+    // Whether any thread owns it, how many are in its queue, and how many wait in all. They record nothing.
+    bool is_locked() const {
+        bool is_locked = false;
+        detail::check(aqs_lock_is_locked(&lock_, &is_locked));
+        return is_locked;
+    }
+    std::uint32_t queue_length() const { return detail::queue_length(aqs_lock_object(&lock_)); }
+    std::uint32_t waiters() const { return detail::waiters(aqs_lock_object(&lock_)); }
     aqs_policy_t policy() const noexcept { return aqs_object_policy(aqs_lock_object(&lock_)); }
     native_handle_type native_handle() noexcept { return &lock_; }
 
@@ -331,6 +353,14 @@ public:
     std::uint64_t trim() { return detail::trim(aqs_mutex_object(&mutex_)); }
     // Whether the calling thread owns it. It records nothing.
     bool is_mine() const noexcept { return aqs_mutex_is_mine(&mutex_); }
+    // Whether any thread owns it, how many are in its queue, and how many wait in all. They record nothing.
+    bool is_locked() const {
+        bool is_locked = false;
+        detail::check(aqs_mutex_is_locked(&mutex_, &is_locked));
+        return is_locked;
+    }
+    std::uint32_t queue_length() const { return detail::queue_length(aqs_mutex_object(&mutex_)); }
+    std::uint32_t waiters() const { return detail::waiters(aqs_mutex_object(&mutex_)); }
     aqs_policy_t policy() const noexcept { return aqs_object_policy(aqs_mutex_object(&mutex_)); }
     native_handle_type native_handle() noexcept { return &mutex_; }
 
@@ -416,6 +446,15 @@ public:
     bool is_mine() const noexcept { return aqs_rwlock_is_mine(&lock_); }
     std::uint32_t write_holds() const noexcept { return aqs_rwlock_write_holds(&lock_); }
     std::uint32_t read_holds() const noexcept { return aqs_rwlock_read_holds(&lock_); }
+    // Whether any thread has the write side, how many are in the queue, and how many wait in all. They record
+    // nothing.
+    bool is_write_locked() const {
+        bool is_locked = false;
+        detail::check(aqs_rwlock_is_write_locked(&lock_, &is_locked));
+        return is_locked;
+    }
+    std::uint32_t queue_length() const { return detail::queue_length(aqs_rwlock_object(&lock_)); }
+    std::uint32_t waiters() const { return detail::waiters(aqs_rwlock_object(&lock_)); }
     aqs_policy_t policy() const noexcept { return aqs_object_policy(aqs_rwlock_object(&lock_)); }
     native_handle_type native_handle() noexcept { return &lock_; }
 
@@ -580,6 +619,8 @@ public:
 
     std::string history() const { return detail::history(aqs_sem_object(&semaphore_)); }
     std::uint64_t trim() { return detail::trim(aqs_sem_object(&semaphore_)); }
+    // How many threads wait for permits. It records nothing.
+    std::uint32_t waiters() const { return detail::waiters(aqs_sem_object(&semaphore_)); }
     native_handle_type native_handle() noexcept { return &semaphore_; }
 
 private:
@@ -638,6 +679,8 @@ public:
 
     std::string history() const { return detail::history(aqs_latch_object(&latch_)); }
     std::uint64_t trim() { return detail::trim(aqs_latch_object(&latch_)); }
+    // How many threads wait until the count is 0. It records nothing.
+    std::uint32_t waiters() const { return detail::waiters(aqs_latch_object(&latch_)); }
     native_handle_type native_handle() noexcept { return &latch_; }
 
 private:

@@ -7,7 +7,7 @@
    - Each pass is used by one call at a time. It may go to another thread: a lock, a thread's start or join,
      or an atomic that one thread releases and the other acquires then orders its calls.
    - Pointers are aligned and not null, and what they point to is nobody else's during the call.
-   - The memory of an answer has 0 or 1 in each field of type bool, also before the call.
+   - The memory of an answer or of a contention has 0 or 1 in each field of type bool, also before the call.
    - No call is made from a signal handler, nor from the forked child of a process with threads.
    - malloc, realloc and free come from one allocator, whose blocks are aligned to 16 bytes.
    Everything else is tested: a number out of range has an answer, and changes nothing. */
@@ -141,6 +141,18 @@ uint8_t aqs_available_now(aqs_pass_t *pass, int64_t *permits);
 /* Writes the count of a latch, or 0 of any other object: returns AQS_IS_ENTRY. Or returns AQS_IS_BUSY or
    AQS_IS_NO_PASS, and *count is as it was. */
 uint8_t aqs_count_now(aqs_pass_t *pass, uint32_t *count);
+
+/* Whether some seat has exclusive holds, how many seats are in the queue, and how many wait in all: those in
+   the queue, and those that wait on conditions. */
+typedef struct {
+    uint64_t waiting;
+    uint16_t queue_length;
+    bool is_held;
+} aqs_contention_t;
+
+/* Writes how the object is held and waited for: returns AQS_IS_ENTRY. Or returns AQS_IS_BUSY or
+   AQS_IS_NO_PASS, and *contention is as it was. */
+uint8_t aqs_contention_now(aqs_pass_t *pass, aqs_contention_t *contention);
 
 /* Gives a pass back, and leaves AQS_NO_PASS. The object is freed with the last of its passes. A seat whose
    call waits stands in its queue for good then, and what others ask for after it may never be granted: so let

@@ -31,6 +31,10 @@ aqs_object_t *aqs_mutex_object(aqs_mutex_t *mutex) { return aqs_lock_object(&mut
 
 aqs_bool_t aqs_mutex_is_mine(aqs_mutex_t *mutex) { return aqs_lock_is_mine(&mutex->lock_); }
 
+aqs_status_t aqs_mutex_is_locked(aqs_mutex_t *mutex, aqs_bool_t *is_locked) {
+    return aqs_lock_is_locked(&mutex->lock_, is_locked);
+}
+
 aqs_status_t aqs_mutex_lock(aqs_mutex_t *mutex) {
     return aqs_mutex_is_mine(mutex) ? AQS_TOO_MANY_HOLDS : aqs_lock_lock(&mutex->lock_);
 }

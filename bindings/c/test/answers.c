@@ -117,6 +117,12 @@ uint8_t aqs_count_now(aqs_pass_t *pass, uint32_t *count) {
     if (kind == AQS_IS_ENTRY) *count = 2147483647;
     return kind;
 }
+uint8_t aqs_contention_now(aqs_pass_t *pass, aqs_contention_t *contention) {
+    CHECK(pass->live);
+    uint8_t kind = look();
+    if (kind == AQS_IS_ENTRY) *contention = (aqs_contention_t){256, 255, true};
+    return kind;
+}
 void aqs_drop(aqs_pass_t *pass) {
     CHECK(pass->live == (uint64_t)drops + 1);
     drops++;
@@ -433,7 +439,9 @@ static void busy_objects(void) {
             kind_t kind;
             const char *name;
             int64_t gives;
-        } look_calls[] = {{SEM, "getvalue", -7}, {LATCH, "getcount", 2147483647}, {ANY, "text", 5}};
+        } look_calls[] = {{SEM, "getvalue", -7}, {LATCH, "getcount", 2147483647}, {ANY, "text", 5},
+                        {LOCK, "is_locked", 1}, {RW, "is_write_locked", 1}, {ANY, "queue_length", 255},
+                        {ANY, "waiters", 256}};
         for (size_t row = 0; row < sizeof look_calls / sizeof look_calls[0]; row++) {
             looks = 0, busy_looks = times[i];
             is_status(look_calls[row].kind, look_calls[row].name, AQS_OK, "busy");
@@ -524,6 +532,10 @@ static void looks_at_histories(void) {
             CHECK(players[0].number == (of_look == AQS_IS_ENTRY ? 5 : 77));
             is_status(SEM, "getvalue", wanted, "a look");
             is_status(LATCH, "getcount", wanted, "a look");
+            is_status(LOCK, "is_locked", wanted, "a look");
+            is_status(RW, "is_write_locked", wanted, "a look");
+            is_status(ANY, "queue_length", wanted, "a look");
+            is_status(ANY, "waiters", wanted, "a look");
             of_trim = of_look;
             is_status(ANY, "trim", is_fault ? AQS_HISTORY_FULL : wanted, "a trim");
             CHECK(players[0].number == (of_look == AQS_IS_ENTRY ? (int64_t)folded : 77));

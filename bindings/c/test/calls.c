@@ -435,6 +435,7 @@ static void numbers(void) {
     uint64_t number = 0;
     int64_t permits = 99;
     uint32_t left = 99;
+    aqs_contention_t contention = {99, 99, true};
     uint8_t byte = 0;
     CHECK(aqs_open(header, passes, 1) == AQS_CORE_OUT_OF_RANGE && !passes[0].live);
     CHECK(aqs_open(header, passes, 2) == 0);
@@ -447,6 +448,10 @@ static void numbers(void) {
     CHECK(aqs_trim_now(&none, &number) == AQS_IS_NO_PASS);
     CHECK(aqs_available_now(&none, &permits) == AQS_IS_NO_PASS && permits == 99);
     CHECK(aqs_count_now(&none, &left) == AQS_IS_NO_PASS && left == 99);
+    CHECK(aqs_contention_now(&none, &contention) == AQS_IS_NO_PASS && contention.waiting == 99);
+    CHECK(contention.queue_length == 99 && contention.is_held);
+    CHECK(aqs_contention_now(&passes[0], &contention) == AQS_IS_ENTRY && contention.waiting == 0);
+    CHECK(contention.queue_length == 0 && !contention.is_held);
     CHECK(aqs_available_now(&passes[0], &permits) == AQS_IS_ENTRY && permits == 0);
     CHECK(aqs_count_now(&passes[0], &left) == AQS_IS_ENTRY && left == 0);
     aqs_drop(&none);

@@ -231,6 +231,7 @@ static void questions() {
     aqs::shared_mutex shared(aqs::options().fair());
     CHECK(mutex.policy() == AQS_STRICT && plain.policy() == AQS_NONFAIR && shared.policy() == AQS_FAIR);
     CHECK(!mutex.is_mine() && mutex.holds() == 0 && !plain.is_mine() && !shared.is_mine());
+    CHECK(!mutex.is_locked() && !plain.is_locked() && !shared.is_write_locked());
     {
         std::lock_guard one(mutex), two(mutex);
         std::lock_guard write(shared);
@@ -239,9 +240,51 @@ static void questions() {
         CHECK(shared.is_mine() && shared.write_holds() == 1 && shared.read_holds() == 1);
         std::thread([&] {
             CHECK(!mutex.is_mine() && mutex.holds() == 0 && shared.read_holds() == 0);
+            CHECK(mutex.is_locked() && shared.is_write_locked() && !plain.is_locked());
         }).join();
     }
     CHECK(!mutex.is_mine() && mutex.holds() == 0 && shared.write_holds() == 0 && shared.read_holds() == 0);
+}
+
+// How many wait, while the main thread has what they wait for.
+static void waiters() {
+    aqs::mutex mutex;
+    aqs::plain_mutex plain;
+    aqs::shared_mutex shared;
+    aqs::semaphore permits(0);
+    aqs::latch latch(1);
+    std::unique_lock<aqs::mutex> one(mutex);
+    std::unique_lock<aqs::plain_mutex> two(plain);
+    std::unique_lock<aqs::shared_mutex> three(shared);
+    aqs::condition comes = mutex.condition();
+    bool has_come = false;
+    CHECK(mutex.waiters() + plain.waiters() + shared.waiters() + permits.waiters() + latch.waiters() == 0);
+    std::thread threads[] = {
+        std::thread([&] {
+            std::unique_lock<aqs::mutex> guard(mutex);
+            comes.wait(guard, [&] { return has_come; });
+        }),
+        std::thread([&] { std::lock_guard<aqs::plain_mutex> guard(plain); }),
+        std::thread([&] { std::shared_lock<aqs::shared_mutex> guard(shared); }),
+        std::thread([&] { permits.acquire(); }),
+        std::thread([&] { latch.wait(); }),
+    };
+    while (mutex.queue_length() != 1 || plain.queue_length() != 1 || shared.queue_length() != 1)
+        std::this_thread::yield();
+    while (permits.waiters() != 1 || latch.waiters() != 1) std::this_thread::yield();
+    CHECK(mutex.waiters() == 1 && plain.waiters() == 1 && shared.waiters() == 1);
+    one.unlock();
+    while (mutex.queue_length() != 0 || mutex.is_locked()) std::this_thread::yield();
+    CHECK(mutex.waiters() == 1);
+    one.lock();
+    has_come = true;
+    comes.notify_one();
+    CHECK(mutex.queue_length() == 1 && mutex.is_locked());
+    one.unlock(), two.unlock(), three.unlock();
+    permits.release();
+    latch.count_down();
+    for (auto &thread : threads) thread.join();
+    CHECK(mutex.waiters() + plain.waiters() + shared.waiters() + permits.waiters() + latch.waiters() == 0);
 }
 
 template <class Lock>
@@ -360,6 +403,7 @@ int main(int count, char **words) {
     over_a_lock();
     static_objects();
     questions();
+    waiters();
     condition_objects<aqs::mutex>("guards-conditions");
     condition_objects<aqs::plain_mutex>("guards-plain-conditions");
     errors();

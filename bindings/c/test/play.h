@@ -56,6 +56,36 @@ static aqs_status_t get_count(int64_t *n) {
     *n = count;
     return status;
 }
+static aqs_status_t queue_length(int64_t *n) {
+    uint32_t count = 77;
+    aqs_status_t status = aqs_object_queue_length(object, &count);
+    *n = count;
+    return status;
+}
+static aqs_status_t waiters(int64_t *n) {
+    uint32_t count = 77;
+    aqs_status_t status = aqs_object_waiters(object, &count);
+    *n = count;
+    return status;
+}
+static aqs_status_t is_locked(int64_t *n) {
+    aqs_bool_t is_so = false;
+    aqs_status_t status = aqs_lock_is_locked(lock, &is_so);
+    *n = is_so;
+    return status;
+}
+static aqs_status_t is_write_locked(int64_t *n) {
+    aqs_bool_t is_so = false;
+    aqs_status_t status = aqs_rwlock_is_write_locked(rwlock, &is_so);
+    *n = is_so;
+    return status;
+}
+static aqs_status_t mutex_is_locked(int64_t *n) {
+    aqs_bool_t is_so = false;
+    aqs_status_t status = aqs_mutex_is_locked(mutex, &is_so);
+    *n = is_so;
+    return status;
+}
 static aqs_status_t trim(int64_t *n) {
     uint64_t count = 77;
     aqs_status_t status = aqs_history_trim(object, &count);
@@ -133,6 +163,9 @@ static aqs_status_t interrupted(int64_t *n) {
     X(RW, writes, 0, (*n = aqs_rwlock_write_holds(rwlock), AQS_OK))                  \
     X(RW, is_mine, 0, (*n = aqs_rwlock_is_mine(rwlock), AQS_OK))                     \
     X(MUTEX, is_mine, 0, (*n = aqs_mutex_is_mine(mutex), AQS_OK))                    \
+    X(LOCK, is_locked, 0, is_locked(n))                                              \
+    X(RW, is_write_locked, 0, is_write_locked(n))                                    \
+    X(MUTEX, is_locked, 0, mutex_is_locked(n))                                       \
     X(LOCK, await, 0, aqs_cond_wait(&conds[a], lock))                                \
     X(LOCK, await_interruptibly, 0, aqs_cond_wait_interruptibly(&conds[a], lock))    \
     X(LOCK, timedawait, b, aqs_cond_timedwait(&conds[a], lock, b))                   \
@@ -143,6 +176,8 @@ static aqs_status_t interrupted(int64_t *n) {
     X(MUTEX, notify, 0, aqs_cond_signal(&conds[a]))                                  \
     X(MUTEX, notify_all, 0, aqs_cond_signal_all(&conds[a]))                          \
     X(ANY, policy, 0, (*n = aqs_object_policy(object), AQS_OK))                      \
+    X(ANY, queue_length, 0, queue_length(n))                                         \
+    X(ANY, waiters, 0, waiters(n))                                                   \
     X(ANY, trim, 0, trim(n))                                                         \
     X(ANY, text, 0, put_text(n))                                                     \
     X(ANY, self, 0, (*n = aqs_thread_self(), AQS_OK))                                \

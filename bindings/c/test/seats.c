@@ -94,8 +94,43 @@ static const play_t plays[] = {
      "0 policy = 0", NULL},
     {"questions record nothing", "lock fair seats 2 conditions 1 cap 64",
      "[30: 0 is_mine = 0; 1 holds = 0; 0 policy = 1]; 0 lock = OK; [30: 0 is_mine = 1; 1 is_mine = 0]; "
-     "0 unlock = OK",
+     "[30: 0 is_locked = 1; 1 is_locked = 1; 1 queue_length = 0; 1 waiters = 0]; 0 unlock = OK",
      "0 got x 1; 0 gave x 1"},
+
+    /* Who has an object, and who waits for it. */
+    {"who has a lock, and who waits for it", "lock fair seats 8 conditions 2 cap 64",
+     "0 is_locked = 0; 0 queue_length = 0; 0 waiters = 0; 1 lock = OK; 0 is_locked = 1; 1 is_locked = 1; "
+     "1 wait 1 ..; 0 is_locked = 0; 0 queue_length = 0; 0 waiters = 1; 2 lock = OK; 2 wait 0 ..; 3 lock = OK; "
+     "3 wait 1 ..; 0 waiters = 3; 4 lock = OK; 5 lock ..; 6 timedlock 20000 ..; 0 is_locked = 1; "
+     "0 queue_length = 2; 4 waiters = 5; 4 signal_all 1 = OK; 0 queue_length = 4; 0 waiters = 5; "
+     "4 unlock = OK; 5 = OK; 0 is_locked = 1; 0 queue_length = 3; 5 waiters = 4; 5 unlock = OK; 6 = OK; "
+     "6 unlock = OK; 1 = OK; 1 unlock = OK; 3 = OK; 0 queue_length = 0; 0 waiters = 1; 3 signal 0 = OK; "
+     "0 queue_length = 1; 3 unlock = OK; 2 = OK; 0 is_locked = 1; 2 waiters = 0; 2 unlock = OK; "
+     "0 is_locked = 0; 2 waiters = 0",
+     "1 got x 1; 1 await 1 1; 2 got x 1; 2 await 0 1; 3 got x 1; 3 await 1 1; 4 got x 1; 5 queued x 1; "
+     "6 queued x 1; 4 signalall 1 2; 4 gave x 1; 5 granted x 1; 5 gave x 1; 6 granted x 1; 6 gave x 1; "
+     "1 back 1 1 signalled; 1 gave x 1; 3 back 1 1 signalled; 3 signal 0 1; 3 gave x 1; "
+     "2 back 0 1 signalled; 2 gave x 1"},
+    {"who writes, and who waits to", "rw fair seats 4 conditions 1 cap 64",
+     "0 is_write_locked = 0; 1 rdlock = OK; 0 is_write_locked = 0; 2 wrlock ..; 0 is_write_locked = 0; "
+     "3 rdlock ..; 0 queue_length = 2; 0 waiters = 2; 1 rdunlock = OK; 2 = OK; 0 is_write_locked = 1; "
+     "0 queue_length = 1; 2 wait 0 ..; 3 = OK; 0 is_write_locked = 0; 0 queue_length = 0; 3 waiters = 1; "
+     "3 rdunlock = OK; 1 wrlock = OK; 1 signal 0 = OK; 1 queue_length = 1; 1 wrunlock = OK; 2 = OK; "
+     "2 is_write_locked = 1; 2 wrunlock = OK; 2 waiters = 0",
+     NULL},
+    {"who waits for permits", "semaphore nonfair seats 4 permits 1 cap 64",
+     "0 acquire 1 = OK; 0 waiters = 0; 1 acquire 2 ..; 2 timedacquire 1 20000 ..; 0 queue_length = 2; "
+     "3 waiters = 2; 0 release 3 = OK; 1 = OK; 2 = OK; 0 queue_length = 0; 0 waiters = 0", NULL},
+    {"who waits for a latch", "latch seats 4 count 1 cap 64",
+     "0 waiters = 0; 1 await ..; 2 await_interruptibly ..; 3 queue_length = 2; 0 waiters = 2; "
+     "0 count_down = OK; 1 = OK; 2 = OK; 0 queue_length = 0; 0 waiters = 0", NULL},
+    {"whether a mutex is owned", "mutex nonfair seats 3 conditions 1 cap 64",
+     "0 is_locked = 0; 1 lock = OK; 0 is_locked = 1; 1 is_locked = 1; 2 lock ..; 0 queue_length = 1; "
+     "1 wait 0 ..; 2 = OK; 0 waiters = 1; 2 signal 0 = OK; 0 queue_length = 1; 2 unlock = OK; 1 = OK; "
+     "1 unlock = OK; 0 is_locked = 0", NULL},
+    {"such questions need a seat", "lock fair seats 1 conditions 1 cap 64",
+     "0 lock = OK; 1 is_locked = TOO_MANY_THREADS; 1 queue_length = TOO_MANY_THREADS; "
+     "1 waiters = TOO_MANY_THREADS; 0 is_locked = 1; 0 waiters = 0; 0 unlock = OK; 1 is_locked = 0", NULL},
 
     /* Conditions as objects. */
     {"a condition as an object", "lock fair seats 4 conditions 2 cap 64",

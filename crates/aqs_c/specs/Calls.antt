@@ -1,10 +1,11 @@
 -- What a call of C leaves, and what it is answered.
-use Rattle.std.specs.Prelude.{◌≡◌, ◌⊎◌, ◌≤◌, ◌<◌, ℕ, ℤ, Bool, List, Option, Some, None, IsSome, Result, Ok, Err, length, take, reverse, slice_get}
-use Rattle.deciding.specs.Balance.{available}
-use Rattle.history.specs.Counts.{count}
+use Rattle.std.specs.Prelude.{◌≡◌, ◌⊎◌, ◌≤◌, ◌<◌, ◌+◌, ℕ, ℤ, Bool, List, Option, Some, None, IsSome, is_some, Result, Ok, Err, length, take, reverse, slice_get}
+use Rattle.deciding.specs.Balance.{all_asleep, available}
+use Rattle.history.specs.Counts.{count, counts, owner}
 use Rattle.history.specs.declared.entry.Entry.{Entry}
 use Rattle.history.specs.declared.fault.Fault.{Fault}
 use Rattle.history.specs.declared.step.Step.{Step}
+use Rattle.history.specs.Line.{line}
 use Rattle.history_text.specs.Pieces.{history_text}
 use Rattle.monitor.specs.Lawful.{start_at}
 use Rattle.monitor.specs.Machine.{IsBegun, IsGoneOn}
@@ -20,6 +21,7 @@ use Rattle.permit.specs.declared.parking.Woke.{Woke}
 use Rattle.aqs_c.specs.Codes.{IsAnswerOf, IsCallOf, IsCodeOf, IsEntry, IsQuiet, IsTurnOf, IsWoke}
 use Rattle.aqs_c.specs.Seated.{Seated, waiting_in}
 use Rattle.aqs_c.specs.declared.answers.AqsAnswer.{AqsAnswer}
+use Rattle.aqs_c.specs.declared.answers.AqsContention.{AqsContention}
 use Rattle.aqs_c.specs.declared.calls.AqsCall.{AqsCall}
 use Rattle.aqs_c.specs.declared.steps.AqsStep.{AqsStep}
 
@@ -174,7 +176,16 @@ permits_seen p = available (start_at p.seen) p.seen.entries
 abbrev pub count_seen : Shown → ℕ
 count_seen p = count (start_at p.seen) p.seen.entries
 
--- The object was busy; or the number is that of what the pass has then seen.
+-- who waits in what a pass has seen: how many in all, and how many in the queue; and whether some seat owns the object
+abbrev pub contention_seen : Shown → AqsContention
+contention_seen p =
+    record {
+      waiting = length (line (start_at p.seen) p.seen.entries) + all_asleep (start_at p.seen) p.seen.entries;
+      queue_length = length (line (start_at p.seen) p.seen.entries);
+      is_held = is_some (owner (counts (start_at p.seen) p.seen.entries));
+    }
+
+-- The object was busy; or what is shown is that of what the pass has then seen.
 abbrev pub IsSeatNumber : {A : Type 0} → (Shown → A) → Seated → ℕ → A → Seated → A → Type 0
 IsSeatNumber number old kind before new shown =
     ((kind ≡ 3) × (new ≡ old) × (shown ≡ before))

@@ -6,7 +6,7 @@ ghost use Rattle.aqs_c.specs.Codes.{IsAnswerOf, IsEntry, IsNamed, IsNextOf, IsPa
 use history::entry::{End, Entry, Mode, Word};
 use history::fault::Fault;
 use history::step::Answer;
-use monitor::{Limits, Next, Now, Turn};
+use monitor::{Contention, Limits, Next, Now, Turn};
 
 /// What a call returns.
 ///
@@ -44,6 +44,15 @@ pub struct AqsAnswer {
     pub parks: bool,
     pub has_until: bool,
     pub interruptible: bool,
+}
+
+/// Whether an object is owned, how many seats are in its queue, and how many wait in all.
+#[repr(C)]
+#[derive(Clone, Copy)]
+pub struct AqsContention {
+    pub waiting: u64,
+    pub queue_length: u16,
+    pub is_held: bool,
 }
 
 pub(crate) const ENTRY: u8 = 0;
@@ -219,4 +228,17 @@ pub(crate) fn turn_answer(turn: Turn) -> AqsAnswer
     answer.has_wakes = turn.named.is_some();
     answer.wakes = turn.named.unwrap_or(0);
     answer
+}
+
+/// Whether an object is owned, and how many wait for it.
+pub(crate) fn contention_answer(found: Contention) -> AqsContention
+    ensures waiting { result.waiting ≡ found.waiting }
+    ensures queue { result.queue_length ≡ found.queue_length }
+    ensures held { result.is_held ≡ found.is_held }
+{
+    AqsContention {
+        waiting: found.waiting,
+        queue_length: found.queue_length,
+        is_held: found.is_held,
+    }
 }

@@ -16,7 +16,7 @@
 #![tactic(auto)]
 
 ghost use Rattle.std.specs.Prelude.{◌≡◌, MatchOption, None};
-ghost use Rattle.aqs_c.specs.Calls.{IsPassBegun, IsPassEntry, IsPassGoneOn, IsPassNumber, IsPassStep, IsPassText, IsPassTrim, count_seen, permits_seen};
+ghost use Rattle.aqs_c.specs.Calls.{IsPassBegun, IsPassEntry, IsPassGoneOn, IsPassNumber, IsPassStep, IsPassText, IsPassTrim, contention_seen, count_seen, permits_seen};
 ghost use Rattle.aqs_c.specs.Opening.{IsOpening};
 
 mod answers;
@@ -29,7 +29,7 @@ mod seat;
 mod steps;
 mod text;
 
-pub use crate::answers::AqsAnswer;
+pub use crate::answers::{AqsAnswer, AqsContention};
 use crate::answers::{BUSY, ENTRY, FAULT, NO_PASS, nothing};
 pub use crate::calls::AqsCall;
 pub use crate::held::Held;
@@ -196,7 +196,7 @@ pub extern "C" fn aqs_available_now(alloc: Global, pass: &mut AqsPass, permits: 
         Some(mut seat) => {
             let found = seat.available();
             *pass = AqsPass::of(seat);
-            put_number(found, permits)
+            put_found(found, permits)
         }
     }
 }
@@ -212,7 +212,29 @@ pub extern "C" fn aqs_count_now(alloc: Global, pass: &mut AqsPass, count: &mut u
         Some(mut seat) => {
             let found = seat.count();
             *pass = AqsPass::of(seat);
-            put_number(found, count)
+            put_found(found, count)
+        }
+    }
+}
+
+/// Returns 0, and sets `contention`: whether the object is owned, how many seats are in its queue, and how many
+/// wait in all. If another call has its turn, or the pass is empty, it returns the kind of an answer, and
+/// `contention` is as it was.
+#[unsafe(no_mangle)]
+pub extern "C" fn aqs_contention_now(
+    alloc: Global,
+    pass: &mut AqsPass,
+    contention: &mut AqsContention,
+) -> u8
+    ensures { IsPassNumber contention_seen pass.old.held.value result contention.old pass.new.held.value
+        contention.new }
+{
+    match pass.take(alloc) {
+        None => NO_PASS,
+        Some(mut seat) => {
+            let found = seat.contention();
+            *pass = AqsPass::of(seat);
+            put_found(found, contention)
         }
     }
 }
@@ -225,14 +247,14 @@ pub extern "C" fn aqs_drop(alloc: Global, pass: &mut AqsPass)
     drop(pass.take(alloc));
 }
 
-// Puts a number that was found into its place, and returns the kind of an answer.
-fn put_number<N: Copy>(found: Option<N>, place: &mut N) -> u8
+// Puts what was found into its place, and returns the kind of an answer.
+fn put_found<N: Copy>(found: Option<N>, place: &mut N) -> u8
     ensures { MatchOption found ((result ≡ 3) × (place.new ≡ place.old))
         (λ n. (result ≡ 0) × (place.new ≡ n)) }
 {
     match found {
-        Some(number) => {
-            *place = number;
+        Some(value) => {
+            *place = value;
             ENTRY
         }
         None => BUSY,

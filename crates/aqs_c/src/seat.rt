@@ -2,13 +2,13 @@
 ghost use Rattle.std.specs.Prelude.{◌≡◌, Some, None, IfNone, IfSome, IfOk};
 ghost use Rattle.std.specs.Arc.{arc_value};
 ghost use Rattle.monitor.specs.Waits.{Waits};
-ghost use Rattle.aqs_c.specs.Calls.{IsCallBegun, IsCallGoneOn, IsSeatBegun, IsSeatEntry, IsSeatGoneOn, IsSeatLook, IsSeatStep, IsSeatTrim, IsStepped, count_seen, permits_seen, text_seen};
+ghost use Rattle.aqs_c.specs.Calls.{IsCallBegun, IsCallGoneOn, IsSeatBegun, IsSeatEntry, IsSeatGoneOn, IsSeatLook, IsSeatStep, IsSeatTrim, IsStepped, contention_seen, count_seen, permits_seen, text_seen};
 ghost use Rattle.aqs_c.specs.Seated.{seated, waiting_in};
 ghost use Rattle.aqs_c.specs.Standing.{StandsBy};
 
 use crate::answers::{
-    AqsAnswer, BUSY, IN_CALL, IN_NO_CALL, NO_CODE, NO_ENTRY, answer_of, entry_answer, nothing,
-    turn_answer,
+    AqsAnswer, AqsContention, BUSY, IN_CALL, IN_NO_CALL, NO_CODE, NO_ENTRY, answer_of,
+    contention_answer, entry_answer, nothing, turn_answer,
 };
 use crate::calls::{AqsCall, call_of, woke_of};
 use crate::steps::{AqsStep, step_of};
@@ -136,6 +136,19 @@ impl Seat {
     {
         self.pass.is_true();
         self.monitor.count_quietly(&mut self.pass)
+    }
+
+    /// Returns whether the object is owned, and how many wait for it, unless another call has its turn.
+    pub(crate) fn contention(&mut self) -> Option<AqsContention>
+        ensures busy { IfNone result (self.new ≡ self.old) }
+        ensures looked { IfSome result (λ _. IsSeatLook self.old self.new) }
+        ensures value { IfSome result (λ found. found ≡ contention_seen self.new.pass) }
+    {
+        self.pass.is_true();
+        match self.monitor.contention_quietly(&mut self.pass) {
+            None => None,
+            Some(found) => Some(contention_answer(found)),
+        }
     }
 }
 

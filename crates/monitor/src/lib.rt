@@ -78,6 +78,7 @@ pub use load::{Empty, Holds, Load};
 pub use machine::{Next, Request, Turn, Waiting};
 pub use monitor::Monitor;
 pub use pass::Pass;
+pub use quiet::Contention;
 pub use room::WhenFull;
 pub use step::Now;
 pub use waiting::Limits;
