@@ -1,5 +1,5 @@
 -- What the calls of readers leave of a pass's holds.
-use Rattle.std.proofs.Common.{◌≡◌, ℕ, ◌-◌, ◌<◌, true}
+use Rattle.std.proofs.Common.{◌≡◌, ℕ, ◌<◌, true}
 use Rattle.std.proofs.Common.{Option, Some, Result, sym, ap, ◌∙◌, subst, arith}
 use Rattle.std.specs.Option.{IfSome}
 use Rattle.history.specs.declared.entry.Entry.{Entry}
@@ -69,13 +69,13 @@ pub reading_gains : (did : Deed → Type 0) (w : WhenFull) (a : Reading) (old ne
     GainsReads old (whether_of r) new
 reading_gains did w (asks.Acquire how) old new r lock same made =
     in_room (λ (from : Shown). λ (s : Result Entry Fault). GainsReads from (whether_of s) new) w _ _ old new r same
-    (λ p. λ x. record { reads = x.reads; writes = x.writes })
+    (λ p. λ b. λ x. record { reads = x.reads; writes = x.writes })
     (λ x. record { reads = x.reads; writes = x.writes })
     (λ from. λ s. λ of. λ at. λ one. let adds = acquire_gains did from new S how s (of_lock of lock) at one in
     record { reads = adds.own; writes = adds.others }) made
 reading_gains did w (asks.Try) old new r lock same made =
     in_room (λ (from : Shown). λ (s : Result Entry Fault). GainsReads from (whether_of s) new) w _ _ old new r same
-    (λ p. λ x. record { reads = x.reads; writes = x.writes })
+    (λ p. λ b. λ x. record { reads = x.reads; writes = x.writes })
     (λ x. record { reads = x.reads; writes = x.writes })
     (λ from. λ s. λ of. λ at. λ one. let adds = try_gains did from new S s (of_lock of lock) at one in
     record { reads = adds.own; writes = adds.others }) made

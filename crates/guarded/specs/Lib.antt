@@ -7,4 +7,5 @@ pub mod Reading
 pub mod Waiting
 pub mod Shelved
 pub mod Pooling
+pub mod LentItems
 pub mod inner

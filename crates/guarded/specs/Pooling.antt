@@ -1,16 +1,17 @@
 -- What the calls of a pool ask of its monitor, and what becomes of the items.
-use Rattle.std.specs.Prelude.{◌≡◌, ◌⊎◌, ℕ, ℤ, pos, ◌+ℤ◌, ◌-ℤ◌}
-use Rattle.std.specs.Prelude.{Bool, true, false, Result, Ok, Err}
+use Rattle.std.specs.Prelude.{◌≡◌, ◌⊎◌, ℕ, List, length, Bool, true, false, Result, Ok, Err}
+use Rattle.history.specs.declared.entry.Entry.{Entry}
 use Rattle.history.specs.declared.entry.Mode.TheVariants.{S}
 use Rattle.history.specs.declared.fault.Fault.{Fault}
 use Rattle.history.specs.declared.fault.Fault.TheVariants.{OutOfMemory}
-use Rattle.history.specs.declared.step.Step.TheVariants.{Give, Try}
+use Rattle.history.specs.declared.step.Step.TheVariants.{Drain, Give, Try}
 use Rattle.monitor.specs.Acquire.{is_timed}
 use Rattle.monitor.specs.Room.{IsCallIn, IsEnteredIn}
 use Rattle.monitor.specs.Shown.{Shown}
 use Rattle.monitor.specs.declared.how.How.{How}
 use Rattle.monitor.specs.declared.machine.Request.TheVariants.{Acquire}
 use Rattle.monitor.specs.declared.room.WhenFull.{WhenFull}
+use Rattle.monitor_fronts.specs.Returned.{number_of}
 use Rattle.permit.specs.Deed.{Deed}
 use Rattle.guarded.specs.declared.asking.PoolCall.{PoolCall}
 use Rattle.guarded.specs.declared.asking.PoolCall.TheVariants as asks
@@ -26,6 +27,9 @@ tries_fetch did n w old reply new = IsEnteredIn w did old (Try S n) reply new
 
 abbrev pub gives_back : (Deed → Type 0) → ℕ → Call
 gives_back did n w old reply new = IsEnteredIn w did old (Give S n) reply new
+
+abbrev pub drains : (Deed → Type 0) → Call
+drains did w old reply new = IsEnteredIn w did old Drain reply new
 
 -- an acquire without time and a release have no answer 'no'
 abbrev pub MayMiss : PoolCall → Type 0
@@ -47,3 +51,13 @@ abbrev pub IsReleased :
     {A : Type 0} → WhenFull → Call → Shown → Shown → Result (Unit {0}) (A × Fault) → Type 0
 IsReleased w call old new result =
     CallReturns w call old new (without_items result) ⊎ ((without_items result ≡ Err OutOfMemory) × (new ≡ old))
+
+-- how many items a call returned
+abbrev pub how_many : {A : Type 0} → Result (List A) Fault → Result ℕ Fault
+how_many (Ok items) = Ok (length items)
+how_many (Err f) = Err f
+
+-- a drain had a reply, and returned as many items as its entry took permits
+abbrev pub DrainReturns : WhenFull → Call → Shown → Shown → Result ℕ Fault → Type 0
+DrainReturns w call old new returned =
+    (reply : Result Entry Fault) × call w old reply new × (returned ≡ number_of reply)

@@ -1,5 +1,5 @@
 -- Waits that a predicate ends.
-use Rattle.std.specs.Prelude.{◌≤◌, ℕ, Bool, Result, Err}
+use Rattle.std.specs.Prelude.{◌≤◌, ℕ, Err}
 use Rattle.history.specs.declared.fault.Fault.{Fault}
 use Rattle.monitor.specs.Acquire.{moment_after}
 use Rattle.monitor.specs.Shown.{Shown}

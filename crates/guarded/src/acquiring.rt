@@ -5,15 +5,18 @@ ghost use Rattle.monitor.specs.Stepping.{IsSame};
 ghost use Rattle.monitor.specs.declared.how.How.TheVariants.{Interruptible, Plain, Timed};
 ghost use Rattle.guarded.specs.Asking.{CallReturns, yes_if_some};
 ghost use Rattle.monitor_fronts.specs.Holding.{with_yes};
-ghost use Rattle.guarded.specs.Pooling.{IsReleased, fetches, gives_back, without_items, tries_fetch};
+ghost use Rattle.monitor_fronts.specs.Permits.{DrainsFree};
+ghost use Rattle.guarded.specs.Pooling.{DrainReturns, IsReleased, drains, fetches, gives_back, how_many};
+ghost use Rattle.guarded.specs.Pooling.{tries_fetch, without_items};
 ghost use Rattle.word_lock.specs.Point.{Before};
 
 use crate::asking::PoolCall;
 use crate::pool::Pool;
 use crate::shelf::Shelf;
 use history::fault::Fault;
+use history::step::Step;
 use monitor::{How, Pass};
-use monitor_fronts::whether;
+use monitor_fronts::{number, whether};
 use permit::Parking;
 use std::alloc::Global;
 use std::collections::LinkedList;
@@ -108,6 +111,41 @@ impl<T: Drop> Pool<T> {
             (yes_if_some result) }
     {
         self.take(rt, parking, pass, PoolCall::Acquire(n, How::Timed(ms)))
+    }
+
+    /// Takes all items that the pool has now, perhaps none. It overtakes waiters, under each policy. This is
+    /// `Semaphore.drainPermits()`.
+    pub fn drain<P: Parking, R: Wait + Clock>(
+        &self,
+        rt: &R,
+        parking: &P,
+        pass: &mut Pass,
+    ) -> Result<LinkedList<T>, Fault>
+        requires is_of { pass.old.lock ≡ self.now.lock }
+        requires places { self.now.lock.header.seats ≤ P.seats parking.now }
+        ensures same { IsSame pass.old pass.new }
+        ensures begins { Before pass.old.seen pass.new.seen }
+        ensures shows { IsSound pass.new }
+        ensures returned { DrainReturns self.now.when_full (drains (P.did parking.now)) pass.old pass.new
+            (how_many result) }
+        ensures all { DrainsFree pass.old (how_many result) pass.new }
+    {
+        let mut shelf = Shelf {
+            items: LinkedList::new(self.alloc),
+        };
+        let reply = self
+            .monitor
+            .enter_when_full(rt, parking, pass, &mut shelf, Step::Drain, self.when_full);
+        match number(reply) {
+            Ok(_) => {
+                let Shelf { items } = shelf;
+                Ok(items)
+            }
+            Err(fault) => {
+                shelf.put_away();
+                Err(fault)
+            }
+        }
     }
 
     /// Puts the items into the pool. If it fails, it returns them with the fault: `HistoryFull`, `TrimFull` and

@@ -35,6 +35,7 @@
 mod acquiring;
 mod asking;
 mod guard;
+mod items;
 mod locking;
 mod mutex;
 mod options;
@@ -48,6 +49,7 @@ mod try_lock;
 mod view;
 
 pub use guard::Guard;
+pub use items::ItemFault;
 pub use monitor::WhenFull;
 pub use mutex::Mutex;
 pub use options::Options;

@@ -66,7 +66,7 @@ impl<T: Drop, H: Hooks + Drop> Model for Mutex<T, H> {
 
 impl<T: Drop> Mutex<T> {
     /// Opens a lock that guards the value, for this many threads. Returns a pass for each thread too, in order, as in
-    /// `let (number, mut passes) = Mutex::new(alloc, 0u64, 2)?;`.
+    /// `let (number, passes) = Mutex::new(alloc, 0u64, 2)?;`.
     ///
     /// The lock isn't fair, and has conditions 0 to 15. It keeps at most 4096 entries, and folds them if it finds no
     /// room: with at most one hold for each thread, no call returns `HistoryFull`. [`open_for`](Mutex::open_for)

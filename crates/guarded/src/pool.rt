@@ -17,12 +17,12 @@ ghost use Rattle.monitor.specs.Lawful.{IsLawful, blank};
 ghost use Rattle.monitor.specs.Shown.{IsSound, opening_passes};
 ghost use Rattle.monitor.specs.Stepping.{IsSame};
 ghost use Rattle.monitor.specs.declared.room.WhenFull.TheVariants.{Trim};
-ghost use Rattle.monitor_fronts.specs.Returned.{whether_of};
+ghost use Rattle.monitor_fronts.specs.Returned.{is_done, whether_of};
 ghost use Rattle.guarded.specs.Asking.{CallReturns, yes_if_some};
 ghost use Rattle.monitor_fronts.specs.Holding.{with_yes};
 ghost use Rattle.guarded.specs.Pooling.{Answers, fetches};
 ghost use Rattle.guarded.specs.inner.Pooling.{asked_by, brought_by, has_after};
-ghost use Rattle.guarded.specs.inner.Pooling.{is_done, pool_call};
+ghost use Rattle.guarded.specs.inner.Pooling.{pool_call};
 ghost use Rattle.guarded.specs.Shelved.{Lies};
 ghost use Rattle.word_lock.specs.Point.{Before};
 
@@ -54,8 +54,8 @@ use std::time::Clock;
 /// without memory. An acquire takes time for each item, a release doesn't.
 #[derive(Drop)]
 pub struct Pool<T: Drop> {
-    monitor: Monitor<SemaphoreHooks, Shelf<T>>,
-    when_full: WhenFull,
+    pub(crate) monitor: Monitor<SemaphoreHooks, Shelf<T>>,
+    pub(crate) when_full: WhenFull,
     pub(crate) alloc: Global,
 }
 
@@ -72,7 +72,7 @@ impl<T: Drop> Model for Pool<T> {
 
 impl<T: Drop> Pool<T> {
     /// Opens a pool of these items, for this many threads. Returns a pass for each thread too, in order, as in
-    /// `let (pool, mut passes) = Pool::new(alloc, items, 2)?;`.
+    /// `let (pool, passes) = Pool::new(alloc, items, 2)?;`.
     ///
     /// The pool isn't fair. It keeps at most 4096 entries, and folds them if it finds no room. [`open`](Pool::open)
     /// takes other choices. If memory is refused, the items are dropped; `open` returns them.

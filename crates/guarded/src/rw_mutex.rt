@@ -72,7 +72,7 @@ impl<T: Drop> Model for RwMutex<T> {
 
 impl<T: Drop> RwMutex<T> {
     /// Opens a lock that guards the value, for this many threads. Returns a pass for each thread too, in order, as in
-    /// `let (table, mut passes) = RwMutex::new(alloc, value, 2)?;`. The other choices are those of
+    /// `let (table, passes) = RwMutex::new(alloc, value, 2)?;`. The other choices are those of
     /// [`Mutex::new`], and [`open_for`](RwMutex::open_for) takes others.
     pub fn new(alloc: Global, value: T, seats: u16) -> Result<(RwMutex<T>, Vec<Pass>), Fault>
         requires some { 1 ≤ seats }

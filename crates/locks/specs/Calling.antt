@@ -9,7 +9,9 @@ pub use Rattle.guarded.specs.Reading.{reads}
 pub use Rattle.history.specs.Header.{IsInRange}
 pub use Rattle.monitor.specs.Shown.{IsSound}
 pub use Rattle.monitor.specs.Stepping.{IsSame}
+pub use Rattle.monitor_fronts.specs.CountingDown.{IsOpen}
 pub use Rattle.monitor_fronts.specs.Holding.{holds}
+pub use Rattle.monitor_fronts.specs.Permits.{permits}
 
 -- The pass is one of this monitor's, and the parking has a place for each of its threads.
 abbrev pub CanCall : LockId → ℕ → Shown → Type 0

@@ -6,6 +6,7 @@ pub use Rattle.frame.specs.Core
 pub use Rattle.guarded.specs.Asking
 pub use Rattle.guarded.specs.Full
 pub use Rattle.guarded.specs.Guarding
+pub use Rattle.guarded.specs.LentItems
 pub use Rattle.guarded.specs.Pooling
 pub use Rattle.guarded.specs.Reading
 pub use Rattle.guarded.specs.Shelved
@@ -31,8 +32,11 @@ pub use Rattle.monitor.specs.Room
 pub use Rattle.monitor.specs.Settled
 pub use Rattle.monitor.specs.Shown
 pub use Rattle.monitor.specs.Stepping
+pub use Rattle.monitor_fronts.specs.CountingDown
 pub use Rattle.monitor_fronts.specs.FrontCalls
 pub use Rattle.monitor_fronts.specs.Holding
+pub use Rattle.monitor_fronts.specs.OwnEntry
+pub use Rattle.monitor_fronts.specs.Permits
 pub use Rattle.monitor_fronts.specs.Returned
 pub use Rattle.permit.specs.Deed
 pub use Rattle.word_lock.specs.Point

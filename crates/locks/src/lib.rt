@@ -33,13 +33,8 @@
 //! /// Opens a lock that guards 0, lets two threads add, and locks again to read the sum.
 //! fn sum<R: Threads + Wait + Clock + Sync>(rt: &R, alloc: Global) -> Result<u64, Fault> {
 //!     let parking = ThreadParking::open(rt, alloc, 2)?;
-//!     let (number, mut passes) = Mutex::new(alloc, 0u64, 2)?;
-//!     let Some(mut one) = passes.pop() else {
-//!         unreachable!()
-//!     };
-//!     let Some(mut two) = passes.pop() else {
-//!         unreachable!()
-//!     };
+//!     let (number, passes) = Mutex::new(alloc, 0u64, 2)?;
+//!     let (mut one, mut two) = two_passes(passes);
 //!     let (a, b) = thread::join_mut(
 //!         rt,
 //!         &mut || add(rt, &parking, &number, &mut one, 40),
@@ -141,13 +136,13 @@
 //! `wait_for`.
 #![tactic(auto)]
 
-pub use guarded::{Guard, Mutex, Options, Pool, RwMutex, TryLockFault, View};
+pub use guarded::{Guard, ItemFault, Mutex, Options, Pool, RwMutex, TryLockFault, View};
 pub use history::entries::History;
 pub use history::fault::Fault;
 pub use history::header::{Header, Object, Policy};
 pub use monitor::{CloseFault, Closed, How, Monitor, Pass, WhenFull};
 pub use monitor_fronts::{
     Latch, ReadWriteLock, ReentrantLock, Semaphore, open_latch, open_lock, open_read_write_lock,
-    open_semaphore,
+    open_semaphore, three_passes, two_passes,
 };
 pub use permit::{Parking, ThreadParking};

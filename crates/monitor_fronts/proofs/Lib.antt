@@ -1,4 +1,7 @@
 pub mod Counting
 pub mod Exactly
+pub mod OwnEntries
 pub mod MakingRoom
 pub mod Owning
+pub mod Permits
+pub mod CountingDown

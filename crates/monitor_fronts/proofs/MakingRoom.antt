@@ -7,7 +7,7 @@ use Rattle.history.specs.declared.entry.Mode.{Mode}
 use Rattle.history.specs.declared.entry.Mode.TheVariants.{X}
 use Rattle.history.specs.declared.point.Point.{Point}
 use Rattle.history.specs.declared.step.Step.{Step}
-use Rattle.history.specs.declared.step.Step.TheVariants.{Try}
+use Rattle.history.specs.declared.step.Step.TheVariants.{Give, Try}
 use Rattle.permit.specs.Deed.{Deed}
 use Rattle.word_lock.specs.Point.{Before}
 use Rattle.word_lock.proofs.PointLaws.{before_trans}
@@ -25,6 +25,7 @@ use Rattle.monitor_fronts.specs.Holding.{Adds, AddsIn, Gains, gained, holds, wit
 use Rattle.monitor_fronts.specs.Returned.{done_of, whether_of, without}
 use Rattle.monitor_fronts.proofs.Counting.{await_holds, of_lock, signal_keeps}
 use Rattle.monitor_fronts.proofs.Exactly.{acquire_gains, try_gains, waits_to_the_end}
+use Rattle.monitor_fronts.proofs.OwnEntries.{give_told}
 use Rattle.word_lock.specs.Point.{fold_of}
 
 -- what such a call sees comes after all that was seen
@@ -50,18 +51,19 @@ steps_begin w did step old new r s =
     room_begins w (λ z. z ≡ step) (λ o a n. IsEntered did o step a n) old new r
     (λ o x. entered_begins did step o new x) s
 
--- What holds of a call from any pass with the same own entries holds of one that makes room: a fold adds no entry
--- of the pass, and to be refused because there are too many to fold is to be refused for want of room.
+-- What holds of a call from any pass with the same own entries, which has seen no less, holds of one that makes room:
+-- a fold adds no entry of the pass, and to be refused because there are too many to fold is to be refused for want of
+-- room.
 pub in_room : (is : Shown → Result Entry Fault → Type 0) (w : WhenFull) (asks : Step → Type 0)
     (call : Shown → Result Entry Fault → Shown → Type 0) (old new : Shown) (r : Result Entry Fault) →
-    IsSame old new → ((p : Point) → is (at_point old p) r → is old r) →
+    IsSame old new → ((p : Point) → Before old.seen p → is (at_point old p) r → is old r) →
     (is old (Err HistoryFull) → is old (Err TrimFull)) →
     ((from : Shown) (s : Result Entry Fault) → from.lock ≡ old.lock → IsSame from new → call from s new → is from s) →
     InRoom w asks call old r new → is old r
 in_room is Refuse asks call old new r same folded full each x = each old r refl same x
 in_room is Trim asks call old new r same folded full each (inl x) = each old r refl same x.0
 in_room is Trim asks call old new r same folded full each (inr (inl x)) =
-    folded (fold_of x.found)
+    folded (fold_of x.found) x.fold.begins
     (each (at_point old (fold_of x.found)) r refl record { lock = same.lock; seat = same.seat } x.again)
 in_room is Trim asks call old new r same folded full each (inr (inr x)) =
     subst (λ (s : Result Entry Fault). is old s) (sym x.is) (full (each old (Err HistoryFull) refl same x.full))
@@ -72,7 +74,7 @@ pub acquires_gain : (w : WhenFull) (did : Deed → Type 0) (how : How) (old new 
     Acquires w did X 1 how old new r → Gains old (whether_of r) new
 acquires_gain w did how old new r same x = λ lock.
     in_room (λ (from : Shown). λ (z : Result Entry Fault). holds new ≡ holds from + gained (whether_of z)) w _ _
-    old new r same (λ p y. y) (λ y. y)
+    old new r same (λ p b y. y) (λ y. y)
     (λ from z of at c. (acquire_gains did from new X how z (of_lock of lock) at c).own) x
 
 -- and so does a try
@@ -81,7 +83,7 @@ pub tries_gain : (w : WhenFull) (did : Deed → Type 0) (step : Step) (old new :
     step ≡ Try X 1 → Gains old (whether_of r) new
 tries_gain w did step old new r same x is = λ lock.
     in_room (λ (from : Shown). λ (z : Result Entry Fault). holds new ≡ holds from + gained (whether_of z)) w _ _
-    old new r same (λ p y. y) (λ y. y)
+    old new r same (λ p b y. y) (λ y. y)
     (λ from z of at c. (try_gains did from new X z (of_lock of lock) at c).own)
     (subst (λ (s : Step). Steps w did s old new r) is x)
 
@@ -91,7 +93,7 @@ pub acquires_add : (w : WhenFull) (did : Deed → Type 0) (m : Mode) (how : How)
     Acquires w did m 1 how old new r → AddsIn m old (whether_of r) new
 acquires_add w did m how old new r same x = λ lock.
     in_room (λ (from : Shown). λ (z : Result Entry Fault). Adds m from (whether_of z) new) w _ _ old new r same
-    (λ p y. record { own = y.own; others = y.others }) (λ y. record { own = y.own; others = y.others })
+    (λ p b y. record { own = y.own; others = y.others }) (λ y. record { own = y.own; others = y.others })
     (λ from z of at c. acquire_gains did from new m how z (of_lock of lock) at c) x
 
 pub tries_add : (w : WhenFull) (did : Deed → Type 0) (step : Step) (m : Mode) (old new : Shown)
@@ -99,7 +101,7 @@ pub tries_add : (w : WhenFull) (did : Deed → Type 0) (step : Step) (m : Mode) 
     step ≡ Try m 1 → AddsIn m old (whether_of r) new
 tries_add w did step m old new r same x is = λ lock.
     in_room (λ (from : Shown). λ (z : Result Entry Fault). Adds m from (whether_of z) new) w _ _ old new r same
-    (λ p y. record { own = y.own; others = y.others }) (λ y. record { own = y.own; others = y.others })
+    (λ p b y. record { own = y.own; others = y.others }) (λ y. record { own = y.own; others = y.others })
     (λ from z of at c. try_gains did from new m z (of_lock of lock) at c)
     (subst (λ (s : Step). Steps w did s old new r) is x)
 
@@ -108,7 +110,7 @@ pub awaits_keep : (w : WhenFull) (did : Deed → Type 0) (condition : ℕ) (how 
     (r : Result Entry Fault) → IsSame old new → Awaits w did condition how old new r → holds new ≡ holds old
 awaits_keep w did condition how old new r same x =
     in_room (λ (from : Shown). λ (z : Result Entry Fault). holds new ≡ holds from) w _ _ old new r same
-    (λ p y. y) (λ y. y) (λ from z of at c. await_holds did from new condition how z at c) x
+    (λ p b y. y) (λ y. y) (λ from z of at c. await_holds did from new condition how z at c) x
 
 -- and so does a signal
 pub signals_keep : (w : WhenFull) (did : Deed → Type 0) (step : Step) (old new : Shown)
@@ -116,7 +118,7 @@ pub signals_keep : (w : WhenFull) (did : Deed → Type 0) (step : Step) (old new
     is_signal step ≡ true → holds new ≡ holds old
 signals_keep w did step old new r same x signal =
     in_room (λ (from : Shown). λ (z : Result Entry Fault). holds new ≡ holds from) w _ _ old new r same
-    (λ p y. y) (λ y. y) (λ from z of at c. signal_keeps did from new step z signal at c) x
+    (λ p b y. y) (λ y. y) (λ from z of at c. signal_keeps did from new step z signal at c) x
 
 -- an acquire without a time limit isn't told as missed
 pub never_missed : (w : WhenFull) (did : Deed → Type 0) (m : Mode) (n : ℕ) (how : How) (old new : Shown)
@@ -124,8 +126,33 @@ pub never_missed : (w : WhenFull) (did : Deed → Type 0) (m : Mode) (n : ℕ) (
     whether_of r ≡ Ok false → ⊥
 never_missed w did m n how old new r untimed same x =
     in_room (λ (from : Shown). λ (z : Result Entry Fault). whether_of z ≡ Ok false → ⊥) w _ _ old new r same
-    (λ p y. y) (λ y told. let no : whether_of (Err TrimFull) ≡ Ok false = told in cc)
+    (λ p b y. y) (λ y told. let no : whether_of (Err TrimFull) ≡ Ok false = told in cc)
     (λ from z of at c. waits_to_the_end did from new m n how z untimed c) x
+
+-- a call that isn't missed says yes if it was made
+yes_again : (t : Result Bool Fault) → (t ≡ Ok false → ⊥) → with_yes (without t) ≡ t
+yes_again (Err f) never = refl
+yes_again (Ok true) never = refl
+yes_again (Ok false) never = absurd (never refl)
+
+pub untimed_told : (w : WhenFull) (did : Deed → Type 0) (m : Mode) (n : ℕ) (how : How) (old new : Shown)
+    (r : Result Entry Fault) (told : Result (Unit {0}) Fault) → (is_timed how → ⊥) → IsSame old new →
+    Acquires w did m n how old new r → told ≡ done_of r → with_yes told ≡ whether_of r
+untimed_told w did m n how old new r told untimed same x is =
+    ap (λ (z : Result (Unit {0}) Fault). with_yes z) is
+    ∙ yes_again (whether_of r) (never_missed w did m n how old new r untimed same x)
+
+pub gives_told : (w : WhenFull) (did : Deed → Type 0) (m : Mode) (n : ℕ) (old new : Shown) (r : Result Entry Fault)
+    (told : Result (Unit {0}) Fault) → IsSame old new → Steps w did (Give m n) old new r → told ≡ done_of r →
+    with_yes told ≡ whether_of r
+gives_told w did m n old new r told same x is =
+    ap (λ (z : Result (Unit {0}) Fault). with_yes z) is ∙ yes_again (whether_of r) never
+  where
+    never : whether_of r ≡ Ok false → ⊥
+    never =
+        in_room (λ (from : Shown). λ (z : Result Entry Fault). whether_of z ≡ Ok false → ⊥) w _ _ old new r same
+        (λ p b y. y) (λ y told. let no : whether_of (Err TrimFull) ≡ Ok false = told in cc)
+        (λ from z of at c. give_told did from new m n z c) x
 
 same_told : (t : Result Bool Fault) → (t ≡ Ok false → ⊥) → gained (with_yes (without t)) ≡ gained t
 same_told (Err f) never = refl

@@ -1,3 +1,6 @@
 pub mod Returned
 pub mod FrontCalls
 pub mod Holding
+pub mod OwnEntry
+pub mod Permits
+pub mod CountingDown

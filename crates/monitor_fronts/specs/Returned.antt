@@ -24,6 +24,11 @@ abbrev pub whether_of : Result Entry Fault → Result Bool Fault
 whether_of (Err f) = Err f
 whether_of (Ok e) = whether_by e.word e.end
 
+-- the call had what it asked for
+abbrev pub is_done : Result Bool Fault → Bool
+is_done (Ok b) = b
+is_done (Err f) = false
+
 abbrev pub without : Result Bool Fault → Result (Unit {0}) Fault
 without (Err f) = Err f
 without (Ok b) = Ok tt

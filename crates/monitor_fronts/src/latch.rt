@@ -1,5 +1,6 @@
 //! A count that goes down to 0, and threads that wait for that.
-ghost use Rattle.std.specs.Prelude.{◌≡◌, ◌≤◌, false};
+ghost use Rattle.std.specs.Prelude.{◌≡◌, ◌≤◌, IfOk, Ok, false, true};
+ghost use Rattle.history.specs.Object.{is_latch};
 ghost use Rattle.history.specs.Phase.{waits};
 ghost use Rattle.history.specs.declared.entry.Mode.TheVariants.{S};
 ghost use Rattle.history.specs.declared.step.Step.TheVariants.{Give};
@@ -7,7 +8,9 @@ ghost use Rattle.monitor.specs.Shown.{IsSound};
 ghost use Rattle.monitor.specs.Stepping.{IsSame};
 ghost use Rattle.monitor.specs.declared.how.How.TheVariants.{Interruptible, Timed};
 ghost use Rattle.monitor.specs.declared.room.WhenFull.TheVariants.{Trim};
+ghost use Rattle.monitor_fronts.specs.CountingDown.{CountsDown, FallsBy, IsOpen, WasShut};
 ghost use Rattle.monitor_fronts.specs.FrontCalls.{Acquires, Steps};
+ghost use Rattle.monitor_fronts.specs.Holding.{gained, with_yes};
 ghost use Rattle.monitor_fronts.specs.Returned.{ReturnedAs, done_of, whether_of};
 ghost use Rattle.word_lock.specs.Point.{Before};
 
@@ -26,6 +29,9 @@ use std::time::Clock;
 ///
 /// A call that finds the history full folds it and goes on, or returns `Err(HistoryFull)` if `when_full` says
 /// so. Then `count_down` may lack room too. Each call costs one entry, and a call that waits costs two.
+///
+/// The count never rises. `count_at point` is the count in a history, and `IsOpen pass` says that it is 0 in the history
+/// that the pass has seen.
 #[derive(Clone, Copy)]
 pub struct Latch<'m> {
     pub monitor: &'m Monitor<LatchHooks>,
@@ -52,7 +58,7 @@ impl<'m> Latch<'m> {
     }
 
     /// `CountDownLatch.await()`: waits until the count is 0. `Err(Interrupted)` where Java throws
-    /// `InterruptedException`.
+    /// `InterruptedException`. After an `Ok` the count is 0 for good, since it never rises.
     pub fn await_zero<P: Parking, R: Wait + Clock>(
         &self,
         rt: &R,
@@ -66,11 +72,14 @@ impl<'m> Latch<'m> {
         ensures shows { IsSound pass.new }
         ensures acquired { ReturnedAs done_of
             (Acquires self.now.when_full (P.did parking.now) S 1 Interruptible pass.old pass.new) result }
+        ensures open { IfOk result (λ _. IsOpen pass.new) }
+        ensures falls { FallsBy 0 pass.old pass.new }
     {
         done(self.acquire_as(rt, parking, pass, How::Interruptible))
     }
 
-    /// `CountDownLatch.await(timeout, unit)`: whether the count was 0 within `ms` milliseconds.
+    /// `CountDownLatch.await(timeout, unit)`: whether the count was 0 within `ms` milliseconds. `Ok(false)` says that
+    /// it was above 0 at a place of the history after all that the pass had seen.
     pub fn await_zero_for<P: Parking, R: Wait + Clock>(
         &self,
         rt: &R,
@@ -85,6 +94,10 @@ impl<'m> Latch<'m> {
         ensures shows { IsSound pass.new }
         ensures acquired { ReturnedAs whether_of
             (Acquires self.now.when_full (P.did parking.now) S 1 (Timed ms) pass.old pass.new) result }
+        ensures open { result ≡ Ok true → IsOpen pass.new }
+        ensures shut { is_latch self.now.monitor.now.header.object ≡ true → result ≡ Ok false
+            → WasShut pass.old pass.new }
+        ensures falls { FallsBy 0 pass.old pass.new }
     {
         whether(self.acquire_as(rt, parking, pass, How::Timed(ms)))
     }
@@ -103,6 +116,8 @@ impl<'m> Latch<'m> {
         ensures shows { IsSound pass.new }
         ensures entered { ReturnedAs done_of
             (Steps self.now.when_full (P.did parking.now) (Give S 1) pass.old pass.new) result }
+        ensures counts { CountsDown pass.old (with_yes result) pass.new }
+        ensures falls { FallsBy (gained (with_yes result)) pass.old pass.new }
     {
         done(self.enter(rt, parking, pass, Step::Give(Mode::S, 1)))
     }

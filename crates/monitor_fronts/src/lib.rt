@@ -21,6 +21,7 @@
 mod latch;
 mod lock;
 mod openings;
+mod passes;
 mod read_write_lock;
 mod returned;
 mod semaphore;
@@ -29,6 +30,7 @@ pub use latch::Latch;
 pub use lock::ReentrantLock;
 pub use monitor::WhenFull;
 pub use openings::{open_latch, open_lock, open_read_write_lock, open_semaphore};
+pub use passes::{three_passes, two_passes};
 pub use read_write_lock::ReadWriteLock;
-pub use returned::{done, whether};
+pub use returned::{done, number, whether};
 pub use semaphore::Semaphore;

@@ -33,8 +33,8 @@ pub fn done(reply: Result<Entry, Fault>) -> Result<(), Fault>
     }
 }
 
-/// The amount of the entry.
-pub(crate) fn number(reply: Result<Entry, Fault>) -> Result<u32, Fault>
+/// The amount of the entry, which is the number of permits of a drain. A refusal is its fault.
+pub fn number(reply: Result<Entry, Fault>) -> Result<u32, Fault>
     ensures { result ≡ number_of reply }
 {
     match reply {

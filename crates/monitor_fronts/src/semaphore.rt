@@ -8,6 +8,9 @@ ghost use Rattle.monitor.specs.Stepping.{IsSame};
 ghost use Rattle.monitor.specs.declared.how.How.TheVariants.{Plain, Interruptible, Timed};
 ghost use Rattle.monitor.specs.declared.room.WhenFull.TheVariants.{Trim};
 ghost use Rattle.monitor_fronts.specs.FrontCalls.{Acquires, Steps};
+ghost use Rattle.monitor_fronts.specs.Holding.{with_yes};
+ghost use Rattle.monitor_fronts.specs.Permits.{DrainsFree, DrainsPermits, GivesFree, GivesPermits};
+ghost use Rattle.monitor_fronts.specs.Permits.{TakesFree, TakesPermits};
 ghost use Rattle.monitor_fronts.specs.Returned.{ReturnedAs, done_of, number_of, whether_of};
 ghost use Rattle.word_lock.specs.Point.{Before};
 
@@ -27,6 +30,9 @@ use std::time::Clock;
 /// A call that finds the history full folds it and goes on, or returns `Err(HistoryFull)` if `when_full` says
 /// so. Then a release may lack room too. An acquire and a release cost one entry each, and an acquire that
 /// waits costs two.
+///
+/// A contract speaks of two numbers: `permits pass` is what the pass took less what it gave back, and `free_at point`
+/// is how many permits are free in a history.
 #[derive(Clone, Copy)]
 pub struct Semaphore<'m> {
     pub monitor: &'m Monitor<SemaphoreHooks>,
@@ -68,6 +74,8 @@ impl<'m> Semaphore<'m> {
         ensures shows { IsSound pass.new }
         ensures acquired { ReturnedAs done_of
             (Acquires self.now.when_full (P.did parking.now) S n Interruptible pass.old pass.new) result }
+        ensures takes { TakesPermits n pass.old (with_yes result) pass.new }
+        ensures free { TakesFree n pass.old (with_yes result) pass.new }
     {
         done(self.acquire_as(rt, parking, pass, n, How::Interruptible))
     }
@@ -87,6 +95,8 @@ impl<'m> Semaphore<'m> {
         ensures shows { IsSound pass.new }
         ensures acquired { ReturnedAs done_of
             (Acquires self.now.when_full (P.did parking.now) S n Plain pass.old pass.new) result }
+        ensures takes { TakesPermits n pass.old (with_yes result) pass.new }
+        ensures free { TakesFree n pass.old (with_yes result) pass.new }
     {
         done(self.acquire_as(rt, parking, pass, n, How::Plain))
     }
@@ -107,6 +117,8 @@ impl<'m> Semaphore<'m> {
         ensures shows { IsSound pass.new }
         ensures entered { ReturnedAs whether_of
             (Steps self.now.when_full (P.did parking.now) (Try S n) pass.old pass.new) result }
+        ensures takes { TakesPermits n pass.old result pass.new }
+        ensures free { TakesFree n pass.old result pass.new }
     {
         whether(self.enter(rt, parking, pass, Step::Try(Mode::S, n)))
     }
@@ -128,6 +140,8 @@ impl<'m> Semaphore<'m> {
         ensures shows { IsSound pass.new }
         ensures acquired { ReturnedAs whether_of
             (Acquires self.now.when_full (P.did parking.now) S n (Timed ms) pass.old pass.new) result }
+        ensures takes { TakesPermits n pass.old result pass.new }
+        ensures free { TakesFree n pass.old result pass.new }
     {
         whether(self.acquire_as(rt, parking, pass, n, How::Timed(ms)))
     }
@@ -147,6 +161,8 @@ impl<'m> Semaphore<'m> {
         ensures shows { IsSound pass.new }
         ensures entered { ReturnedAs done_of
             (Steps self.now.when_full (P.did parking.now) (Give S n) pass.old pass.new) result }
+        ensures gives { GivesPermits n pass.old (with_yes result) pass.new }
+        ensures free { GivesFree n pass.old (with_yes result) pass.new }
     {
         done(self.enter(rt, parking, pass, Step::Give(Mode::S, n)))
     }
@@ -166,6 +182,8 @@ impl<'m> Semaphore<'m> {
         ensures shows { IsSound pass.new }
         ensures entered { ReturnedAs number_of
             (Steps self.now.when_full (P.did parking.now) Drain pass.old pass.new) result }
+        ensures takes { DrainsPermits pass.old result pass.new }
+        ensures free { DrainsFree pass.old result pass.new }
     {
         number(self.enter(rt, parking, pass, Step::Drain))
     }

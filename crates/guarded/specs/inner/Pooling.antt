@@ -1,7 +1,8 @@
 -- What the calls of a pool ask of its monitor, and what becomes of the items.
 use Rattle.std.specs.Prelude.{if◌then◌else◌, ℕ}
-use Rattle.std.specs.Prelude.{Bool, false, Result, Ok, Err}
+use Rattle.std.specs.Prelude.{Bool, Result}
 use Rattle.history.specs.declared.fault.Fault.{Fault}
+use Rattle.monitor_fronts.specs.Returned.{is_done}
 use Rattle.permit.specs.Deed.{Deed}
 use Rattle.guarded.specs.declared.asking.PoolCall.{PoolCall}
 use Rattle.guarded.specs.declared.asking.PoolCall.TheVariants as asks
@@ -23,11 +24,6 @@ abbrev pub asked_by : PoolCall → ℕ
 asked_by (asks.Acquire n how) = n
 asked_by (asks.Try n) = n
 asked_by (asks.Release n) = 0
-
--- the call had what it asked for
-abbrev pub is_done : Result Bool Fault → Bool
-is_done (Ok b) = b
-is_done (Err f) = false
 
 -- how many items the caller has after a call, by what it returned
 abbrev pub has_after : PoolCall → Result Bool Fault → ℕ

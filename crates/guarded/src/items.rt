@@ -1,0 +1,60 @@
+//! A pool lends an item to a closure.
+ghost use Rattle.std.specs.Prelude.{◌≡◌, ◌≤◌};
+ghost use Rattle.std.specs.Fn.{FnOnceReturnsAtMut};
+ghost use Rattle.monitor.specs.Shown.{IsSound};
+ghost use Rattle.monitor.specs.Stepping.{IsSame};
+ghost use Rattle.guarded.specs.LentItems.{IsLent};
+ghost use Rattle.word_lock.specs.Point.{Before};
+
+use crate::pool::Pool;
+use history::fault::Fault;
+use monitor::Pass;
+use permit::Parking;
+use std::sync::Wait;
+use std::time::Clock;
+
+/// Why [`Pool::with_item`] failed.
+#[derive(Debug, Drop)]
+pub enum ItemFault<T, A> {
+    /// No item was acquired, and the closure wasn't called.
+    NotAcquired(Fault),
+    /// The closure returned this answer, and then the item couldn't be released. The item is as the closure left it.
+    NotReleased { answer: A, item: T, fault: Fault },
+}
+
+impl<T: Drop> Pool<T> {
+    /// Acquires an item as [`acquire_one`](Pool::acquire_one) does, lends it to `work`, and releases it as
+    /// [`release_one`](Pool::release_one) does. Returns what `work` returned.
+    ///
+    /// The release may lack room or memory. Then [`ItemFault::NotReleased`] has the item, which isn't in the pool.
+    pub fn with_item<P: Parking, R: Wait + Clock, A, F: FnOnce(&mut T) -> A>(
+        &self,
+        rt: &R,
+        parking: &P,
+        pass: &mut Pass,
+        work: F,
+    ) -> Result<A, ItemFault<T, A>>
+        requires is_of { pass.old.lock ≡ self.now.lock }
+        requires places { self.now.lock.header.seats ≤ P.seats parking.now }
+        requires callable { F.IsAlwaysCallable work }
+        ensures same { IsSame pass.old pass.new }
+        ensures begins { Before pass.old.seen pass.new.seen }
+        ensures shows { IsSound pass.new }
+        ensures lent { IsLent self.now.when_full (P.did parking.now)
+            (λ before answer after. FnOnceReturnsAtMut F.FnOnce work before answer after) pass.old pass.new result }
+    {
+        let mut item = match self.acquire_one(rt, parking, pass) {
+            Ok(item) => item,
+            Err(fault) => return Err(ItemFault::NotAcquired(fault)),
+        };
+        let answer = work(&mut item);
+        match self.release_one(rt, parking, pass, item) {
+            Ok(()) => Ok(answer),
+            Err((item, fault)) => Err(ItemFault::NotReleased {
+                answer,
+                item,
+                fault,
+            }),
+        }
+    }
+}
