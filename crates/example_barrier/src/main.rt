@@ -9,7 +9,7 @@ mod barrier;
 mod gathering;
 
 use barrier::Barrier;
-use locks::{Fault, Pass, ThreadParking};
+use locks::{Fault, Pass, ThreadParking, three_passes};
 use std::alloc::Global;
 use std::sync::Wait;
 use std::thread::Threads;
@@ -110,16 +110,8 @@ fn two_visit<R: Threads + Wait + Clock + Sync>(
 /// Three threads wait at a barrier in each round.
 fn gather<R: Threads + Wait + Clock + Sync>(rt: &R, alloc: Global) -> Result<Visits, Fault> {
     let parking = ThreadParking::open(rt, alloc, 3)?;
-    let (barrier, mut passes) = Barrier::open(alloc, 3)?;
-    let Some(mut one) = passes.pop() else {
-        unreachable!()
-    };
-    let Some(mut two) = passes.pop() else {
-        unreachable!()
-    };
-    let Some(mut three) = passes.pop() else {
-        unreachable!()
-    };
+    let (barrier, passes) = Barrier::open(alloc, 3)?;
+    let (mut one, mut two, mut three) = three_passes(passes);
     let (both, third) = thread::join_mut(
         rt,
         &mut ||

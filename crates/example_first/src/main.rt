@@ -3,7 +3,7 @@
 
 ghost use Rattle.locks.specs.Calling.{CanLock};
 
-use locks::{Fault, Mutex, Pass, ThreadParking};
+use locks::{Fault, Mutex, Pass, ThreadParking, two_passes};
 use std::alloc::Global;
 use std::sync::Wait;
 use std::thread::Threads;
@@ -30,13 +30,8 @@ fn add<R: Wait + Clock>(
 /// Opens a lock that guards 0, lets two threads add, and locks again to read the sum.
 fn sum<R: Threads + Wait + Clock + Sync>(rt: &R, alloc: Global) -> Result<u64, Fault> {
     let parking = ThreadParking::open(rt, alloc, 2)?;
-    let (number, mut passes) = Mutex::new(alloc, 0u64, 2)?;
-    let Some(mut one) = passes.pop() else {
-        unreachable!()
-    };
-    let Some(mut two) = passes.pop() else {
-        unreachable!()
-    };
+    let (number, passes) = Mutex::new(alloc, 0u64, 2)?;
+    let (mut one, mut two) = two_passes(passes);
     let (a, b) = thread::join_mut(
         rt,
         &mut || add(rt, &parking, &number, &mut one, 40),

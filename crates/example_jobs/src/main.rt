@@ -12,7 +12,7 @@ mod submitting;
 mod working;
 
 use jobs::Jobs;
-use locks::{Fault, Mutex, Pass, Policy, ThreadParking, WhenFull};
+use locks::{Fault, Mutex, Pass, Policy, ThreadParking, WhenFull, three_passes};
 use std::alloc::Global;
 use std::sync::Wait;
 use std::thread::Threads;
@@ -68,18 +68,10 @@ fn run<R: Threads + Wait + Clock + Sync>(
         2,
         64,
     );
-    let Ok((queue, mut passes)) = opened else {
+    let Ok((queue, passes)) = opened else {
         return Err(Fault::OutOfMemory);
     };
-    let Some(mut submitter) = passes.pop() else {
-        unreachable!()
-    };
-    let Some(mut two) = passes.pop() else {
-        unreachable!()
-    };
-    let Some(mut one) = passes.pop() else {
-        unreachable!()
-    };
+    let (mut one, mut two, mut submitter) = three_passes(passes);
     let (done, submitted) = thread::join_mut(
         rt,
         &mut ||

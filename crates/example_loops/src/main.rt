@@ -10,7 +10,7 @@ mod changed;
 mod rounds;
 mod told;
 
-use locks::{Fault, Mutex, Policy, ThreadParking, WhenFull};
+use locks::{Fault, Mutex, Policy, ThreadParking, WhenFull, two_passes};
 use std::alloc::Global;
 use std::sync::Wait;
 use std::thread::Threads;
@@ -21,15 +21,10 @@ use std::{io, thread};
 fn exchange<R: Threads + Wait + Clock + Sync>(rt: &R, alloc: Global) -> Result<u64, Fault> {
     let parking = ThreadParking::open(rt, alloc, 2)?;
     let opened = Mutex::open(alloc, 0u64, Policy::Fair, WhenFull::Trim, 2, 1, 64);
-    let Ok((number, mut passes)) = opened else {
+    let Ok((number, passes)) = opened else {
         return Err(Fault::OutOfMemory);
     };
-    let Some(mut giver) = passes.pop() else {
-        unreachable!()
-    };
-    let Some(mut taker) = passes.pop() else {
-        unreachable!()
-    };
+    let (mut taker, mut giver) = two_passes(passes);
     let (taken, given) = thread::join_mut(
         rt,
         &mut || changed::take_twice(rt, &parking, &number, &mut taker, 7, 13),
@@ -46,15 +41,10 @@ fn work<R: Threads + Wait + Clock + Sync>(rt: &R, alloc: Global) -> Result<bool,
     let parking = ThreadParking::open(rt, alloc, 2)?;
     let desk = told::Desk::new();
     let opened = Mutex::open(alloc, desk, Policy::Fair, WhenFull::Trim, 2, 0, 64);
-    let Ok((desk, mut passes)) = opened else {
+    let Ok((desk, passes)) = opened else {
         return Err(Fault::OutOfMemory);
     };
-    let Some(mut worker) = passes.pop() else {
-        unreachable!()
-    };
-    let Some(mut boss) = passes.pop() else {
-        unreachable!()
-    };
+    let (mut worker, mut boss) = two_passes(passes);
     let (worked, told) = thread::join_mut(
         rt,
         &mut || told::work(rt, &parking, &desk, &mut worker),
