@@ -11,7 +11,7 @@ pub no_mark : (from : ℕ) (e : Entry) (h : List Entry) → length h < from → 
 no_mark from e h less = rw (lt-ltb (length h) from less) (sym (append-nil (marks from h)))
 
 pub one_mark : (from : ℕ) (e : Entry) (h : List Entry) → from ≤ length h →
-    marks from h ++ mark_of (length h) e.seat (sign_of e.word) ≡ marks from (e ∷ h)
+    marks from h ++ mark_of (length h) e.seat (sign_of e.word e.end) ≡ marks from (e ∷ h)
 one_mark from e h drawn = rw (le-ltb (length h) from drawn) refl
 
 pub no_point : (s : Start) (from : ℕ) (e : Entry) (h : List Entry) → length h < from →

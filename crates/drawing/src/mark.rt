@@ -1,9 +1,9 @@
-//! Marks of entries that change no holds, or not those of their seat alone.
+//! Marks of entries that end a wait, and of entries that change no holds, or not those of their seat alone.
 
 ghost use Rattle.std.specs.Prelude.{◌≡◌, ◌++◌, OnOk};
-ghost use Rattle.drawing.specs.Marks.{mark_of, sign_of};
+ghost use Rattle.drawing.specs.Marks.{given_up, mark_of, sign_of};
 
-use history::entry::{Entry, Word};
+use history::entry::{End, Entry, Word};
 use std::alloc::AllocError;
 
 /// What a mark shows of an entry.
@@ -15,6 +15,12 @@ pub enum Sign {
     Signal,
     Drained,
     Counted,
+    /// A wait in the queue ended with what was waited for.
+    Granted,
+    /// A wait in the queue or on a condition ended by a timeout.
+    TimedOut,
+    /// A wait in the queue or on a condition ended by an interrupt.
+    Interrupted,
 }
 
 /// An entry's mark: the number of the entry, its seat, and what is shown.
@@ -28,9 +34,9 @@ pub struct Mark {
 /// Adds the mark of the entry of a number, if it has one.
 pub(crate) fn put_mark(marks: &mut Vec<Mark>, number: u64, entry: Entry) -> Result<(), AllocError>
     ensures { OnOk result (marks.new.items
-        ≡ marks.old.items ++ mark_of number entry.seat (sign_of entry.word)) }
+        ≡ marks.old.items ++ mark_of number entry.seat (sign_of entry.word entry.end)) }
 {
-    match sign_of(entry.word) {
+    match sign_of(entry.word, entry.end) {
         None => {}
         Some(sign) => {
             marks.push(Mark {
@@ -43,9 +49,20 @@ pub(crate) fn put_mark(marks: &mut Vec<Mark>, number: u64, entry: Entry) -> Resu
     Ok(())
 }
 
-/// Returns what a mark shows of a word.
-fn sign_of(word: Word) -> Option<Sign>
-    ensures { result ≡ sign_of word }
+/// Returns what a mark shows of a wait that was given up, by how it ended.
+fn given_up(end: End) -> Option<Sign>
+    ensures { result ≡ given_up end }
+{
+    match end {
+        End::Timeout => Some(Sign::TimedOut),
+        End::Interrupt => Some(Sign::Interrupted),
+        End::None | End::Signalled => None,
+    }
+}
+
+/// Returns what a mark shows of an entry's word and end.
+fn sign_of(word: Word, end: End) -> Option<Sign>
+    ensures { result ≡ sign_of word end }
 {
     match word {
         Word::Missed => Some(Sign::Missed),
@@ -53,6 +70,8 @@ fn sign_of(word: Word) -> Option<Sign>
         Word::Signal | Word::SignalAll => Some(Sign::Signal),
         Word::Drained => Some(Sign::Drained),
         Word::Counted => Some(Sign::Counted),
+        Word::Granted | Word::Back => Some(Sign::Granted),
+        Word::Left | Word::Lapse => given_up(end),
         _ => None,
     }
 }

@@ -46,7 +46,7 @@ pub all_early : (from : ℕ) (h : List Entry) → length h < 2 ^ 32 → All IsEa
 all_early from [] few = All-nil IsEarly
 all_early from (e ∷ h) few =
     All-append IsEarly (marks from h) _ (all_early from h (omega (arith, few)))
-    (early_by (nat_lt (length h) from) (length h) e.seat (sign_of e.word) (omega (arith, few)))
+    (early_by (nat_lt (length h) from) (length h) e.seat (sign_of e.word e.end) (omega (arith, few)))
 
 -- the front that is legal is no longer than the entries
 pub front_short : (verdict : Verdict) (entries : List Entry) → length entries < 2 ^ 32 →
@@ -57,9 +57,9 @@ front_short (NotLegal number) entries few = omega (arith, few, length-take numbe
 -- the text of a picture of the same
 pub same_picture : (choice : Choice) (verdict : Verdict) (b b' : Base) (count count' : ℕ)
     (entries others : List Entry) (text : List ℕ) → b ≡ b' → count ≡ count' → entries ≡ others →
-    text ≡ svg_text (pictured b choice count verdict (legal_front verdict entries)) →
-    text ≡ svg_text (pictured b' choice count' verdict (legal_front verdict others))
+    text ≡ svg_text (pictured b choice count verdict (legal_front verdict entries)) entries →
+    text ≡ svg_text (pictured b' choice count' verdict (legal_front verdict others)) others
 same_picture choice verdict b b' count count' entries others text base counts items is =
-    is ∙ ap (λ h. svg_text (pictured h choice count verdict (legal_front verdict entries))) base
-    ∙ ap (λ n. svg_text (pictured b' choice n verdict (legal_front verdict entries))) counts
-    ∙ ap (λ xs. svg_text (pictured b' choice count' verdict (legal_front verdict xs))) items
+    is ∙ ap (λ h. svg_text (pictured h choice count verdict (legal_front verdict entries)) entries) base
+    ∙ ap (λ n. svg_text (pictured b' choice n verdict (legal_front verdict entries)) entries) counts
+    ∙ ap (λ xs. svg_text (pictured b' choice count' verdict (legal_front verdict xs)) xs) items

@@ -50,7 +50,8 @@ picture_of choice b entries verdict =
     (legal_front verdict (take (end_of choice b.entries) (reverse entries)))
 
 abbrev pub drawn_text : Choice → Base → List Entry → Verdict → List ℕ
-drawn_text choice b entries verdict = svg_text (picture_of choice b entries verdict)
+drawn_text choice b entries verdict =
+    svg_text (picture_of choice b entries verdict) (take (end_of choice b.entries) (reverse entries))
 
 -- what drawing leaves
 abbrev pub Draws : Choice → Option (List ℕ) → Option (List ℕ) → Option (List ℕ) → Result Verdict StreamFault →

@@ -85,7 +85,7 @@ fn drawn_text(
     requires seated { All (λ e. e.seat < entries.now.header.seats) kept.now }
     requires few { length kept.now < 2 ^ 32 }
     ensures { IfOk result (λ text. text.items ≡ svg_text (pictured (base_held entries.now) choice
-        entries.now.place.count verdict (legal_front verdict kept.now))) }
+        entries.now.place.count verdict (legal_front verdict kept.now)) kept.now) }
 {
     let shown = legal_front(kept, verdict);
     let header = entries.header();
@@ -104,7 +104,7 @@ fn drawn_text(
         drawn,
     };
     bars_are_the_longest_stretches();
-    svg_text(alloc, &picture)
+    svg_text(alloc, &picture, kept)
 }
 
 /// Returns the entries before the first illegal one.

@@ -1,20 +1,54 @@
 -- The lines of bars.
-use Rattle.std.specs.Prelude.{ℕ, ◌+◌, ◌*◌, nat_lt, if◌then◌else◌, List, [], ◌++◌, length, codes, decimal}
+use Rattle.std.specs.Prelude.{ℕ, ◌+◌, ◌*◌, ◌==◌, ◌&&◌, ◌||◌, nat_lt, Bool, true, false, if◌then◌else◌, List, [], ◌++◌, length, codes, decimal, slice_get, Option, Some, None}
 use Rattle.std.specs.List.{flat_map}
 use Rattle.drawing.specs.declared.bar.Bar.{Bar}
 use Rattle.drawing.specs.declared.kind.Kind.{Kind}
 use Rattle.drawing.specs.declared.kind.Kind.TheVariants.{Exclusive, Shared, InLine, Asleep}
+use Rattle.history.specs.declared.entry.Entry.{Entry}
+use Rattle.history.specs.declared.entry.Mode.TheVariants.{S}
+use Rattle.history.specs.declared.entry.Word.{Word}
+use Rattle.history.specs.declared.entry.Word.TheVariants.{Queued, Granted, Left}
+use Rattle.history.specs.declared.header.Object.{Object}
+use Rattle.history.specs.declared.header.Object.TheVariants.{Lock, ReadWrite, Semaphore, Latch}
+use Rattle.history.specs.Entry.{same_mode}
 use Rattle.picture.specs.declared.layout.Layout.{Layout}
 use Rattle.picture.specs.declared.layout.Rect.{Rect}
 use Rattle.picture.specs.Layout.{rect_of}
-use Rattle.picture.specs.Pieces.{named, placed, rect}
+use Rattle.picture.specs.Pieces.{named, open_rect, placed}
+use Rattle.picture.specs.Titles.{bar_title}
 
--- how a bar looks, by its kind: filled dark or light, outlined, dotted
-abbrev pub shape_of : Kind → List ℕ
-shape_of Exclusive = codes "<rect class='x' x='"
-shape_of Shared = codes "<rect class='s' x='"
-shape_of InLine = codes "<rect class='w' x='"
-shape_of (Asleep condition) = codes "<rect class='z' x='"
+-- the words of an acquire that waits in line, and of the end of such a wait
+abbrev pub is_of_line : Word → Bool
+is_of_line Queued = true
+is_of_line Granted = true
+is_of_line Left = true
+is_of_line _ = false
+
+-- an entry says that its seat waits in line to share, or has waited so
+abbrev pub says_shared : ℕ → Option Entry → Bool
+says_shared i None = false
+says_shared i (Some e) = e.seat == i && is_of_line e.word && same_mode e.mode S
+
+-- the objects of which everybody has a share
+abbrev pub only_shares : Object → Bool
+only_shares (Lock policy) = false
+only_shares (ReadWrite policy) = false
+only_shares (Semaphore policy permits) = true
+only_shares (Latch count) = true
+
+-- A wait in line is to share, if the entry that begins it says so, or the one that ends it. Nothing is known of a wait
+-- that begins before the first entry that is drawn and has not ended at the last.
+abbrev pub waits_to_share : Object → List Entry → Bar → Bool
+waits_to_share o entries b =
+    only_shares o || says_shared b.seat (slice_get entries b.first)
+    || says_shared b.seat (slice_get entries (b.last + 1))
+
+-- how a bar looks: filled dark or light, outlined, outlined and hatched if it is a wait to share, dotted
+abbrev pub shape_of : Kind → Bool → List ℕ
+shape_of Exclusive to_share = codes "<rect class='x' x='"
+shape_of Shared to_share = codes "<rect class='s' x='"
+shape_of InLine to_share = if to_share then codes "<rect class='v' x='" else codes "<rect class='w' x='"
+shape_of (Asleep condition) to_share = codes "<rect class='z' x='"
 
 -- a number inside a bar, if the bar is wide enough for it
 abbrev pub inside : List ℕ → Rect → List ℕ → ℕ → List ℕ
@@ -29,8 +63,11 @@ label r Shared holds = inside (codes "<text class='n' x='") r (codes "'>") holds
 label r InLine holds = []
 label r (Asleep condition) holds = inside (codes "<text class='n' x='") r (codes "'>c") condition
 
-abbrev pub bar_line : Layout → Bar → List ℕ
-bar_line l b = rect (shape_of b.kind) (rect_of l b) ++ label (rect_of l b) b.kind b.holds
+-- a bar with its tooltip, and the text in it
+abbrev pub bar_line : Layout → Object → ℕ → List Entry → Bar → List ℕ
+bar_line l o folded entries b =
+    open_rect (shape_of b.kind (waits_to_share o entries b)) (rect_of l b)
+    ++ bar_title folded entries b ++ label (rect_of l b) b.kind b.holds
 
-abbrev pub bar_lines : Layout → List Bar → List ℕ
-bar_lines l bars = flat_map (bar_line l) bars
+abbrev pub bar_lines : Layout → Object → ℕ → List Entry → List Bar → List ℕ
+bar_lines l o folded entries bars = flat_map (bar_line l o folded entries) bars

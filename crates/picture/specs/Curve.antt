@@ -28,14 +28,14 @@ up_of r amount =
 
 -- up or down to an entry's amount, and then to the right edge of the entry
 unfoldable pub run_of : Range → ℕ → ℤ → List ℕ
-run_of r step amount = named (codes "V") (144 - up_of r amount) ++ named (codes "h") step
+run_of r step amount = named (codes "V") (164 - up_of r amount) ++ named (codes "h") step
 
 unfoldable pub runs_of : Range → ℕ → List ℤ → List ℕ
 runs_of r step amounts =
-    codes "<path class='c' d='M72 144" ++ flat_map (run_of r step) amounts ++ codes "'/>\n"
+    codes "<path class='c' d='M72 164" ++ flat_map (run_of r step) amounts ++ codes "'/>\n"
 
 unfoldable pub word_of : List ℕ → List ℕ
-word_of word = codes "<text x='8' y='118'>" ++ word ++ codes "</text>\n"
+word_of word = codes "<text x='8' y='138'>" ++ word ++ codes "</text>\n"
 
 unfoldable pub amount_at : ℕ → ℤ → List ℕ
 amount_at y amount =
@@ -44,7 +44,7 @@ amount_at y amount =
 -- its name, the highest and the lowest number, and the line
 unfoldable pub curve_lines : List ℕ → Range → ℕ → List ℤ → List ℕ
 curve_lines word r step amounts =
-    word_of word ++ amount_at 92 r.high ++ amount_at 144 r.low ++ runs_of r step amounts
+    word_of word ++ amount_at 112 r.high ++ amount_at 164 r.low ++ runs_of r step amounts
 
 -- locks have none
 abbrev pub curve_of : Object → ℕ → List ℤ → List ℕ

@@ -1,6 +1,7 @@
 -- The SVG document of a picture.
 use Rattle.std.specs.Prelude.{ℕ, ◌+◌, ◌<◌, ◌^◌, ◌&&◌, ◌==◌, nat_le, if◌then◌else◌, List, [], ◌++◌, codes, Option, Some, None}
 use Rattle.std.specs.List.{All}
+use Rattle.history.specs.declared.entry.Entry.{Entry}
 use Rattle.history.specs.Header.{IsInRange}
 use Rattle.picture.specs.declared.layout.Layout.{Layout}
 use Rattle.picture.specs.View.{View}
@@ -17,21 +18,22 @@ ground l p =
     rows l p.header.seats ++ ticks l p.folded l.shown ++ curve_of p.header.object l.step p.curve
 
 -- the illegal entry is marked if it follows those that are shown
-abbrev pub marked_at : Layout → ℕ → ℕ → ℕ → Option ℕ → List ℕ
-marked_at l folded from to None = []
-marked_at l folded from to (Some number) =
-    if number == folded + to && nat_le from to then wrong_at l to else []
+abbrev pub marked_at : Layout → ℕ → List Entry → ℕ → ℕ → Option ℕ → List ℕ
+marked_at l folded entries from to None = []
+marked_at l folded entries from to (Some number) =
+    if number == folded + to && nat_le from to then wrong_at l folded entries to else []
 
-abbrev pub wrong_mark : Layout → View → List ℕ
-wrong_mark l p = marked_at l p.folded p.from p.to p.wrong
+abbrev pub wrong_mark : Layout → View → List Entry → List ℕ
+wrong_mark l p entries = marked_at l p.folded entries p.from p.to p.wrong
 
-abbrev pub text_in : Layout → View → List ℕ
-text_in l p =
-    head l p ++ ground l p ++ bar_lines l p.bars ++ mark_lines l p.marks
-    ++ wrong_mark l p ++ codes "</svg>\n"
+abbrev pub text_in : Layout → View → List Entry → List ℕ
+text_in l p entries =
+    head l p entries ++ ground l p ++ bar_lines l p.header.object p.folded entries p.bars
+    ++ mark_lines l p.folded entries p.marks ++ wrong_mark l p entries ++ codes "</svg>\n"
 
-unfoldable pub svg_text : View → List ℕ
-svg_text p = text_in (layout_of p.header p.from p.to) p
+-- the document of a picture of some entries, oldest first
+unfoldable pub svg_text : View → List Entry → List ℕ
+svg_text p entries = text_in (layout_of p.header p.from p.to) p entries
 
 -- a picture of entries that a history can have
 pub record IsPicture (p : View) : Type 0 where

@@ -1,8 +1,11 @@
--- The rows of the seats, the scale below them, and the mark of an illegal entry.
-use Rattle.std.specs.Prelude.{ℕ, zero, suc, ◌+◌, ◌*◌, ◌%◌, ◌==◌, nat_lt, if◌then◌else◌, List, [], ◌++◌, codes}
+-- The rows of the seats, the scale below them, and the place of an illegal entry.
+use Rattle.std.specs.Prelude.{ℕ, zero, suc, ◌+◌, ◌*◌, ◌%◌, ◌==◌, nat_lt, if◌then◌else◌, List, [], ◌++◌, codes, slice_get, Option, Some, None}
+use Rattle.history.specs.declared.entry.Entry.{Entry}
 use Rattle.picture.specs.declared.layout.Layout.{Layout}
 use Rattle.picture.specs.Layout.{bottom_of, right_of, x_of, y_of}
-use Rattle.picture.specs.Pieces.{number_at, rect, upright}
+use Rattle.picture.specs.Marks.{mark_place}
+use Rattle.picture.specs.Pieces.{number_at, open_rect, rect, upright}
+use Rattle.picture.specs.Titles.{wrong_title}
 
 -- the background of a seat's row; every other one is shaded
 abbrev pub shade : Layout → ℕ → List ℕ
@@ -37,8 +40,23 @@ abbrev pub ticks : Layout → ℕ → ℕ → List ℕ
 ticks l folded zero = []
 ticks l folded (suc index) = ticks l folded index ++ tick l folded (l.from + index)
 
--- the mark of an illegal entry, through all rows
-abbrev pub wrong_at : Layout → ℕ → List ℕ
-wrong_at l number =
-    rect (codes "<rect class='e' x='")
+-- an exclamation mark in the row of a seat
+abbrev pub exclamation_at : Layout → ℕ → ℕ → List ℕ
+exclamation_at l number seat = mark_place l number seat ++ codes "m0 -5v5m0 2v2'/>\n"
+
+-- the mark of the seat that made an illegal entry
+abbrev pub culprit_at : Layout → ℕ → Option Entry → List ℕ
+culprit_at l number None = []
+culprit_at l number (Some e) = exclamation_at l number e.seat
+
+-- the field of an illegal entry through all rows, with its tooltip
+abbrev pub field_at : Layout → ℕ → List Entry → ℕ → List ℕ
+field_at l folded entries number =
+    open_rect (codes "<rect class='e' x='")
     (record { x = x_of l number; y = l.top; width = l.step; height = l.seats * 40 })
+    ++ wrong_title folded entries number
+
+-- the culprit and the field of an illegal entry
+abbrev pub wrong_at : Layout → ℕ → List Entry → ℕ → List ℕ
+wrong_at l folded entries number =
+    culprit_at l number (slice_get entries number) ++ field_at l folded entries number

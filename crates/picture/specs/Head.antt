@@ -1,5 +1,6 @@
 -- The part above the rows.
-use Rattle.std.specs.Prelude.{ℕ, ◌+◌, ◌-◌, ◌==◌, if◌then◌else◌, List, [], ◌++◌, codes, Option, Some, None}
+use Rattle.std.specs.Prelude.{ℕ, ◌+◌, ◌-◌, ◌==◌, if◌then◌else◌, List, [], ◌++◌, codes, slice_get, Option, Some, None}
+use Rattle.history.specs.declared.entry.Entry.{Entry}
 use Rattle.history.specs.declared.header.Header.{Header}
 use Rattle.history.specs.Spelling.{part_of}
 use Rattle.picture.specs.declared.layout.Layout.{Layout}
@@ -7,6 +8,7 @@ use Rattle.picture.specs.View.{View}
 use Rattle.picture.specs.declared.head.TheConstants.{LEGEND, STYLE}
 use Rattle.picture.specs.Layout.{height_of, width_of}
 use Rattle.picture.specs.Pieces.{named}
+use Rattle.picture.specs.Titles.{maker_and_words}
 
 abbrev pub opening_tag : ℕ → ℕ → List ℕ
 opening_tag width height =
@@ -36,16 +38,21 @@ shown_part l p =
     else if p.is_cut then cut l.shown p.entries
     else chosen (p.folded + l.from) (p.folded + l.from + (l.shown - 1)) p.entries
 
--- which entry isn't legal
-abbrev pub wrong_part : Option ℕ → List ℕ
-wrong_part None = []
-wrong_part (Some number) =
-    named (codes "<tspan class='f' dx='8'>not legal at entry ") number ++ codes "</tspan>"
+-- the number of an entry that isn't legal, who made it, and its words
+abbrev pub wrong_words : ℕ → Option Entry → List ℕ
+wrong_words number entry =
+    named (codes "<tspan class='f' dx='8'>not legal at entry ") number ++ maker_and_words entry
+    ++ codes "</tspan>"
 
-abbrev pub shown_line : Layout → View → List ℕ
-shown_line l p =
-    codes "<text x='8' y='36'>" ++ shown_part l p ++ wrong_part p.wrong ++ codes "</text>\n"
+-- which entry isn't legal; who made it is left out if it isn't among the given entries
+abbrev pub wrong_part : ℕ → List Entry → Option ℕ → List ℕ
+wrong_part folded entries None = []
+wrong_part folded entries (Some number) = wrong_words number (slice_get entries (number - folded))
 
-unfoldable pub head : Layout → View → List ℕ
-head l p =
-    opening_tag (width_of l) (height_of l) ++ title p.header ++ shown_line l p ++ LEGEND.now
+abbrev pub shown_line : Layout → View → List Entry → List ℕ
+shown_line l p entries =
+    codes "<text x='8' y='36'>" ++ shown_part l p ++ wrong_part p.folded entries p.wrong ++ codes "</text>\n"
+
+unfoldable pub head : Layout → View → List Entry → List ℕ
+head l p entries =
+    opening_tag (width_of l) (height_of l) ++ title p.header ++ shown_line l p entries ++ LEGEND.now

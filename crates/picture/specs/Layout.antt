@@ -53,10 +53,10 @@ step_of shown = if nat_le shown 200 then 20 else 8
 
 -- the rows begin below the curve, if there is one
 abbrev pub top_of : Object → ℕ
-top_of (Lock policy) = 72
-top_of (ReadWrite policy) = 72
-top_of (Semaphore policy permits) = 160
-top_of (Latch count) = 160
+top_of (Lock policy) = 92
+top_of (ReadWrite policy) = 92
+top_of (Semaphore policy permits) = 180
+top_of (Latch count) = 180
 
 -- the layout of the entries from `from` on, before `to`
 abbrev pub layout_of : Header → ℕ → ℕ → Layout

@@ -1,6 +1,7 @@
 pub mod View
 pub mod Layout
 pub mod Pieces
+pub mod Titles
 pub mod Bars
 pub mod Marks
 pub mod Grid

@@ -10,10 +10,13 @@ named name number = name ++ decimal number
 abbrev pub placed : List ℕ → ℕ → ℕ → List ℕ
 placed shape x y = named shape x ++ named (codes "' y='") y
 
-abbrev pub rect : List ℕ → Rect → List ℕ
-rect shape r =
+-- the beginning of a rectangle, up to its last number
+abbrev pub open_rect : List ℕ → Rect → List ℕ
+open_rect shape r =
     placed shape r.x r.y ++ named (codes "' width='") r.width ++ named (codes "' height='") r.height
-    ++ codes "'/>\n"
+
+abbrev pub rect : List ℕ → Rect → List ℕ
+rect shape r = open_rect shape r ++ codes "'/>\n"
 
 -- a number at a position, after a few words
 abbrev pub number_at : ℕ → ℕ → List ℕ → ℕ → List ℕ

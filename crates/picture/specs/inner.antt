@@ -6,5 +6,5 @@ use Rattle.picture.specs.declared.layout.Layout.{Layout}
 pub record IsLayout (l : Layout) : Type 0 where
   pub few : l.from + l.shown < 2 ^ 32
   pub step : l.step ≤ 20
-  pub top : l.top ≤ 160
+  pub top : l.top ≤ 180
   pub seats : l.seats < 2 ^ 16

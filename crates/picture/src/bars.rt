@@ -2,45 +2,123 @@
 
 ghost use Rattle.std.specs.Prelude.{◌≡◌, ◌<◌, ◌^◌, ◌++◌, OnOk};
 ghost use Rattle.std.specs.List.{All};
+ghost use Rattle.history.specs.Entry.{same_mode};
+ghost use Rattle.history.specs.declared.entry.Mode.TheVariants.{S};
 ghost use Rattle.picture.specs.Layout.{IsShort};
 ghost use Rattle.picture.specs.inner.{IsLayout};
-ghost use Rattle.picture.specs.Bars.{bar_line, bar_lines, inside, label, shape_of};
+ghost use Rattle.picture.specs.Bars.{bar_line, bar_lines, inside, is_of_line, label, only_shares, says_shared, shape_of, waits_to_share};
 
 use crate::layout::{Layout, Rect};
-use crate::pieces::{put_placed, put_rect};
+use crate::pieces::{put_open_rect, put_placed};
+use crate::titles::{entry_at, put_bar_title};
 use drawing::bar::Bar;
 use drawing::kind::Kind;
+use history::entry::{Entry, Mode, Word};
+use history::header::Object;
 use itoa::Buffer;
 use std::alloc::AllocError;
 
 /// Appends all bars.
-pub(crate) fn put_bars(out: &mut Vec<u8>, layout: Layout, bars: &[Bar]) -> Result<(), AllocError>
+pub(crate) fn put_bars(
+    out: &mut Vec<u8>,
+    layout: Layout,
+    object: Object,
+    folded: u64,
+    entries: &[Entry],
+    bars: &[Bar],
+) -> Result<(), AllocError>
     requires layout { IsLayout layout }
+    requires folded { folded < 2 ^ 63 }
     requires short { All IsShort bars.now }
-    ensures { OnOk result (out.new.items ≡ out.old.items ++ bar_lines layout bars.now) }
+    ensures { OnOk result (out.new.items
+        ≡ out.old.items ++ bar_lines layout object folded entries.now bars.now) }
 {
     for bar in bars {
-        put_bar(out, layout, *bar)?;
+        put_bar(out, layout, object, folded, entries, *bar)?;
     }
     Ok(())
 }
 
-fn put_bar(out: &mut Vec<u8>, layout: Layout, bar: Bar) -> Result<(), AllocError>
+/// Appends a bar with its tooltip, and the text in it.
+fn put_bar(
+    out: &mut Vec<u8>,
+    layout: Layout,
+    object: Object,
+    folded: u64,
+    entries: &[Entry],
+    bar: Bar,
+) -> Result<(), AllocError>
     requires layout { IsLayout layout }
+    requires folded { folded < 2 ^ 63 }
     requires short { IsShort bar }
-    ensures { OnOk result (out.new.items ≡ out.old.items ++ bar_line layout bar) }
+    ensures { OnOk result (out.new.items
+        ≡ out.old.items ++ bar_line layout object folded entries.now bar) }
 {
     let area = layout.rect(bar);
-    put_rect(out, shape_of(bar.kind), area)?;
+    let to_share = waits_to_share(object, entries, bar);
+    put_open_rect(out, shape_of(bar.kind, to_share), area)?;
+    put_bar_title(out, folded, entries, bar)?;
     put_label(out, area, bar)
 }
 
-fn shape_of(kind: Kind) -> &'static [u8]
-    ensures { result.now ≡ shape_of kind }
+/// Returns whether a wait in line is to share, as the entry says that begins it or the one that ends it. Nothing is
+/// known of a wait that begins before the first entry that is drawn and has not ended at the last.
+fn waits_to_share(object: Object, entries: &[Entry], bar: Bar) -> bool
+    requires { IsShort bar }
+    ensures { result ≡ waits_to_share object entries.now bar }
+{
+    only_shares(object)
+        || says_shared(bar.seat, entry_at(entries, bar.first))
+        || says_shared(bar.seat, entry_at(entries, bar.last + 1))
+}
+
+/// Returns whether everybody has a share of an object.
+fn only_shares(object: Object) -> bool
+    ensures { result ≡ only_shares object }
+{
+    match object {
+        Object::Lock(_) | Object::ReadWrite(_) => false,
+        Object::Semaphore(_, _) | Object::Latch(_) => true,
+    }
+}
+
+/// Returns whether an entry says that its seat waits in line to share, or has waited so.
+fn says_shared(seat: u16, entry: Option<Entry>) -> bool
+    ensures { result ≡ says_shared seat entry }
+{
+    match entry {
+        None => false,
+        Some(entry) => entry.seat == seat && is_of_line(entry.word) && is_shared(entry.mode),
+    }
+}
+
+/// Returns whether a word is that of an acquire that waits in line, or of the end of such a wait.
+fn is_of_line(word: Word) -> bool
+    ensures { result ≡ is_of_line word }
+{
+    match word {
+        Word::Queued | Word::Granted | Word::Left => true,
+        _ => false,
+    }
+}
+
+fn is_shared(mode: Mode) -> bool
+    ensures { result ≡ same_mode mode S }
+{
+    match mode {
+        Mode::X => false,
+        Mode::S => true,
+    }
+}
+
+/// Returns how a bar looks.
+fn shape_of(kind: Kind, to_share: bool) -> &'static [u8]
+    ensures { result.now ≡ shape_of kind to_share }
 {
     match kind {
         Kind::Exclusive => b"<rect class='x' x='",
         Kind::Shared => b"<rect class='s' x='",
+        Kind::InLine if to_share => b"<rect class='v' x='",
         Kind::InLine => b"<rect class='w' x='",
         Kind::Asleep(_) => b"<rect class='z' x='",
     }

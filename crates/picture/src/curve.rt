@@ -87,8 +87,8 @@ fn put_lines(
         ≡ out.old.items ++ curve_lines word.now range step amounts.now) }
 {
     put_word(out, word)?;
-    put_amount(out, 92, &range.high)?;
-    put_amount(out, 144, &range.low)?;
+    put_amount(out, 112, &range.high)?;
+    put_amount(out, 164, &range.low)?;
     put_runs(out, range, step, amounts)?;
     Ok(())
 }
@@ -97,7 +97,7 @@ fn put_lines(
 fn put_word(out: &mut Vec<u8>, word: &[u8]) -> Result<(), AllocError>
     ensures { OnOk result (out.new.items ≡ out.old.items ++ word_of word.now) }
 {
-    out.extend_from_slice(b"<text x='8' y='118'>")?;
+    out.extend_from_slice(b"<text x='8' y='138'>")?;
     out.extend_from_slice(word)?;
     out.extend_from_slice(b"</text>\n")
 }
@@ -118,7 +118,7 @@ fn put_amount(out: &mut Vec<u8>, y: u64, amount: &i128) -> Result<(), AllocError
 fn put_runs(out: &mut Vec<u8>, range: Range, step: u64, amounts: &[i128]) -> Result<(), AllocError>
     ensures { OnOk result (out.new.items ≡ out.old.items ++ runs_of range step amounts.now) }
 {
-    out.extend_from_slice(b"<path class='c' d='M72 144")?;
+    out.extend_from_slice(b"<path class='c' d='M72 164")?;
     for amount in amounts {
         put_run(out, range, step, amount)?;
     }
@@ -130,6 +130,6 @@ fn put_runs(out: &mut Vec<u8>, range: Range, step: u64, amounts: &[i128]) -> Res
 fn put_run(out: &mut Vec<u8>, range: Range, step: u64, amount: &i128) -> Result<(), AllocError>
     ensures { OnOk result (out.new.items ≡ out.old.items ++ run_of range step amount.now) }
 {
-    put(out, b"V", 144 - range.up(amount))?;
+    put(out, b"V", 164 - range.up(amount))?;
     put(out, b"h", step)
 }

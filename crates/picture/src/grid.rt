@@ -1,11 +1,14 @@
-//! The rows of the seats, the scale below them, and the mark of an illegal entry.
+//! The rows of the seats, the scale below them, and the place of an illegal entry.
 
 ghost use Rattle.std.specs.Prelude.{◌≡◌, ◌<◌, ◌≤◌, ◌+◌, ◌^◌, ◌++◌, OnOk, zero};
 ghost use Rattle.picture.specs.inner.{IsLayout};
-ghost use Rattle.picture.specs.Grid.{pitch_of, row, rows, shade, tick, ticks, wrong_at};
+ghost use Rattle.picture.specs.Grid.{culprit_at, exclamation_at, field_at, pitch_of, row, rows, shade, tick, ticks, wrong_at};
 
 use crate::layout::{Layout, Rect};
-use crate::pieces::{put_number_at, put_rect, put_upright};
+use crate::marks::put_mark_place;
+use crate::pieces::{put_number_at, put_open_rect, put_rect, put_upright};
+use crate::titles::{entry_at, put_wrong_title};
+use history::entry::Entry;
 use std::alloc::AllocError;
 
 /// Appends the rows of all seats.
@@ -81,10 +84,65 @@ fn pitch_of(step: u64) -> u64
     if step == 20 { 5 } else { 10 }
 }
 
-/// Appends the mark of an illegal entry, through all rows.
-pub(crate) fn put_wrong(out: &mut Vec<u8>, layout: Layout, number: u64) -> Result<(), AllocError>
+/// Appends the culprit and the field of an illegal entry.
+pub(crate) fn put_wrong(
+    out: &mut Vec<u8>,
+    layout: Layout,
+    folded: u64,
+    entries: &[Entry],
+    number: u64,
+) -> Result<(), AllocError>
+    requires layout { IsLayout layout × (number < 2 ^ 33) }
+    requires folded { folded < 2 ^ 63 }
+    ensures { OnOk result (out.new.items
+        ≡ out.old.items ++ wrong_at layout folded entries.now number) }
+{
+    put_culprit(out, layout, number, entry_at(entries, number))?;
+    put_field(out, layout, folded, entries, number)
+}
+
+/// Appends the mark of the seat that made an illegal entry.
+fn put_culprit(
+    out: &mut Vec<u8>,
+    layout: Layout,
+    number: u64,
+    entry: Option<Entry>,
+) -> Result<(), AllocError>
     requires { IsLayout layout × (number < 2 ^ 33) }
-    ensures { OnOk result (out.new.items ≡ out.old.items ++ wrong_at layout number) }
+    ensures { OnOk result (out.new.items ≡ out.old.items ++ culprit_at layout number entry) }
+{
+    match entry {
+        None => Ok(()),
+        Some(entry) => put_exclamation(out, layout, number, entry.seat),
+    }
+}
+
+/// Appends an exclamation mark in the row of a seat.
+fn put_exclamation(
+    out: &mut Vec<u8>,
+    layout: Layout,
+    number: u64,
+    seat: u16,
+) -> Result<(), AllocError>
+    requires { IsLayout layout × (number < 2 ^ 33) }
+    ensures { OnOk result (out.new.items ≡ out.old.items ++ exclamation_at layout number seat) }
+{
+    put_mark_place(out, layout, number, seat)?;
+    out.extend_from_slice(b"m0 -5v5m0 2v2'/>\n")
+}
+
+/// Appends the field of an illegal entry through all rows, with its tooltip.
+fn put_field(
+    out: &mut Vec<u8>,
+    layout: Layout,
+    folded: u64,
+    entries: &[Entry],
+    number: u64,
+) -> Result<(), AllocError>
+    requires layout { IsLayout layout × (number < 2 ^ 33) }
+    requires folded { folded < 2 ^ 63 }
+    ensures { OnOk result (out.new.items
+        ≡ out.old.items ++ field_at layout folded entries.now number) }
 {
     let area = Rect {
         x: layout.x(number),
@@ -92,5 +150,6 @@ pub(crate) fn put_wrong(out: &mut Vec<u8>, layout: Layout, number: u64) -> Resul
         width: layout.step,
         height: layout.seats * 40,
     };
-    put_rect(out, b"<rect class='e' x='", area)
+    put_open_rect(out, b"<rect class='e' x='", area)?;
+    put_wrong_title(out, folded, entries, number)
 }

@@ -3,18 +3,21 @@
 ghost use Rattle.std.specs.Prelude.{◌≡◌, ◌<◌, ◌++◌, ◌^◌, OnOk};
 ghost use Rattle.history.specs.Header.{IsInRange};
 ghost use Rattle.history.specs.Spelling.{part_of};
-ghost use Rattle.picture.specs.Head.{chosen, cut, head, opening_tag, shown_line, shown_part, title, wrong_part};
+ghost use Rattle.picture.specs.Head.{chosen, cut, head, opening_tag, shown_line, shown_part, title, wrong_part, wrong_words};
 ghost use Rattle.picture.specs.inner.{IsLayout};
 ghost use Rattle.picture.specs.View.{view_of};
 
 use crate::layout::Layout;
 use crate::picture::Picture;
 use crate::pieces::put;
+use crate::titles::{entry_at, put_maker};
+use history::entry::Entry;
 use history::header::Header;
 use std::alloc::AllocError;
 
 /// The style sheet. Exclusive holds are dark and shared ones light, so that they differ in print too. A wait
-/// in the queue has an outline, and a wait on a condition a dotted one.
+/// in the queue has an outline, one to share is hatched too, and a wait on a condition has a dotted outline. A label
+/// lets the pointer through to the tooltip of its bar.
 pub(crate) const STYLE: &[u8] = b"<style type='text/css'>\n\
     text{font-family:sans-serif;font-size:11px;fill:#222}\n\
     .h{font-size:14px;font-weight:bold}\n\
@@ -23,44 +26,55 @@ pub(crate) const STYLE: &[u8] = b"<style type='text/css'>\n\
     .x{fill:#14467c;stroke:#fff}\n\
     .s{fill:#f5d06a;stroke:#7a5b00}\n\
     .w{fill:#fff;stroke:#222}\n\
+    .v{fill:url(#hatch);stroke:#222}\n\
     .z{fill:#fff;stroke:#222;stroke-dasharray:2 2}\n\
-    .n{font-size:10px}\n\
-    .i{font-size:10px;fill:#fff}\n\
-    .m{fill:none;stroke:#222;stroke-width:1.3}\n\
+    .n{font-size:10px;pointer-events:none}\n\
+    .i{font-size:10px;fill:#fff;pointer-events:none}\n\
+    .m{fill:none;stroke:#222;stroke-width:1.3;pointer-events:all}\n\
     .a{font-size:10px;text-anchor:end}\n\
     .c{fill:none;stroke:#14467c;stroke-width:1.5}\n\
     .e{fill:#c00;fill-opacity:0.2;stroke:#c00}\n\
     .f{fill:#a00;font-weight:bold}\n\
     </style>\n\
+    <defs><pattern id='hatch' width='4' height='4' patternUnits='userSpaceOnUse'>\
+    <path d='M0 4L4 0' stroke='#222' stroke-width='0.7'/></pattern></defs>\n\
     <rect width='100%' height='100%' fill='#fff'/>\n";
 
-/// The legend of bars and marks.
+/// The legend: a line of bars, and a line of marks.
 pub(crate) const LEGEND: &[u8] = b"<rect class='x' x='8' y='48' width='24' height='12'/>\
     <text x='37' y='58'>exclusive</text>\n\
     <rect class='s' x='96' y='48' width='24' height='12'/><text x='125' y='58'>shared</text>\n\
     <rect class='w' x='172' y='48' width='24' height='12'/><text x='201' y='58'>in line</text>\n\
-    <rect class='z' x='248' y='48' width='24' height='12'/>\
-    <text x='277' y='58'>asleep on a condition</text>\n\
-    <path class='m' d='M408 54m-3 0a3 3 0 1 0 6 0a3 3 0 1 0 -6 0'/><text x='417' y='58'>missed</text>\n\
-    <path class='m' d='M468 54m-3 -3l6 6m0 -6l-6 6'/><text x='477' y='58'>refused</text>\n\
-    <path class='m' d='M532 54m0 -4l3 7h-6z'/><text x='541' y='58'>signal</text>\n\
-    <path class='m' d='M588 54m0 4l3 -7h-6z'/><text x='597' y='58'>drained</text>\n\
-    <path class='m' d='M652 54m-3 -4v8m3 -8v8m3 -8v8'/><text x='663' y='58'>counted</text>\n";
+    <rect class='v' x='248' y='48' width='24' height='12'/><text x='277' y='58'>in line to share</text>\n\
+    <rect class='z' x='368' y='48' width='24' height='12'/>\
+    <text x='397' y='58'>asleep on a condition</text>\n\
+    <path class='m' d='M12 74m-4 0l3 3l5 -6'/><text x='21' y='78'>granted</text>\n\
+    <path class='m' d='M80 74m-4 0a4 4 0 1 0 8 0a4 4 0 1 0 -8 0m4 -3v3h2'/>\
+    <text x='89' y='78'>timed out</text>\n\
+    <path class='m' d='M156 74m1 -4l-3 4h4l-3 4'/><text x='165' y='78'>interrupted</text>\n\
+    <path class='m' d='M242 74m-3 0a3 3 0 1 0 6 0a3 3 0 1 0 -6 0'/><text x='251' y='78'>missed</text>\n\
+    <path class='m' d='M306 74m-3 -3l6 6m0 -6l-6 6'/><text x='315' y='78'>refused</text>\n\
+    <path class='m' d='M372 74m0 -4l3 7h-6z'/><text x='381' y='78'>signal</text>\n\
+    <path class='m' d='M430 74m0 4l3 -7h-6z'/><text x='439' y='78'>drained</text>\n\
+    <path class='m' d='M496 74m-3 -4v8m3 -8v8m3 -8v8'/><text x='507' y='78'>counted</text>\n\
+    <path class='m' d='M564 74m0 -5v5m0 2v2'/><text x='570' y='78'>not legal</text>\n";
 
 /// Appends all that precedes the rows and the curve.
 pub(crate) fn put_head(
     out: &mut Vec<u8>,
     layout: Layout,
     picture: &Picture,
+    entries: &[Entry],
 ) -> Result<(), AllocError>
     requires layout { IsLayout layout }
     requires range { IsInRange picture.now.header }
     requires folded { picture.now.folded < 2 ^ 63 }
-    ensures { OnOk result (out.new.items ≡ out.old.items ++ head layout (view_of picture.now)) }
+    ensures { OnOk result (out.new.items
+        ≡ out.old.items ++ head layout (view_of picture.now) entries.now) }
 {
     put_opening(out, layout.width(), layout.height())?;
     put_title(out, picture.header)?;
-    put_shown(out, layout, picture)?;
+    put_shown(out, layout, picture, entries)?;
     out.extend_from_slice(LEGEND)?;
     Ok(())
 }
@@ -107,14 +121,20 @@ fn put_header(out: &mut Vec<u8>, header: Header) -> Result<(), AllocError>
 }
 
 /// Appends the line that says which entries are shown, and which isn't legal.
-fn put_shown(out: &mut Vec<u8>, layout: Layout, picture: &Picture) -> Result<(), AllocError>
+fn put_shown(
+    out: &mut Vec<u8>,
+    layout: Layout,
+    picture: &Picture,
+    entries: &[Entry],
+) -> Result<(), AllocError>
     requires layout { IsLayout layout }
     requires folded { picture.now.folded < 2 ^ 63 }
-    ensures { OnOk result (out.new.items ≡ out.old.items ++ shown_line layout (view_of picture.now)) }
+    ensures { OnOk result (out.new.items
+        ≡ out.old.items ++ shown_line layout (view_of picture.now) entries.now) }
 {
     out.extend_from_slice(b"<text x='8' y='36'>")?;
     put_shown_part(out, layout, picture)?;
-    put_wrong_part(out, picture.wrong)?;
+    put_wrong_part(out, picture.folded, entries, picture.wrong)?;
     out.extend_from_slice(b"</text>\n")
 }
 
@@ -151,14 +171,29 @@ fn put_chosen(out: &mut Vec<u8>, first: u64, last: u64, entries: u64) -> Result<
     put(out, b" of ", entries)
 }
 
-fn put_wrong_part(out: &mut Vec<u8>, wrong: Option<u64>) -> Result<(), AllocError>
-    ensures { OnOk result (out.new.items ≡ out.old.items ++ wrong_part wrong) }
+/// Appends which entry isn't legal. Who made it is left out if it isn't among the given entries.
+fn put_wrong_part(
+    out: &mut Vec<u8>,
+    folded: u64,
+    entries: &[Entry],
+    wrong: Option<u64>,
+) -> Result<(), AllocError>
+    ensures { OnOk result (out.new.items ≡ out.old.items ++ wrong_part folded entries.now wrong) }
 {
     match wrong {
         None => Ok(()),
         Some(number) => {
-            put(out, b"<tspan class='f' dx='8'>not legal at entry ", number)?;
-            out.extend_from_slice(b"</tspan>")
+            let entry = entry_at(entries, number.saturating_sub(folded));
+            put_wrong_words(out, number, entry)
         }
     }
+}
+
+/// Appends the number of an entry that isn't legal, who made it, and its words.
+fn put_wrong_words(out: &mut Vec<u8>, number: u64, entry: Option<Entry>) -> Result<(), AllocError>
+    ensures { OnOk result (out.new.items ≡ out.old.items ++ wrong_words number entry) }
+{
+    put(out, b"<tspan class='f' dx='8'>not legal at entry ", number)?;
+    put_maker(out, entry)?;
+    out.extend_from_slice(b"</tspan>")
 }

@@ -126,11 +126,11 @@ fn step_of(shown: u64) -> u64
 /// Returns where the rows begin: below the curve, if there is one.
 fn top_of(object: Object) -> u64
     ensures is { result ≡ top_of object }
-    ensures bound { result ≤ 160 }
+    ensures bound { result ≤ 180 }
 {
     match object {
-        Object::Lock(_) | Object::ReadWrite(_) => 72,
-        Object::Semaphore(_, _) | Object::Latch(_) => 160,
+        Object::Lock(_) | Object::ReadWrite(_) => 92,
+        Object::Semaphore(_, _) | Object::Latch(_) => 180,
     }
 }
 

@@ -4,8 +4,8 @@
 //! header and the range of entries that are shown.
 //!
 //! Nothing is escaped. A picture has no text from a user. Its words are this crate's, the names of objects
-//! and policies are the header's own spelling, and all else is digits. None of these has a `<`, a `&` or a
-//! quote.
+//! and policies are the header's own spelling, those of entries and faults are a history text's, and all else
+//! is digits. None of these has a `<`, a `&` or a quote.
 #![tactic(auto)]
 
 mod bars;
@@ -17,3 +17,4 @@ mod layout;
 mod marks;
 pub mod picture;
 mod pieces;
+mod titles;

@@ -3,42 +3,70 @@
 ghost use Rattle.std.specs.Prelude.{◌≡◌, ◌<◌, ◌^◌, ◌++◌, OnOk};
 ghost use Rattle.std.specs.List.{All};
 ghost use Rattle.picture.specs.inner.{IsLayout};
-ghost use Rattle.picture.specs.Marks.{IsEarly, mark_line, mark_lines, shape_of};
+ghost use Rattle.picture.specs.Marks.{IsEarly, mark_line, mark_lines, mark_place, shape_of};
 
 use crate::layout::Layout;
 use crate::pieces::put;
+use crate::titles::put_mark_title;
 use drawing::mark::{Mark, Sign};
+use history::entry::Entry;
 use std::alloc::AllocError;
 
 /// Appends all marks.
-pub(crate) fn put_marks(out: &mut Vec<u8>, layout: Layout, marks: &[Mark]) -> Result<(), AllocError>
+pub(crate) fn put_marks(
+    out: &mut Vec<u8>,
+    layout: Layout,
+    folded: u64,
+    entries: &[Entry],
+    marks: &[Mark],
+) -> Result<(), AllocError>
     requires layout { IsLayout layout }
+    requires folded { folded < 2 ^ 63 }
     requires early { All IsEarly marks.now }
-    ensures { OnOk result (out.new.items ≡ out.old.items ++ mark_lines layout marks.now) }
+    ensures { OnOk result (out.new.items
+        ≡ out.old.items ++ mark_lines layout folded entries.now marks.now) }
 {
     for mark in marks {
-        put_mark(out, layout, *mark)?;
+        put_mark(out, layout, folded, entries, *mark)?;
     }
     Ok(())
 }
 
-/// Appends a mark in the middle of its entry, below the seat's bars.
-fn put_mark(out: &mut Vec<u8>, layout: Layout, mark: Mark) -> Result<(), AllocError>
-    requires layout { IsLayout layout }
-    requires early { IsEarly mark }
-    ensures { OnOk result (out.new.items ≡ out.old.items ++ mark_line layout mark) }
+/// Appends the beginning of a mark in the middle of an entry, below the seat's bars.
+pub(crate) fn put_mark_place(
+    out: &mut Vec<u8>,
+    layout: Layout,
+    number: u64,
+    seat: u16,
+) -> Result<(), AllocError>
+    requires { IsLayout layout × (number < 2 ^ 33) }
+    ensures { OnOk result (out.new.items ≡ out.old.items ++ mark_place layout number seat) }
 {
-    put(
-        out,
-        b"<path class='m' d='M",
-        layout.x(mark.number) + layout.step / 2,
-    )?;
-    put(out, b" ", layout.y(mark.seat) + 34)?;
-    out.extend_from_slice(shape_of(mark.sign))?;
-    out.extend_from_slice(b"'/>\n")
+    let middle = layout.x(number) + layout.step / 2;
+    put(out, b"<path class='m' d='M", middle)?;
+    put(out, b" ", layout.y(seat) + 34)
 }
 
-/// Returns the shape: a circle, a cross, a triangle that points up, one that points down, or three strokes.
+/// Appends a mark with its tooltip.
+fn put_mark(
+    out: &mut Vec<u8>,
+    layout: Layout,
+    folded: u64,
+    entries: &[Entry],
+    mark: Mark,
+) -> Result<(), AllocError>
+    requires layout { IsLayout layout }
+    requires folded { folded < 2 ^ 63 }
+    requires early { IsEarly mark }
+    ensures { OnOk result (out.new.items ≡ out.old.items ++ mark_line layout folded entries.now mark) }
+{
+    put_mark_place(out, layout, mark.number, mark.seat)?;
+    out.extend_from_slice(shape_of(mark.sign))?;
+    put_mark_title(out, folded, entries, mark)
+}
+
+/// Returns the shape: a circle, a cross, a triangle that points up, one that points down, three strokes, a
+/// tick, a clock, or a zigzag.
 fn shape_of(sign: Sign) -> &'static [u8]
     ensures { result.now ≡ shape_of sign }
 {
@@ -48,5 +76,8 @@ fn shape_of(sign: Sign) -> &'static [u8]
         Sign::Signal => b"m0 -4l3 7h-6z",
         Sign::Drained => b"m0 4l3 -7h-6z",
         Sign::Counted => b"m-3 -4v8m3 -8v8m3 -8v8",
+        Sign::Granted => b"m-4 0l3 3l5 -6",
+        Sign::TimedOut => b"m-4 0a4 4 0 1 0 8 0a4 4 0 1 0 -8 0m4 -3v3h2",
+        Sign::Interrupted => b"m1 -4l-3 4h4l-3 4",
     }
 }

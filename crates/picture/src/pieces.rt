@@ -1,7 +1,7 @@
 //! Pieces of elements.
 
 ghost use Rattle.std.specs.Prelude.{◌≡◌, ◌++◌, OnOk};
-ghost use Rattle.picture.specs.Pieces.{named, number_at, placed, rect, upright};
+ghost use Rattle.picture.specs.Pieces.{named, number_at, open_rect, placed, rect, upright};
 
 use crate::layout::Rect;
 use history::number::put_number;
@@ -24,13 +24,20 @@ pub(crate) fn put_placed(out: &mut Vec<u8>, shape: &[u8], x: u64, y: u64) -> Res
     put(out, b"' y='", y)
 }
 
+/// Appends the beginning of a rectangle, up to its last number.
+pub(crate) fn put_open_rect(out: &mut Vec<u8>, shape: &[u8], area: Rect) -> Result<(), AllocError>
+    ensures { OnOk result (out.new.items ≡ out.old.items ++ open_rect shape.now area) }
+{
+    put_placed(out, shape, area.x, area.y)?;
+    put(out, b"' width='", area.width)?;
+    put(out, b"' height='", area.height)
+}
+
 /// Appends a rectangle.
 pub(crate) fn put_rect(out: &mut Vec<u8>, shape: &[u8], area: Rect) -> Result<(), AllocError>
     ensures { OnOk result (out.new.items ≡ out.old.items ++ rect shape.now area) }
 {
-    put_placed(out, shape, area.x, area.y)?;
-    put(out, b"' width='", area.width)?;
-    put(out, b"' height='", area.height)?;
+    put_open_rect(out, shape, area)?;
     out.extend_from_slice(b"'/>\n")
 }
 

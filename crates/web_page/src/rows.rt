@@ -57,6 +57,9 @@ fn sign_part(sign: Sign) -> &'static [u8]
         Sign::Signal => b",[\"signal\"",
         Sign::Drained => b",[\"drained\"",
         Sign::Counted => b",[\"counted\"",
+        Sign::Granted => b",[\"granted\"",
+        Sign::TimedOut => b",[\"timeout\"",
+        Sign::Interrupted => b",[\"interrupt\"",
     }
 }
 

@@ -9,7 +9,7 @@ pub const OPENING: &[u8] = b"\
     <html lang='en'>\n\
     <head>\n\
     <meta charset='utf-8'>\n\
-    <meta http-equiv='Content-Security-Policy' content=\"default-src 'none'; script-src 'sha256-M3YYtG7f2kWrysSztZA4xKuXTroE/VNth8u2zcDhLoM='; style-src 'sha256-lAR4oZJmbvFLPLO4vxmxk2ouwdbq35Xk4u3a3RLGdSo='; base-uri 'none'; form-action 'none'\">\n\
+    <meta http-equiv='Content-Security-Policy' content=\"default-src 'none'; script-src 'sha256-9MJfwavx8vXidy8ItdUef6oNeVOhOcwfbpq6MBfv1lE='; style-src 'sha256-lAR4oZJmbvFLPLO4vxmxk2ouwdbq35Xk4u3a3RLGdSo='; base-uri 'none'; form-action 'none'\">\n\
     <meta name='viewport' content='width=device-width'>\n\
     <title>aqs draw</title>\n\
     <style>\n\
@@ -76,7 +76,7 @@ pub const OPENING: &[u8] = b"\
     <li>An outlined bar with q: the seat waits in the queue. qx: to own or to write. qs: to read, for permits or for a latch.</li>\n\
     <li>A dotted bar with c and a number: the seat sleeps on that condition.</li>\n\
     <li>A circle: missed. A cross: refused. A triangle up: signal. A triangle down: drained. Three strokes: counted.</li>\n\
-    <li>A tick: acquired after a wait. A clock: a wait timed out. A zigzag: a wait was interrupted.</li>\n\
+    <li>A tick: granted, after a wait. A clock: a wait timed out. A zigzag: a wait was interrupted.</li>\n\
     <li>A frame through all rows: the entry of the panel. A red field: the first entry that is not legal.</li>\n\
     <li>Arrow left and right: one entry back and forward. Home and End: the first and the last. + and -: zoom. A click on a bar goes to its first entry.</li>\n\
     </ul>\n\
@@ -190,17 +190,10 @@ pub const CLOSING: &[u8] = b"\
         signal: 'm0 -4l3 7h-6z',\n\
         drained: 'm0 4l3 -7h-6z',\n\
         counted: 'm-3 -4v8m3 -8v8m3 -8v8',\n\
-        acquired: 'm-4 0l3 3l5 -6',\n\
+        granted: 'm-4 0l3 3l5 -6',\n\
         timeout: 'm-4 0a4 4 0 1 0 8 0a4 4 0 1 0 -8 0m4 -3v3h2',\n\
         interrupt: 'm1 -4l-3 4h4l-3 4',\n\
       };\n\
-    \n\
-      // How an entry ended a wait, if it ended one.\n\
-      function endOf(entry) {\n\
-        const last = entry.words.split(' ').pop();\n\
-        if (last === 'timeout' || last === 'interrupt') return last;\n\
-        return entry.word === 'granted' || entry.word === 'back' ? 'acquired' : '';\n\
-      }\n\
     \n\
       // What a wait in the queue is for, if its first entry is shown: x to own or to write, s to read or for permits.\n\
       function modeOf(bar) {\n\
@@ -291,10 +284,6 @@ pub const CLOSING: &[u8] = b"\
             drawMark(picture, mark.at, mark.seat, mark.sign, x, y, step);\n\
           }\n\
         });\n\
-        for (let k = begin; k < end; k += 1) {\n\
-          const entry = entries[k - from];\n\
-          if (endOf(entry) !== '') drawMark(picture, k, entry.seat, endOf(entry), x, y, step);\n\
-        }\n\
         if (data.wrong === numberOf(to) && end === to) {\n\
           const it = element(picture, 'rect', { class: 'e', x: x(to), y: top, width: step, height: bottom - top });\n\
           element(it, 'title', {}, 'not legal');\n\

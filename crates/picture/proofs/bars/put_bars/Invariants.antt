@@ -3,4 +3,5 @@ use Rattle.picture.specs.Bars.{bar_lines}
 use Rattle.picture.proofs.bars.put_bars.Given as goal
 
 abbrev pub invariant-loop-bar : goal.invariant-loop-bar
-invariant-loop-bar l = l.out.items ≡ l.initial.out.items ++ bar_lines l.layout (take l.bar-index l.bars)
+invariant-loop-bar l =
+    l.out.items ≡ l.initial.out.items ++ bar_lines l.layout l.object l.folded l.entries (take l.bar-index l.bars)

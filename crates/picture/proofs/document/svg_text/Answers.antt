@@ -10,11 +10,12 @@ pub returns : goal.returns
 unfolding svg_text
 returns c =
     let p = view_of c.args.picture.now in
+    let entries = c.args.entries.now in
     six _ _ _ _ _ _ _ _ _ _ _ _ _ c.in_ok-put_head.ensures c.in_ok-put_ground.ensures
     (c.in_ok-put_bars.ensures
-    ∙ ap (λ xs. c.put_ground.new.out.items ++ bar_lines c.of-layout.result xs) c.deref.ensures.value)
+    ∙ ap (λ xs. c.put_ground.new.out.items ++ bar_lines c.of-layout.result p.header.object p.folded entries xs) c.deref.ensures.value)
     (c.in_ok-put_marks.ensures
-    ∙ ap (λ xs. c.put_bars.new.out.items ++ mark_lines c.of-layout.result xs) c.deref-2.ensures.value)
+    ∙ ap (λ xs. c.put_bars.new.out.items ++ mark_lines c.of-layout.result p.folded entries xs) c.deref-2.ensures.value)
     c.in_ok-put_wrong_mark.ensures c.in_ok-extend_from_slice.ensures.items
-    ∙ ap (λ xs. xs ++ text_in c.of-layout.result p) c.new-out.ensures.items
-    ∙ ap (λ l. text_in l p) c.of-layout.ensures.is
+    ∙ ap (λ xs. xs ++ text_in c.of-layout.result p entries) c.new-out.ensures.items
+    ∙ ap (λ l. text_in l p entries) c.of-layout.ensures.is

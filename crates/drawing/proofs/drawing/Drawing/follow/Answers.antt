@@ -116,8 +116,8 @@ returns c = λ s from h was seat.
           ∙ all_end s from e h drawn;
       numbers = c.note-2.ensures s h was.numbers;
       marked = c.in_ok-put_mark.ensures
-          ∙ ap (λ xs. xs ++ mark_of old.count e.seat (sign_of e.word)) was.marked
-          ∙ ap (λ n. marks from h ++ mark_of n e.seat (sign_of e.word)) was.count
+          ∙ ap (λ xs. xs ++ mark_of old.count e.seat (sign_of e.word e.end)) was.marked
+          ∙ ap (λ n. marks from h ++ mark_of n e.seat (sign_of e.word e.end)) was.count
           ∙ one_mark from e h drawn;
       points = c.in_ok-put_point.ensures s (e ∷ h) (c.note-2.ensures s h was.numbers)
           (ap (λ (x : Header). x.object) (sym was.header))

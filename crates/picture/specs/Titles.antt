@@ -1,0 +1,49 @@
+-- The tooltips of bars and marks.
+use Rattle.std.specs.Prelude.{ℕ, ◌+◌, List, [], ◌++◌, codes, slice_get, Option, Some, None}
+use Rattle.drawing.specs.declared.bar.Bar.{Bar}
+use Rattle.drawing.specs.declared.kind.Kind.{Kind}
+use Rattle.drawing.specs.declared.kind.Kind.TheVariants.{Exclusive, Shared, InLine, Asleep}
+use Rattle.drawing.specs.declared.mark.Mark.{Mark}
+use Rattle.explain_text.specs.Words.{entry_text}
+use Rattle.history.specs.declared.entry.Entry.{Entry}
+use Rattle.picture.specs.Pieces.{named}
+
+-- who made an entry, and its words as a history text has them
+abbrev pub maker_and_words : Option Entry → List ℕ
+maker_and_words None = []
+maker_and_words (Some e) = named (codes ": seat ") e.seat ++ codes " " ++ entry_text e e.word
+
+-- the entry of an index; its number counts folded entries too
+abbrev pub entry_words : ℕ → List Entry → ℕ → List ℕ
+entry_words folded entries index =
+    named (codes "entry ") (folded + index) ++ maker_and_words (slice_get entries index)
+
+-- what a seat does
+abbrev pub state_words : Kind → ℕ → List ℕ
+state_words Exclusive holds = named (codes ", exclusive holds: ") holds
+state_words Shared holds = named (codes ", shared holds: ") holds
+state_words InLine holds = codes ", in line"
+state_words (Asleep condition) holds = named (codes ", asleep on condition ") condition
+
+-- from which entry to which
+abbrev pub span_words : ℕ → Bar → List ℕ
+span_words folded b = named (codes ", entries ") (folded + b.first) ++ named (codes " to ") (folded + b.last)
+
+-- the seat of a bar, what it does and how long
+abbrev pub bar_words : ℕ → Bar → List ℕ
+bar_words folded b = named (codes "'><title>seat ") b.seat ++ state_words b.kind b.holds ++ span_words folded b
+
+-- the same and the bar's first entry, from the end of the bar's first tag to the end of the bar
+abbrev pub bar_title : ℕ → List Entry → Bar → List ℕ
+bar_title folded entries b =
+    bar_words folded b ++ codes "; " ++ entry_words folded entries b.first ++ codes "</title></rect>\n"
+
+-- the entry of a mark, from the end of the mark's first tag to the end of the mark
+abbrev pub mark_title : ℕ → List Entry → Mark → List ℕ
+mark_title folded entries m =
+    codes "'><title>" ++ entry_words folded entries m.number ++ codes "</title></path>\n"
+
+-- an illegal entry, from the end of its field's first tag to the end of the field
+abbrev pub wrong_title : ℕ → List Entry → ℕ → List ℕ
+wrong_title folded entries number =
+    codes "'><title>not legal: " ++ entry_words folded entries number ++ codes "</title></rect>\n"
