@@ -467,12 +467,36 @@ final class AqsTest {
         }
     }
 
+    /** An interrupt that comes while the last thread opens the barrier stays set, and breaks nothing. */
+    static void lateInterrupt() throws Exception {
+        Thread[] waiter = new Thread[1];
+        AtomicInteger kept = new AtomicInteger();
+        Runnable interrupting = () -> {
+            waiter[0].interrupt();
+            LockSupport.parkNanos(50_000_000); // the wait has ended by then, but for the lock
+        };
+        try (AqsCyclicBarrier barrier = new AqsCyclicBarrier(2, interrupting)) {
+            waiter[0] = start(() -> {
+                same(barrier.await(), 1);
+                kept.set(Thread.interrupted() ? 1 : 2);
+            });
+            while (barrier.getNumberWaiting() < 1) {
+                Thread.sleep(1);
+            }
+            same(barrier.await(), 0);
+            waiter[0].join();
+            same(kept.get(), 1);
+            check(!barrier.isBroken());
+        }
+    }
+
     public static void main(String[] words) throws Exception {
         folder = Paths.get(words[0]);
         options();
         sides();
         conditions();
         barriers();
+        lateInterrupt();
         interruptedLocks(false);
         interruptedLocks(true);
         System.out.println("java: good");

@@ -6,8 +6,6 @@ mod asks;
 #[cfg(test)]
 mod chance;
 #[cfg(test)]
-mod memory;
-#[cfg(test)]
 mod noted;
 #[cfg(test)]
 mod parking;

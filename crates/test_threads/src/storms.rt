@@ -1,18 +1,19 @@
-//! Storms: thousands of steps at one object by many threads. Each ends even if nobody else does anything. After a
-//! storm nobody waits or holds, the history is legal, and each of its calls was counted by a pass.
+//! Storms: one list of 10,000 steps of four seats at a lock, taken in each way. After a storm the history is
+//! legal, and each of its calls was counted by a pass.
 ghost use Rattle.std.specs.Prelude.{◌≡◌, ◌≤◌, All};
-ghost use Rattle.history.specs.Header.{IsInRange};
 ghost use Rattle.monitor.specs.Stepping.{IsSame};
 
-use crate::asks::Front;
 use crate::chance::Chance;
 use crate::plays::close_and_audit;
-use history::entry::{Mode, Word};
+use history::entries::History;
+use history::entry::{End, Word};
 use history::fault::Fault;
 use history::header::{Header, Object, Policy};
 use history::step::{Answer, Step};
-use monitor::{Closed, Monitor, Now, Pass};
-use monitor_fronts::{open_lock, open_read_write_lock, open_semaphore};
+use monitor::{How, Monitor, Now, Pass};
+use monitor_fronts::open_lock;
+use permit::{ScriptedParking, Woke};
+use reentrant::lock::LockHooks;
 use std::process::Abort;
 use std::sync::Wait;
 use std::sync::atomic::{AtomicU32, Ordering};
@@ -20,41 +21,45 @@ use std::thread;
 use std::thread::Threads;
 use std::time::{Clock, Duration};
 
-/// What the threads of a storm do.
+/// How the list is taken.
 #[derive(Clone, Copy, PartialEq, Eq)]
 enum Way {
-    /// A thread for each seat makes pseudo-random steps of its own.
-    Own,
-    /// A thread for each seat makes those steps of one list that are its own.
-    Listed,
+    /// One thread makes all steps, by `step_now`.
+    Alone,
+    /// Four threads do, each those of its seat.
+    InTurns,
+    /// The same, but the first thread waits while the monitor is busy, so that `step_now` must wake it.
+    OneWaits,
+    /// One thread makes calls. Each wait ends as its parking is scripted.
+    Calls,
 }
 
-#[derive(Clone, Copy)]
-struct Storm {
-    way: Way,
-    header: Header,
-    /// How many steps the list has, or each thread makes.
-    rounds: u32,
-    /// Releases that each thread repeats at its end until they fail. So no thread waits for its holds.
-    gives: &'static [Step],
-    /// At least this number of calls end.
-    least: u64,
-}
+const LOCK: Header = Header {
+    object: Object::Lock(Policy::Fair),
+    seats: 4,
+    conditions: 1,
+    cap: 100_000,
+};
 
-/// How often a release is made at the end. No seat has more holds than that.
-const MOST_HOLDS: u32 = 10_000;
+const STEPS: u32 = 10_000;
+
+/// At least this number of calls end.
+const LEAST: u64 = 1000;
 
 /// How often a thread retries at a busy monitor, or checks for another thread, once a millisecond.
 const LOOKS: u32 = 10_000;
+
+/// How long a wait takes that a deadline ends, in milliseconds of a clock that stays.
+const TIME: u32 = 5;
 
 fn rest<R: Clock>(rt: &R) {
     thread::sleep(rt, Duration::from_millis(1));
 }
 
 /// Steps when the monitor isn't busy.
-fn step_by_turn<H: Front, R: Abort + Clock>(
+fn step_by_turn<R: Abort + Clock>(
     rt: &R,
-    monitor: &Monitor<H>,
+    monitor: &Monitor<LockHooks>,
     pass: &mut Pass,
     step: Step,
 ) -> Result<Answer, Fault>
@@ -71,136 +76,49 @@ fn step_by_turn<H: Front, R: Abort + Clock>(
     panic!(rt; "the monitor is always busy")
 }
 
-/// Makes a step. Only the first seat sleeps while the monitor is busy, so that `step_now` must wake it.
-fn step_once<H: Front, R: Abort + Wait + Clock>(
-    rt: &R,
-    monitor: &Monitor<H>,
-    pass: &mut Pass,
-    step: Step,
-) -> Result<Answer, Fault>
-    requires { pass.old.lock ≡ monitor.now }
-    ensures { IsSame pass.old pass.new }
-{
-    if pass.seat() == 0 {
-        monitor.step(rt, pass, step)
-    } else {
-        step_by_turn(rt, monitor, pass, step)
-    }
-}
-
-/// Returns whether a seat waits after an answer. A fault leaves that as it was.
-fn waits_behind(answer: Result<Answer, Fault>, waited: bool) -> bool {
-    match answer {
-        Ok(Answer::Recorded(entry, _)) => {
-            matches!(&entry.word, Word::Queued | Word::Await | Word::Lapse)
-        }
-        Ok(Answer::Sleep) => true,
-        Err(_) => waited,
-    }
-}
-
-/// Gives up what the seat waits for. A seat within an await waits for the lock.
-fn give_up<H: Front, R: Abort + Wait + Clock>(
-    rt: &R,
-    monitor: &Monitor<H>,
-    pass: &mut Pass,
-    waited: bool,
-)
-    requires { pass.old.lock ≡ monitor.now }
-    ensures { IsSame pass.old pass.new }
-{
-    let mut waits = waits_behind(step_once(rt, monitor, pass, Step::Expire), waited);
-    for _ in 0..LOOKS {
-        if !waits {
-            break;
-        }
-        rest(rt);
-        waits = waits_behind(step_once(rt, monitor, pass, Step::Look), waits);
-    }
-}
-
-/// Makes pseudo-random steps, or those of the list that are the seat's own.
-fn step_all<H: Front, R: Abort + Wait + Clock>(
-    rt: &R,
-    monitor: &Monitor<H>,
-    pass: &mut Pass,
-    storm: &Storm,
-)
-    requires { pass.old.lock ≡ monitor.now }
-    ensures { IsSame pass.old pass.new }
-{
-    let own = pass.seat();
-    let mut list = Chance::of_list();
-    let mut chance = Chance::of_seat(own);
-    let mut waits = false;
-    for _ in 0..storm.rounds {
-        let (seat, step) = if storm.way == Way::Listed {
-            list.listed_step()
-        } else {
-            (own, chance.step(storm.header.object, waits))
-        };
-        if seat == own {
-            waits = waits_behind(step_once(rt, monitor, pass, step), waits);
-            chance.pause(rt);
-        }
-    }
-    give_up(rt, monitor, pass, waits);
-}
-
-/// Releases until that fails.
-fn give_back<H: Front, R: Abort + Wait + Clock>(
-    rt: &R,
-    monitor: &Monitor<H>,
-    pass: &mut Pass,
-    give: Step,
-)
-    requires { pass.old.lock ≡ monitor.now }
-    ensures { IsSame pass.old pass.new }
-{
-    for _ in 0..MOST_HOLDS {
-        match step_once(rt, monitor, pass, give) {
-            Ok(Answer::Recorded(entry, _)) if entry.word == Word::Gave => {}
-            _ => break,
-        }
-    }
-}
-
 /// The work of a thread after all threads have started, or took too long to.
-fn work<H: Front, R: Abort + Wait + Clock>(
+fn work<R: Abort + Wait + Clock>(
     rt: &R,
-    monitor: &Monitor<H>,
+    monitor: &Monitor<LockHooks>,
     pass: Pass,
-    storm: &Storm,
+    way: Way,
     started: &AtomicU32,
 ) -> Pass
     requires { pass.lock ≡ monitor.now }
     ensures { IsSame pass result }
 {
     let mut own = pass;
-    start_together(rt, started, u32::from(storm.header.seats));
-    step_all(rt, monitor, &mut own, storm);
-    for give in storm.gives {
-        give_back(rt, monitor, &mut own, *give);
+    start_together(rt, started);
+    let mut list = Chance::of_list();
+    for _ in 0..STEPS {
+        let (seat, step) = list.next_step();
+        if seat == own.seat() {
+            let _answer = if seat == 0 && way == Way::OneWaits {
+                monitor.step(rt, &mut own, step)
+            } else {
+                step_by_turn(rt, monitor, &mut own, step)
+            };
+        }
     }
     own
 }
 
-/// Waits for a while until `seats` threads have started.
-fn start_together<R: Clock>(rt: &R, started: &AtomicU32, seats: u32) {
+/// Waits for a while until all threads have started.
+fn start_together<R: Clock>(rt: &R, started: &AtomicU32) {
     started.fetch_add(1, Ordering::SeqCst);
     for _ in 0..100 {
-        if seats <= started.load(Ordering::SeqCst) {
+        if u32::from(LOCK.seats) <= started.load(Ordering::SeqCst) {
             break;
         }
         rest(rt);
     }
 }
 
-fn work_in_threads<H: Front + Send, R: Abort + Threads + Wait + Clock + Sync>(
+fn take_in_threads<R: Abort + Threads + Wait + Clock + Sync>(
     rt: &R,
-    monitor: &Monitor<H>,
+    monitor: &Monitor<LockHooks>,
     passes: Vec<Pass>,
-    storm: &Storm,
+    way: Way,
     started: &AtomicU32,
 ) -> Vec<Pass>
     requires { All (λ p. p.lock ≡ monitor.now) passes.items }
@@ -212,132 +130,125 @@ fn work_in_threads<H: Front + Send, R: Abort + Threads + Wait + Clock + Sync>(
         &|pass: Pass| -> Pass
             requires { pass.lock ≡ monitor.now }
             ensures { result.lock ≡ monitor.entry.now }
-        { work(rt, monitor, pass, storm, started) },
+        { work(rt, monitor, pass, way, started) },
     );
     worked.expect(rt, "memory")
 }
 
-/// Returns whether nobody waits or holds a lock. A semaphore's permits may be held.
-fn is_idle(object: &Object, closed: &Closed) -> bool {
-    let balance = closed.balance;
-    let reads = match object {
-        Object::Semaphore(_, _) => 0,
-        Object::Lock(_) | Object::ReadWrite(_) | Object::Latch(_) => balance.shared,
-    };
-    balance.exclusive == 0 && reads == 0 && balance.line == 0 && balance.sleepers == 0
-}
-
-/// Runs a storm.
-fn rage<H: Front + Send, R: Abort + AllocGlobal + Threads + Wait + Clock + Sync>(
+/// Makes the call that stands for a step of the list. A wait for the lock or on the condition ends by a
+/// deadline or an interrupt, and by an interrupt if it has no deadline.
+fn call<R: Wait + Clock>(
     rt: &R,
-    storm: &Storm,
-    opened: (Monitor<H>, Vec<Pass>),
-)
-    requires passes { All (λ p. p.lock ≡ opened.0) opened.1.items }
-    requires header { opened.0.header ≡ storm.now.header }
-    requires range { IsInRange storm.now.header }
+    monitor: &Monitor<LockHooks>,
+    parking: &ScriptedParking,
+    pass: &mut Pass,
+    step: Step,
+) -> bool
+    requires own { pass.old.lock ≡ monitor.now }
+    requires places { monitor.now.header.seats ≤ 256 }
+    ensures { IsSame pass.old pass.new }
 {
-    let (monitor, passes) = opened;
-    let started = AtomicU32::new(0);
-    let passes = work_in_threads(rt, &monitor, passes, storm, &started);
-    let closed = close_and_audit(rt, monitor, &storm.header, passes, "");
-    assert!(rt; storm.least <= closed.share, "{} calls", closed.share);
-    assert!(rt;
-        is_idle(&storm.header.object, &closed),
-        "somebody waits or holds"
-    );
-}
-
-fn storm_at<R: Abort + AllocGlobal + Threads + Wait + Clock + Sync>(rt: &R, storm: &Storm) {
-    let header = storm.header;
-    assert!(rt; header.in_range());
-    let Header {
-        object,
-        seats,
-        conditions,
-        cap,
-    } = header;
-    let alloc = rt.alloc();
-    match object {
-        Object::Lock(policy) => {
-            let opened = open_lock(alloc, policy, seats, conditions, cap).expect(rt, "memory");
-            rage(rt, storm, opened);
-        }
-        Object::ReadWrite(policy) => {
-            let opened = open_read_write_lock(alloc, policy, seats, conditions, cap);
-            rage(rt, storm, opened.expect(rt, "memory"));
-        }
-        Object::Semaphore(policy, permits) => {
-            let opened = open_semaphore(alloc, policy, permits, seats, cap).expect(rt, "memory");
-            rage(rt, storm, opened);
-        }
-        Object::Latch(_) => panic!(rt; "no step of a latch is undone"),
-    }
-}
-
-const FOUR: Header = Header {
-    object: Object::Lock(Policy::Fair),
-    seats: 4,
-    conditions: 1,
-    cap: 100_000,
-};
-
-const GIVE: Step = Step::Give(Mode::X, 1);
-
-/// At least one of sixteen steps ends a call.
-const LOCK: Storm = Storm {
-    way: Way::Own,
-    header: FOUR,
-    rounds: 2500,
-    gives: &[GIVE],
-    least: 625,
-};
-
-const READ_WRITE: Storm = Storm {
-    header: Header {
-        object: Object::ReadWrite(Policy::NonFair),
-        ..FOUR
-    },
-    gives: &[GIVE, Step::Give(Mode::S, 1)],
-    ..LOCK
-};
-
-const SEMAPHORE: Storm = Storm {
-    header: Header {
-        object: Object::Semaphore(Policy::NonFair, 3),
-        conditions: 0,
-        ..FOUR
-    },
-    gives: &[],
-    ..LOCK
-};
-
-/// The greatest number of seats.
-const CROWD: Storm = Storm {
-    header: Header {
-        object: Object::Lock(Policy::NonFair),
-        seats: 256,
-        ..FOUR
-    },
-    rounds: 40,
-    least: 640,
-    ..LOCK
-};
-
-#[test]
-fn threads_step_each_object_10_000_times(rt: HostRuntime) {
-    for storm in &[LOCK, READ_WRITE, SEMAPHORE, CROWD] {
-        storm_at(&rt, storm);
-    }
-}
-
-#[test]
-fn four_threads_step_by_one_list_of_10_000(rt: HostRuntime) {
-    let storm = Storm {
-        way: Way::Listed,
-        rounds: 10_000,
-        least: 1000,
-        ..LOCK
+    let reply = match step {
+        Step::Acquire(mode, n) => monitor.acquire(rt, parking, pass, mode, n, How::Timed(TIME)),
+        Step::Give(mode, n) => monitor.release(rt, parking, pass, mode, n),
+        Step::Expire => monitor.await_on(rt, parking, pass, 0, How::Timed(TIME)),
+        Step::Interrupt => monitor.await_on(rt, parking, pass, 0, How::Interruptible),
+        _ => monitor.signal_all(rt, parking, pass, 0),
     };
-    storm_at(&rt, &storm);
+    reply.is_ok()
+}
+
+/// Makes a step or a call with the pass of a seat, and returns whether there was a reply.
+fn take<R: Wait + Clock>(
+    rt: &R,
+    monitor: &Monitor<LockHooks>,
+    parking: &ScriptedParking,
+    passes: &mut Vec<Pass>,
+    way: Way,
+    listed: (u16, Step),
+) -> bool
+    requires own { All (λ p. p.lock ≡ monitor.now) passes.old.items }
+    requires places { monitor.now.header.seats ≤ 256 }
+    ensures { All (λ p. p.lock ≡ monitor.now) passes.new.items }
+{
+    let (seat, step) = listed;
+    match passes.get_mut(usize::from(seat)) {
+        Some(pass) if way == Way::Calls => call(rt, monitor, parking, pass, step),
+        Some(pass) => !matches!(monitor.step_now(pass, step), Ok(Now::Busy)),
+        None => false,
+    }
+}
+
+/// Takes the list in one thread. No step finds the monitor busy, and no call a full history.
+fn take_all<R: Abort + AllocGlobal + Wait + Clock>(
+    rt: &R,
+    monitor: &Monitor<LockHooks>,
+    passes: &mut Vec<Pass>,
+    way: Way,
+)
+    requires own { All (λ p. p.lock ≡ monitor.now) passes.old.items }
+    requires places { monitor.now.header.seats ≤ 256 }
+    ensures { All (λ p. p.lock ≡ monitor.now) passes.new.items }
+{
+    let ends = [Woke::Deadline, Woke::Interrupted, Woke::Interrupted];
+    let ends = ends.repeat(rt.alloc(), STEPS as usize).expect(rt, "memory");
+    let parking = ScriptedParking::open(rt.alloc(), ends, 0).expect(rt, "memory");
+    let mut list = Chance::of_list();
+    for _ in 0..STEPS {
+        let is_taken = take(rt, monitor, &parking, passes, way, list.next_step());
+        assert!(rt; is_taken, "no reply");
+    }
+}
+
+/// How waits end: by a deadline or an interrupt, in the queue or on the condition.
+const ENDS: [(Word, End); 4] = [
+    (Word::Left, End::Timeout),
+    (Word::Left, End::Interrupt),
+    (Word::Lapse, End::Timeout),
+    (Word::Lapse, End::Interrupt),
+];
+
+/// Returns whether a history has an entry of this word and end.
+fn has(history: &History, word: Word, end: End) -> bool {
+    for number in 0..history.len() {
+        match history.get(number) {
+            Some(entry) if entry.word == word && entry.end == end => return true,
+            _ => {}
+        }
+    }
+    false
+}
+
+fn rage<R: Abort + AllocGlobal + Threads + Wait + Clock + Sync>(rt: &R, way: Way) {
+    let opened = open_lock(
+        rt.alloc(),
+        Policy::Fair,
+        LOCK.seats,
+        LOCK.conditions,
+        LOCK.cap,
+    );
+    let (monitor, mut passes) = opened.expect(rt, "memory");
+    if matches!(way, Way::Alone | Way::Calls) {
+        take_all(rt, &monitor, &mut passes, way);
+    } else {
+        passes = take_in_threads(rt, &monitor, passes, way, &AtomicU32::new(0));
+    }
+    let closed = close_and_audit(rt, monitor, &LOCK, passes, "");
+    assert!(rt; LEAST <= closed.share, "{} calls", closed.share);
+    for (word, end) in &ENDS {
+        let is_known = way != Way::Calls || has(&closed.history, *word, *end);
+        assert!(rt; is_known, "no wait ends so");
+    }
+}
+
+#[test]
+fn a_list_of_10_000_steps_is_taken_by_one_thread_and_by_four(rt: HostRuntime) {
+    for way in [Way::Alone, Way::InTurns, Way::OneWaits] {
+        rage(&rt, way);
+    }
+}
+
+#[test]
+fn a_list_of_10_000_calls_ends_by_deadlines_and_interrupts(rt: HostRuntime) {
+    rage(&rt, Way::Calls);
 }

@@ -9,7 +9,7 @@ macro_rules! rows {
     };
 }
 
-pub mod fronts;
+mod fronts;
 mod known;
 mod woken;
 

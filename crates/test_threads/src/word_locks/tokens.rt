@@ -86,7 +86,7 @@ pub fn count_now(lock: &WordLock<Notes>, token: &mut Token, seat: u16, of: u16) 
 }
 
 /// Returns whether one token finds the value taken while the other, whose seat is 0, adds an entry.
-pub fn is_refused_meanwhile<R: Wait>(
+fn is_refused_meanwhile<R: Wait>(
     rt: &R,
     lock: &WordLock<Notes>,
     zero: &mut Token,
@@ -139,31 +139,93 @@ fn three_add<R: Abort + Threads + Wait + Clock + Sync>(
     a: Token,
     b: Token,
     c: Token,
+    turns: (Turns, Turns, Turns),
 ) -> Token
     requires one { IsReady lock.now 0 a }
     requires two { IsReady lock.now 1 b }
     requires three { IsReady lock.now 2 c }
     ensures { (result.lock ≡ lock.now) × (result.free ≡ true) }
 {
+    let (first, second, third) = turns;
     let (two, z) = join(
         rt,
         move || -> Token
             requires { IsReady lock.now 0 a × IsReady lock.now 1 b }
             ensures { (result.lock ≡ lock.entry.now) × (result.free ≡ true) }
-        { two_add(rt, lock, a, b, (HOLDS, COMES)) },
+        { two_add(rt, lock, a, b, (first, second)) },
         move || -> Token
             requires { IsReady lock.now 2 c }
             ensures { IsReady lock.entry.now 2 result }
-        { add_all(rt, lock, c, 2, COMES_LATER) },
+        { add_all(rt, lock, c, 2, third) },
     );
     lock.join(two, z)
 }
 
 const MANY: Turns = Turns {
-    count: 1000,
+    count: 500,
     before: 0,
     within: 0,
 };
+
+/// Four threads add many entries each, and all tokens are joined.
+fn four_add<R: Abort + Threads + Wait + Clock + Sync>(
+    rt: &R,
+    lock: &WordLock<Notes>,
+    a: Token,
+    b: Token,
+    c: Token,
+    d: Token,
+) -> Token
+    requires one { IsReady lock.now 0 a }
+    requires two { IsReady lock.now 1 b }
+    requires three { IsReady lock.now 2 c }
+    requires four { IsReady lock.now 3 d }
+    ensures { (result.lock ≡ lock.now) × (result.free ≡ true) }
+{
+    let (three, z) = join(
+        rt,
+        move || -> Token
+            requires { IsReady lock.now 0 a × IsReady lock.now 1 b × IsReady lock.now 2 c }
+            ensures { (result.lock ≡ lock.entry.now) × (result.free ≡ true) }
+        { three_add(rt, lock, a, b, c, (MANY, MANY, MANY)) },
+        move || -> Token
+            requires { IsReady lock.now 3 d }
+            ensures { IsReady lock.entry.now 3 result }
+        { add_all(rt, lock, d, 3, MANY) },
+    );
+    lock.join(three, z)
+}
+
+#[test]
+fn four_threads_add_500_entries_each(rt: HostRuntime) {
+    let notes = Notes::with_room(rt.alloc(), 0).expect(&rt, "memory");
+    let Ok((lock, mut tokens)) = WordLock::open(rt.alloc(), notes, 4) else {
+        panic!(rt; "memory")
+    };
+    let d = last(&lock, &mut tokens, 3);
+    let c = last(&lock, &mut tokens, 2);
+    let b = last(&lock, &mut tokens, 1);
+    let a = last(&lock, &mut tokens, 0);
+    let token = four_add(&rt, &lock, a, b, c, d);
+    let notes = lock.close(&rt, token);
+    assert_eq!(rt; notes.list.len(), 2000);
+    for seat in 0..4 {
+        assert_eq!(rt; notes.count_of(seat), 500);
+    }
+}
+
+/// One token finds the value taken while the other adds an entry, and then that entry.
+#[test]
+fn a_value_that_is_taken_is_not_taken_now(rt: HostRuntime) {
+    let notes = Notes::with_room(rt.alloc(), 1).expect(&rt, "memory");
+    let Ok((lock, mut tokens)) = WordLock::open(rt.alloc(), notes, 2) else {
+        panic!(rt; "memory")
+    };
+    let mut one = last(&lock, &mut tokens, 1);
+    let mut zero = last(&lock, &mut tokens, 0);
+    assert!(rt; is_refused_meanwhile(&rt, &lock, &mut zero, &mut one));
+    assert!(rt; count_now(&lock, &mut one, 1, 0) == Some(1));
+}
 
 /// Returns what two threads leave that add entries under a lock.
 fn added<R: Abort + Threads + Wait + Clock + Sync + AllocGlobal>(
@@ -179,13 +241,6 @@ fn added<R: Abort + Threads + Wait + Clock + Sync + AllocGlobal>(
     let a = last(&lock, &mut tokens, 0);
     let token = two_add(rt, &lock, a, b, (first, second));
     lock.close(rt, token)
-}
-
-#[test]
-fn two_threads_add_1000_entries_each(rt: HostRuntime) {
-    let notes = added(&rt, MANY, MANY);
-    assert_eq!(rt; notes.list.len(), 2000);
-    assert_eq!(rt; (notes.count_of(0), notes.count_of(1)), (1000, 1000));
 }
 
 /// One thread has the lock for this number of milliseconds, and the other comes meanwhile.
@@ -262,7 +317,7 @@ fn who_was_woken_wakes_the_next(rt: HostRuntime) {
     let b = last(&lock, &mut tokens, 1);
     let a = last(&lock, &mut tokens, 0);
     let before = used_so_far(&rt);
-    let token = three_add(&rt, &lock, a, b, c);
+    let token = three_add(&rt, &lock, a, b, c, (HOLDS, COMES, COMES_LATER));
     expect_slept(&rt, before);
     let notes = lock.close(&rt, token);
     assert_eq!(rt; notes.list.len(), 3);

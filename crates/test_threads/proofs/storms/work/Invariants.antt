@@ -1,5 +1,5 @@
 use Rattle.monitor.specs.Stepping.{IsSame}
 use Rattle.test_threads.proofs.storms.work.Given as goal
 
-abbrev pub invariant-loop-give : goal.invariant-loop-give
-invariant-loop-give g l = IsSame l.fn.pass l.own
+abbrev pub invariant-loop : goal.invariant-loop
+invariant-loop g l = IsSame l.fn.pass l.own

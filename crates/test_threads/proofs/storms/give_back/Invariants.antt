@@ -1,5 +1,0 @@
-use Rattle.monitor.specs.Stepping.{IsSame}
-use Rattle.test_threads.proofs.storms.give_back.Given as goal
-
-abbrev pub invariant-loop : goal.invariant-loop
-invariant-loop g l = IsSame l.fn.pass l.pass
