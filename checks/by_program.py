@@ -4,6 +4,7 @@
 - `limits.py`: each limit at its value and one past it, and long texts.
 - `devices.py`: devices that fail, a terminal, and ever less memory.
 - `leaks.py`: what each run takes and gives back.
+- `memory.py`: requests for memory, reads and writes that fail, one at a time.
 - `growth.py`: how time and memory grow with the input and with the seats.
 - `storms.py`: two short storms of threads.
 - `fuzz.py`: random texts, others each day.
@@ -36,6 +37,7 @@ def checks(seed):
     yield ["limits.py"]
     yield ["devices.py"]
     yield ["leaks.py"]
+    yield ["memory.py"]
     yield ["growth.py"]
     yield ["storms.py", "2", "16", "4", number]
     yield ["storms.py", "1", "64", "8", number]

@@ -1,5 +1,5 @@
-"""What `aqs draw` must show of a history: the bars, labels and marks of docs/SPECIFICATION.md once more, in
-Python.
+"""What `aqs draw` must show of a history: the bars, labels, marks and tooltips of docs/SPECIFICATION.md once more,
+in Python.
 
 What that page leaves open, the shapes of the marks and the places within a row, is as in the crate `picture`.
 """
@@ -11,14 +11,29 @@ import rules
 
 SVG = "{http://www.w3.org/2000/svg}"
 MOST = 2000
-MARKS = {
+SHAPES = {
     "missed": "m-3 0a3 3 0 1 0 6 0a3 3 0 1 0 -6 0",
     "refused": "m-3 -3l6 6m0 -6l-6 6",
     "signal": "m0 -4l3 7h-6z",
-    "signalall": "m0 -4l3 7h-6z",
     "drained": "m0 4l3 -7h-6z",
     "counted": "m-3 -4v8m3 -8v8m3 -8v8",
+    "granted": "m-4 0l3 3l5 -6",
+    "timeout": "m-4 0a4 4 0 1 0 8 0a4 4 0 1 0 -8 0m4 -3v3h2",
+    "interrupt": "m1 -4l-3 4h4l-3 4",
+    "not legal": "m0 -5v5m0 2v2",
 }
+SAME_SIGN = {"signalall": "signal", "back": "granted"}
+# What a tooltip says of a bar: its holds or its condition follow.
+STATES = {"x": ", exclusive holds: {}", "s": ", shared holds: {}", "w": ", in line", "z": ", asleep on condition {}"}
+# The rows begin here, below the title, what is shown, and the legend; those of a semaphore or a latch below the curve.
+TOP, TOP_WITH_CURVE = 92, 180
+
+
+def sign_of(entry):
+    """What an entry's mark shows, or None. A wait that was given up is marked by how it ended."""
+    word = entry.word.split()[0]
+    sign = entry.end if word in ("left", "lapse") else SAME_SIGN.get(word, word)
+    return sign if sign in SHAPES else None
 
 
 def levels(state):
@@ -56,40 +71,79 @@ def legal_part(lines):
     return entries[:MOST], None
 
 
+def is_to_share(kind, seat, first, last, entries):
+    """Whether a wait in line is to share: the entry that begins it says so, or the one that ends it, or else the kind
+    of the object."""
+    near = (entries[number] for number in (first, last + 1) if number < len(entries))
+    words = ("queued", "granted", "left")
+    said = any(entry.seat == seat and entry.word in words and entry.mode == "s" for entry in near)
+    return said or kind in ("semaphore", "latch")
+
+
+def told(number, entry):
+    """An entry in words."""
+    return f"entry {number}: seat {entry.seat} {rules.spelt(entry)}"
+
+
 def wanted(text):
-    """The bars, labels and marks by their places, and which entry is named as not legal."""
+    """The bars, labels and marks by their places, with their tooltips, the field of the entry that is not legal, and
+    what names it."""
     header, lines = rules.read_history(text)
     shown, wrong = legal_part(lines)
+    folded = lines.folded()
     step = 20 if len(shown) <= 200 else 8
-    top = 72 if header.kind in ("lock", "rw") else 160
+    top = TOP if header.kind in ("lock", "rw") else TOP_WITH_CURVE
     rects, labels, marks = set(), set(), set()
     for (seat, kind, condition), count, first, last in bars(lines.start(), shown):
         x, width = 72 + first * step, (last + 1 - first) * step
         y = top + seat * 40 + (17 if kind == "s" else 3)
-        rects.add((kind, x, y, width))
+        looks = "v" if kind == "w" and is_to_share(header.kind, seat, first, last, lines.entries[:MOST]) else kind
         digits = str(count if condition is None else condition)
+        span = f"entries {folded + first} to {folded + last}; {told(folded + first, shown[first])}"
+        rects.add((looks, x, y, width, f"seat {seat}{STATES[kind].format(digits)}, {span}"))
         if kind != "w" and width >= 6 * len(digits) + 4:
             labels.add((x + 4, y + 10, digits if condition is None else f"c{digits}"))
     for number, entry in enumerate(shown):
-        mark = MARKS.get(entry.word.split()[0])
-        if mark is not None:
-            marks.add(f"M{72 + number * step + step // 2} {top + entry.seat * 40 + 34}{mark}")
-    return rects, labels, marks, wrong
+        sign = sign_of(entry)
+        if sign is not None:
+            marks.add((place_of(number, step, top, entry) + SHAPES[sign], told(folded + number, entry)))
+    fields = set()
+    if wrong is None:
+        return rects, labels, marks, fields, None
+    number = wrong - folded
+    culprit = lines.entries[:MOST][number:number + 1]
+    said = told(wrong, culprit[0]) if culprit else f"entry {wrong}"
+    if number == len(shown):
+        fields.add((72 + number * step, top, step, header.seats * 40, f"not legal: {said}"))
+        marks.update((place_of(number, step, top, entry) + SHAPES["not legal"], None) for entry in culprit)
+    return rects, labels, marks, fields, f"not legal at {said}"
+
+
+def place_of(number, step, top, entry):
+    """Where the mark of an entry is."""
+    return f"M{72 + number * step + step // 2} {top + entry.seat * 40 + 34}"
 
 
 def shown(picture):
     """The same, as an SVG document has it. What stands above the rows is left out."""
     root = xml.fromstring(picture)
     assert root.tag == f"{SVG}svg"
-    rects = {(each.get("class"), *(int(each.get(name)) for name in ("x", "y", "width")))
-             for each in root.iter(f"{SVG}rect") if each.get("class") in ("x", "s", "w", "z")}
+    rects = {(each.get("class"), *(int(each.get(name)) for name in ("x", "y", "width")), title_of(each))
+             for each in root.iter(f"{SVG}rect") if each.get("class") in ("x", "s", "w", "v", "z")}
     labels = {(int(each.get("x")), int(each.get("y")), each.text)
               for each in root.iter(f"{SVG}text") if each.get("class") in ("n", "i")}
-    marks = {each.get("d") for each in root.iter(f"{SVG}path") if each.get("class") == "m"}
-    wrong = re.search(rb"not legal at entry ([0-9]+)<", picture)
-    named = None if wrong is None else int(wrong.group(1))
-    bars = {rect for rect in rects if rect[2] >= 72}
-    return bars, labels, {mark for mark in marks if " 54m" not in mark}, named
+    marks = {(each.get("d"), title_of(each)) for each in root.iter(f"{SVG}path") if each.get("class") == "m"}
+    marks = {mark for mark in marks if int(re.match("M[0-9]+ ([0-9]+)m", mark[0])[1]) >= TOP}
+    fields = {(*(int(each.get(name)) for name in ("x", "y", "width", "height")), title_of(each))
+              for each in root.iter(f"{SVG}rect") if each.get("class") == "e"}
+    named = next((each.text for each in root.iter(f"{SVG}tspan") if each.get("class") == "f"), None)
+    return {rect for rect in rects if rect[2] >= TOP}, labels, marks, fields, named
+
+
+def title_of(element):
+    """The tooltip of an element, or None."""
+    title = element.find(f"{SVG}title")
+    return None if title is None else title.text
 
 
 def is_drawn(picture, text):

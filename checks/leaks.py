@@ -2,7 +2,7 @@
 """Each run of the program gives back all memory that it took: checks/leaks.py PROGRAM.
 
 Each case of cases/ is run: every command, every fault of a text and every refusal are among them. So are a closed
-output, a full disk and ever less memory. `counted.c` counts meanwhile: the blocks of memory that the program takes and
+output, a full disk and ever less memory. The example programs that were built beside PROGRAM are run too. `counted.c` counts meanwhile: the blocks of memory that the program takes and
 gives back, its reads and its writes. A run from a file reads once for each 64 kB of it and twice more at most, and so
 it writes, but for a script's run, which writes each object apart. Without a C compiler the check says so, and nothing
 is counted. The last line is 'N passed, M failed'.
@@ -32,12 +32,14 @@ STEPS = b"aqs-steps 1 lock fair seats 200 conditions 16 cap 4096\n" + b"0 acquir
 
 @dataclasses.dataclass
 class Counts:
-    """What a run took and gave back, in blocks of memory; how often it read and wrote; and what it wrote."""
+    """What a run took and gave back, in blocks of memory; how often it read, wrote and asked for memory; and what it
+    wrote."""
 
     taken: int
     given: int
     reads: int
     writes: int
+    requests: int
     told: bytes = b""
 
 
@@ -63,7 +65,7 @@ def counted(program, library, words, text, output=subprocess.PIPE, limit=None):
             timeout=SECONDS, preexec_fn=bound,
         )
         line = told.read().split()
-    return Counts(*map(int, line), ran.stdout or b"") if len(line) == 4 else None
+    return Counts(*map(int, line), ran.stdout or b"") if len(line) == 5 else None
 
 
 def fault(counts, size):
@@ -105,12 +107,22 @@ def of_little_memory(program, library):
                 yield f"{' '.join(words)} with {size} bytes", fault(counts, len(STEPS))
 
 
+def of_examples(program, library):
+    """Each example program, with its input. What it reads and writes is its own matter."""
+    for given in sorted(HERE.parent.glob("crates/example_*/stdin")):
+        example = pathlib.Path(program).parent / f"../../{given.parent.name}/out/{given.parent.name}"
+        if example.exists():
+            counts = counted(example, library, [], given.read_bytes())
+            yield given.parent.name, fault(counts and dataclasses.replace(counts, reads=0, writes=0), 0)
+
+
 def results(program, library):
     every = [case for file in cases.all_files() for case in cases.read(file.read_text(encoding="utf-8"), file.name)]
     with concurrent.futures.ThreadPoolExecutor(os.cpu_count()) as pool:
         yield from pool.map(lambda case: of_case(program, library, case), every)
     yield from of_devices(program, library)
     yield from of_little_memory(program, library)
+    yield from of_examples(program, library)
 
 
 def main(program):

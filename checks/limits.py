@@ -173,6 +173,17 @@ def crowds():
     yield RUN, json.dumps({"objects": latches, "threads": works}), None
 
 
+def sizes():
+    """Each number of seats, and each number of conditions. The last seat acquires, and waits on the last condition."""
+    for seats, conditions in [*((seats, seats % 17) for seats in range(1, 257)), *((256, it) for it in range(17))]:
+        last = seats - 1
+        waits = [f"{last} acquire x 1", *[f"{last} await {conditions - 1}"] * (conditions > 0)]
+        yield REPLAY, steps(f"lock fair seats {seats} conditions {conditions} cap 64", waits), None
+        yield REPLAY, steps(f"rw nonfair seats {seats} conditions {conditions} cap 64", waits), None
+        yield REPLAY, steps(f"semaphore strict seats {seats} permits 1 cap 64", [f"{last} acquire s 1"]), None
+        yield REPLAY, steps(f"latch seats {seats} count 0 cap 64", [f"{last} acquire s 1"]), None
+
+
 def is_so(program, words, text, fault):
     try:
         done = subprocess.run([program, *words], input=text.encode(), capture_output=True, timeout=60)
@@ -213,7 +224,7 @@ def main(words):
         passed, failed = passed + good, failed + (not good)
         if not good:
             print(f"failed: {name}")
-    for asked, text, fault in (*headers(), *lines(), *holds(), *scripts(), *json_limits(), *crowds()):
+    for asked, text, fault in (*headers(), *lines(), *holds(), *scripts(), *json_limits(), *crowds(), *sizes()):
         good = is_so(program, asked, text, fault)
         passed, failed = passed + good, failed + (not good)
         if not good:

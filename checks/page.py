@@ -8,9 +8,12 @@
 - The page's script runs under node, over `page_dom.js`. The panel says of an entry what `aqs explain` says of the state
   after it, at ten entries of each history. Keys, buttons, the slider, the search and clicks on bars move it.
 - A page of 10,000 entries has at most 5 MB, and shows its first entry within a second.
-- Where chromium or google-chrome is found, it opens each page without a network, and its panel says the same.
+- Where chromium or google-chrome starts, it opens each page: the panel says the same at ten entries, keys and a
+  button move it, and nothing is an error. A page of 10,000 entries is there within a second.
 
 What is left out for want of node or of a browser is said. The last line is 'N passed, M failed'.
+
+checks/page.py PROGRAM --picture HISTORY N FILE writes what a browser shows after N steps forward, as a PNG file.
 """
 
 import base64
@@ -23,6 +26,7 @@ import subprocess
 import sys
 import tempfile
 
+import browser
 import drawn
 import rules
 
@@ -32,7 +36,6 @@ SECONDS = 60
 MOST_BYTES, MOST_SECONDS = 5_000_000, 1.0
 HISTORIES = ["bounded_buffer", "writer_between_readers_fair", "permits_below_zero", "latch_counts_down",
              "taken_past_the_line"]
-BROWSERS = ("chromium", "chromium-browser", "google-chrome")
 
 
 def run(words, given=b""):
@@ -107,9 +110,8 @@ def wanted(text, first=None, last=None):
     told += [f',["{kind}",{seat},{begin + start},{begin + end},"{holds}"]' for end, seat, _, kind, start, holds in rows]
     told += ["]", ',"marks":[["sign","seat","entry"]']
     for number, entry in enumerate(shown):
-        word = entry.word.split()[0]
-        if word in drawn.MARKS:
-            told.append(f',["{word.replace("signalall", "signal")}",{entry.seat},{begin + number}]')
+        if (sign := drawn.sign_of(entry)) is not None:
+            told.append(f',["{sign}",{entry.seat},{begin + number}]')
     told += ["]", ',"amounts":["amount"', *amounts(lines, legal, begin), "]"]
     told += [',"entries_shown":[["seat","words"]']
     told += [f',[{entry.seat},"{rules.spelt(entry)}"]' for entry in shown]
@@ -176,19 +178,30 @@ def state_after(program, history, number):
     return panel(run([program, "explain", "--at", number + 1], history)[1].decode())
 
 
+def ten(first, last):
+    """Ten numbers from the first to the last, or all if there are fewer."""
+    return sorted({first + (last - first) * part // 9 for part in range(10)})
+
+
+def says(shown, program, history, number):
+    """Whether a panel shows the entry of a number and the state after it."""
+    wanted_state = state_after(program, history, number)
+    good = shown["entry"].startswith(f"Entry {number}: seat ") and shown["state"] == wanted_state
+    if not good:
+        print(shown, wanted_state)
+    return good
+
+
 def stepped(program, name, history, words, first, last, scratch):
     """At ten entries the panel says what `aqs explain` says of the state after them."""
     file = scratch / "page.html"
     file.write_text(page_of(program, history, words))
-    numbers = sorted({first + (last - first) * part // 9 for part in range(10)})
+    numbers = ten(first, last)
     told = json.loads(parts(file.read_text())[1])
     folded = int(told["folded"])
     _, shown = acted(file, [{"set": ["at", str(number - folded)]} for number in numbers])
     for number, at in zip(numbers, shown[1:]):
-        good = at["entry"].startswith(f"Entry {number}: seat ") and at["state"] == state_after(program, history, number)
-        if not good:
-            print(at, state_after(program, history, number))
-        yield f"{name} {' '.join(words)}: the panel at entry {number}", good
+        yield f"{name} {' '.join(words)}: the panel at entry {number}", says(at, program, history, number)
     yield f"{name} {' '.join(words)}: the panel at all ten", len(shown) == len(numbers) + 1
 
 
@@ -216,20 +229,54 @@ def moves(program, history, scratch):
     yield "a search that finds nothing says so", shown[22]["found"] == "No earlier entry is like that."
 
 
-def browser():
-    return next((found for found in map(shutil.which, BROWSERS) if found), None)
-
-
-def opened(program, name, history, scratch):
-    """The page in a real browser: the panel of its first entry."""
+def opened(program, name, history, seen, scratch):
+    """In a browser the arrows lead to ten entries, at which the panel says what `aqs explain` says."""
     file = scratch / "page.html"
     file.write_text(page_of(program, history))
-    words = [browser(), "--headless=new", "--no-sandbox", "--disable-gpu", f"--user-data-dir={scratch}/browser",
-             "--dump-dom", file.as_uri()]
-    dumped = run(words)[1].decode()
-    lines = re.findall(r"<li>(.*?)</li>", dumped.split('<ul id="state">')[-1].split("</ul>")[0])
-    first = int(json.loads(parts(file.read_text())[1])["folded"])
-    yield f"{name}: the panel in {browser()}", lines == state_after(program, history, first)
+    told = json.loads(parts(file.read_text())[1])
+    folded, last, at = int(told["folded"]), told["to"] - 1, 0
+    seen.open(file.as_uri())
+    for place in ten(0, last):
+        for _ in range(place - at):
+            seen.press("ArrowRight")
+        at = place
+        good = says(seen.shown(), program, history, folded + place)
+        yield f"{name}: the panel at entry {folded + place} in a browser", good
+    for act, place in ((lambda: seen.press("Home"), 0), (lambda: seen.press("End"), last),
+                       (lambda: seen.click("back"), last - 1)):
+        act()
+        shown = seen.shown()["entry"]
+        yield f"{name}: {shown!r} is entry {folded + place} in a browser", shown.startswith(f"Entry {folded + place}: ")
+    yield f"{name}: errors in a browser: {seen.errors}", seen.errors == []
+
+
+def opens_soon(program, seen, scratch):
+    """A browser shows the first of 10,000 entries within a second."""
+    file = scratch / "large.html"
+    file.write_text(page_of(program, long_entries(10_000), ["--to", "9999"]))
+    seen.open(file.as_uri())
+    milliseconds = seen.value("performance.getEntriesByType('navigation')[0].domComplete")
+    print(f"10,000 entries: {milliseconds:.0f} ms in a browser")
+    is_first = seen.shown()["entry"].startswith("Entry 0: ")
+    yield "10,000 entries: its time in a browser", milliseconds <= 1000 * MOST_SECONDS and is_first
+
+
+def in_browser(program, scratch):
+    with browser.Browser(scratch) as seen:
+        for name in HISTORIES:
+            yield from opened(program, name, history_of(name), seen, scratch)
+        yield from opens_soon(program, seen, scratch)
+
+
+def make_picture(program, history, number, to):
+    """Writes what a browser shows of a history's page at an entry, as a PNG file."""
+    with tempfile.TemporaryDirectory() as scratch, browser.Browser(scratch) as seen:
+        file = pathlib.Path(scratch) / "page.html"
+        file.write_text(page_of(program, history))
+        seen.open(file.as_uri())
+        for _ in range(number):
+            seen.press("ArrowRight")
+        pathlib.Path(to).write_bytes(seen.screenshot())
 
 
 def is_data(program, name, history, words, chosen):
@@ -267,11 +314,10 @@ def results(program, scratch):
         yield from stepped(program, name, history, ["--from", str(last // 3)], last // 3, last, scratch)
     yield from moves(program, history_of("bounded_buffer"), scratch)
     yield from large(program, scratch)
-    if browser() is None:
-        print("no chromium or google-chrome: no page is opened in a browser")
-        return
-    for name in HISTORIES:
-        yield from opened(program, name, history_of(name), scratch)
+    try:
+        yield from in_browser(program, scratch)
+    except browser.NotStarted as why:
+        print(f"{why}: no page is opened in a browser")
 
 
 def large(program, scratch):
@@ -311,6 +357,8 @@ def main(program):
 
 
 if __name__ == "__main__":
+    if len(sys.argv) == 6 and sys.argv[2] == "--picture":
+        sys.exit(make_picture(sys.argv[1], pathlib.Path(sys.argv[3]).read_bytes(), int(sys.argv[4]), sys.argv[5]))
     if len(sys.argv) != 2:
         sys.exit(__doc__)
     sys.exit(main(sys.argv[1]))
