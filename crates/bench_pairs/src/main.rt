@@ -1,4 +1,4 @@
-//! Pairs of acquire and release by 1 to 8 threads, counted or measured; and locks that are closed.
+//! Pairs of acquire and release by 1 to 16 threads, counted or measured; and locks that are closed.
 //!
 //! - `lock_pairs`: pairs under the word lock, and under std's mutex.
 //! - `monitor_pairs`: pairs at monitors of each kind.

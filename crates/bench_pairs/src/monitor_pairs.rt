@@ -1,4 +1,4 @@
-//! Pairs of acquire and release by 1 to 8 threads, on monitors of each kind.
+//! Pairs of acquire and release by 1 to 16 threads, on monitors of each kind.
 //!
 //! Each thread makes a few pairs, and pairs and calls are printed. With the words `measure MS` the threads of
 //! a line make pairs for `MS` milliseconds, and the line has the pairs a second: `NAME hist THREADS
@@ -16,7 +16,7 @@ use std::sync::Wait;
 use std::thread::Threads;
 use std::time::{Clock, Duration};
 
-const THREADS: [u16; 4] = [1, 2, 4, 8];
+const THREADS: [u16; 5] = [1, 2, 4, 8, 16];
 
 const FEW_PAIRS: u64 = 200;
 
