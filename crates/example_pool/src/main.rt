@@ -1,6 +1,7 @@
 //! A pool: three threads share two counters. Each thread takes a counter, counts on, and puts it back.
 #![tactic(auto)]
 
+ghost use Rattle.std.specs.Prelude.{◌≡◌, IfOk, length};
 ghost use Rattle.locks.specs.Calling.{CanCall};
 
 use locks::{Fault, ItemFault, Pass, Pool, ThreadParking, three_passes};
@@ -61,12 +62,12 @@ fn two_count<R: Threads + Wait + Clock + Sync>(
 }
 
 /// Returns two counters.
-fn counters(alloc: Global) -> Result<LinkedList<u64>, Fault> {
+fn counters(alloc: Global) -> Result<LinkedList<u64>, Fault>
+    ensures { IfOk result (λ counters. length counters ≡ 2) }
+{
     let mut counters = LinkedList::new(alloc);
-    for _ in 0..2 {
-        if counters.push_back(0u64).is_err() {
-            return Err(Fault::OutOfMemory);
-        }
+    if counters.push_back(0u64).is_err() || counters.push_back(0u64).is_err() {
+        return Err(Fault::OutOfMemory);
     }
     Ok(counters)
 }
