@@ -80,7 +80,7 @@ class Headers(unittest.TestCase):
 class Sources(unittest.TestCase):
     def test_all_is_read(self):
         read = border.Border(border.ROOT / "crates")
-        self.assertEqual(len(read.structs), 5)
+        self.assertEqual(len(read.structs), 6)
         self.assertEqual(len(read.structs["AqsAnswer"]), 15)
         for family in [*border.FAMILIES.values(), "AQS_IS_"]:
             self.assertTrue(any(name.startswith(family) for name in read.numbers), family)
