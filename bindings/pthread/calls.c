@@ -10,8 +10,6 @@
 #include <string.h>
 #include <threads.h>
 
-#define FOREVER ((deadline_t){NULL, CLOCK_MONOTONIC})
-
 /* glibc's own functions. Those of conditions have an older version too, which no program means. */
 void *real_function(const char *name) {
     void *at = NULL;
@@ -25,8 +23,6 @@ static int error_number(int error) {
     errno = error;
     return -1;
 }
-
-static bool is_clock(clockid_t clock) { return clock == CLOCK_REALTIME || clock == CLOCK_MONOTONIC; }
 
 /* Waits -------------------------------------------------------------------------------------------------- */
 

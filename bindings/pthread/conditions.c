@@ -6,14 +6,15 @@
 
    In the proved core only the owner of the mutex signals. A signal by another thread is made at once if the
    mutex is free, by a lock and an unlock around it. Otherwise it is noted, and the owner makes it at its
-   unlock. Either way it wakes one that waited at the signal: whoever waits has the mutex to get first. */
+   unlock. Either way it wakes a thread that waited when the signal was noted: one that begins its wait later
+   locks the mutex first, and the signal is made before that. */
 #include "record.h"
 
 #include <errno.h>
 
 enum { NO_NUMBER = -1 };
 
-/* A thread in the list of a variable. It leaves the list itself, or a signal takes it out. */
+/* A thread in the list of a variable. It leaves the list by itself, or a signal takes it out. */
 typedef struct waiter {
     struct waiter *next;
     bool is_listed;
@@ -200,7 +201,7 @@ static uint32_t signal_numbered(object_t *object, thread_t *me, uint16_t seat, i
     aqs_answer_t answer;
     aqs_step_now(&object->core->seats[seat].pass, step, &answer);
     end_step(object, me, seat, step, &answer);
-    uint32_t moved = answer.kind == AQS_IS_ENTRY && answer.word != AQS_WORD_REFUSED ? answer.n : 0;
+    uint32_t moved = is_success(&answer) ? answer.n : 0;
     object->moved += moved;
     return moved;
 }
@@ -223,7 +224,7 @@ static bool step_of_kick(object_t *object, thread_t *me, uint16_t seat, uint8_t 
     aqs_answer_t answer;
     aqs_step_now(&object->core->seats[seat].pass, step, &answer);
     end_step(object, me, seat, step, &answer);
-    return answer.kind == AQS_IS_ENTRY && answer.word != AQS_WORD_MISSED && answer.word != AQS_WORD_REFUSED;
+    return is_success(&answer);
 }
 
 /* Signals are noted: they are made now if nobody owns the mutex, or else by its owner. The thread is in
@@ -491,7 +492,7 @@ static int wait_on(condition_t *condition, pthread_mutex_t *mutex, void *place, 
 SHOWN int pthread_cond_wait(pthread_cond_t *variable, pthread_mutex_t *mutex) {
     condition_t *condition = condition_of(variable);
     if (!condition) return REAL(pthread_cond_wait, variable, mutex);
-    return wait_on(condition, mutex, HERE, (deadline_t){NULL, CLOCK_MONOTONIC});
+    return wait_on(condition, mutex, HERE, FOREVER);
 }
 
 SHOWN int
@@ -505,6 +506,6 @@ SHOWN int pthread_cond_clockwait(
     pthread_cond_t *variable, pthread_mutex_t *mutex, clockid_t clock, const struct timespec *moment) {
     condition_t *condition = condition_of(variable);
     if (!condition) return REAL(pthread_cond_clockwait, variable, mutex, clock, moment);
-    if (clock != CLOCK_REALTIME && clock != CLOCK_MONOTONIC) return EINVAL;
+    if (!is_clock(clock)) return EINVAL;
     return wait_on(condition, mutex, HERE, (deadline_t){moment, clock});
 }

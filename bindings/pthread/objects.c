@@ -22,7 +22,7 @@ static const uint16_t seats_of[LEVELS] = {5, 17, 65, 256};
 static const uint8_t conditions_of[LEVELS] = {1, 4, 16, 16};
 static const uint8_t core_kind[KINDS] = {AQS_KIND_LOCK, AQS_KIND_READ_WRITE, AQS_KIND_SEMAPHORE};
 
-/* Above this, objects that rest give up their cores. */
+/* Above this, idle objects give up their cores. */
 enum { MOST_MEMORY = 14 << 20 };
 
 static uint32_t cap_of(uint8_t level) {
@@ -262,7 +262,7 @@ static void adopt(object_t *object, const thread_t *me) {
     close_core(old);
 }
 
-static size_t rest(thread_t *me, size_t most);
+static void give_up_idle_cores(thread_t *me, size_t most);
 
 /* The object's lock is held. */
 static void revive(object_t *object, thread_t *me) {
@@ -270,7 +270,7 @@ static void revive(object_t *object, thread_t *me) {
     if (object->born != now) adopt(object, me);
     object->born = now;
     if (!object->core) {
-        if (heap_in_use() > MOST_MEMORY) rest(me, 4);
+        if (heap_in_use() > MOST_MEMORY) give_up_idle_cores(me, 4);
         open_first(object);
     }
     atomic_store(&object->epoch, now);
@@ -640,10 +640,10 @@ void forget_objects(void) {
     for_each_place(forget_sums, NULL);
 }
 
-/* Rest --------------------------------------------------------------------------------------------------- */
+/* Idle objects ------------------------------------------------------------------------------------------- */
 
-/* Gives up the core of an object that nobody uses. The table is locked. */
-static bool rests(thread_t *me, object_t *object) {
+/* Gives up the core of an object that nobody used since the last look at it. The table is locked. */
+static bool gives_up_core(thread_t *me, object_t *object) {
     if (!object->core || object->epoch != epoch_of_now() || object->core->entries != object->seen_entries) {
         object->seen_entries = object->core ? object->core->entries : 0;
         return false;
@@ -667,15 +667,14 @@ static bool rests(thread_t *me, object_t *object) {
     return is_good;
 }
 
-/* Gives up the cores of objects that rested since the last look at them: at most so many. */
-static size_t rest(thread_t *me, size_t most) {
+/* Gives up the cores of idle objects, at most this many. */
+static void give_up_idle_cores(thread_t *me, size_t most) {
     static size_t hand;
-    size_t rested = 0;
+    size_t given_up = 0;
     spin_lock(&table_lock);
-    for (size_t looks = 0; bucket_count && looks < 256 && rested < most; looks++) {
+    for (size_t looks = 0; bucket_count && looks < 256 && given_up < most; looks++) {
         hand = (hand + 1) & (bucket_count - 1);
-        for (object_t *at = buckets[hand]; at; at = at->next) rested += rests(me, at);
+        for (object_t *at = buckets[hand]; at; at = at->next) given_up += gives_up_core(me, at);
     }
     spin_unlock(&table_lock);
-    return rested;
 }

@@ -137,6 +137,11 @@ typedef struct {
     clockid_t clock;
 } deadline_t;
 
+#define FOREVER ((deadline_t){NULL, CLOCK_MONOTONIC})
+
+/* Whether a wait may have a deadline by this clock. */
+static inline bool is_clock(clockid_t clock) { return clock == CLOCK_REALTIME || clock == CLOCK_MONOTONIC; }
+
 enum { NO_END, ENDS_BY_SIGNAL = 1, ENDS_BY_CANCEL = 2 };
 enum { WOKE = AQS_WOKE_PERMIT, TIMED_OUT = AQS_WOKE_DEADLINE, STOPPED = AQS_WOKE_INTERRUPT };
 
@@ -210,7 +215,7 @@ struct object {
     atomic_uint kicks;   /* odd: the recorder's own seat holds the mutex, or tries to */
     atomic_uint outside; /* threads that wait for a seat */
     atomic_uint seat_event;
-    atomic_uint lock; /* of what follows. Taken by a try, but for looks */
+    atomic_uint lock; /* of what follows. A thread in the object tries it, and never waits for it */
     uint8_t wanted; /* the level that it should grow to */
     uint32_t serial, moved, sleepers; /* moved: signalled, and not back yet */
     core_t *before; /* what `core` replaced, with its entries */
@@ -303,10 +308,13 @@ static inline void tend(object_t *object, thread_t *me) {
     if (unlikely(object->core->entries >= object->core->enough || object->wanted)) fold_if_full(object, me);
 }
 
-static inline bool is_done(const aqs_answer_t *answer) {
-    return answer->kind == AQS_IS_ENTRY && answer->word != AQS_WORD_MISSED && answer->word != AQS_WORD_REFUSED
-           && !answer->has_wakes;
+/* Whether a turn did what it was asked for. */
+static inline bool is_success(const aqs_answer_t *answer) {
+    return answer->kind == AQS_IS_ENTRY && answer->word != AQS_WORD_MISSED && answer->word != AQS_WORD_REFUSED;
 }
+
+/* Whether it did, and leaves nothing else to do. */
+static inline bool is_done(const aqs_answer_t *answer) { return is_success(answer) && !answer->has_wakes; }
 
 static inline uint16_t index_of(const object_t *object, const seat_t *seat) {
     return (uint16_t)(seat - object->core->seats);

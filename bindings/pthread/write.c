@@ -212,13 +212,13 @@ static line_t line_of(const object_t *object) {
     };
 }
 
-/* A time of writing. */
+/* What one writing of all that changed has come to. */
 typedef struct {
     bytes_t lines; /* of the index */
     bool is_changed;
     bytes_t text; /* of the object that was looked at last, if it changed */
     line_t line;
-} pass_t;
+} writing_t;
 
 /* About how many entries the object has made. */
 static uint64_t entries_of(const object_t *object) {
@@ -229,37 +229,37 @@ static uint64_t entries_of(const object_t *object) {
 }
 
 /* Takes the text of an object that changed. False: another thread is alone in it. */
-static bool take_text(thread_t *me, object_t *object, pass_t *pass) {
+static bool take_text(thread_t *me, object_t *object, writing_t *writing) {
     uint64_t entries = entries_of(object);
-    if (!compose(object, me, &pass->text)) return false;
+    if (!compose(object, me, &writing->text)) return false;
     object->written_entries = entries;
-    pass->line = line_of(object);
+    writing->line = line_of(object);
     return true;
 }
 
 /* Writes the text that was taken. The thread is in no object: files and the dynamic linker's lock may take long. */
 static void write_text(void *with) {
-    pass_t *pass = with;
-    if (pass->text.size) {
+    writing_t *writing = with;
+    if (writing->text.size) {
         char name[NAME_ROOM];
-        name_file(&pass->line, name, sizeof name);
-        if (has_folder() && write_file(name, &pass->text)) pass->is_changed = true;
+        name_file(&writing->line, name, sizeof name);
+        if (has_folder() && write_file(name, &writing->text)) writing->is_changed = true;
     }
-    heap_give(pass->text.at);
-    pass->text = (bytes_t){NULL, 0, 0};
+    heap_give(writing->text.at);
+    writing->text = (bytes_t){NULL, 0, 0};
 }
 
 static bool look(thread_t *me, object_t *object, void *with) {
-    pass_t *pass = with;
+    writing_t *writing = with;
     if (object->born != epoch_of_now()) return true;
-    if (entries_of(object) != object->written_entries && !take_text(me, object, pass)) return false;
+    if (entries_of(object) != object->written_entries && !take_text(me, object, writing)) return false;
     if (!object->entries) return true;
     line_t line = line_of(object);
-    append(&pass->lines, (const char *)&line, sizeof line);
+    append(&writing->lines, (const char *)&line, sizeof line);
     return true;
 }
 
-static void write_dead(thread_t *me, pass_t *pass) {
+static void write_dead(thread_t *me, writing_t *writing) {
     for (;;) {
         lock_table(me);
         object_t *object = dead_objects;
@@ -267,27 +267,27 @@ static void write_dead(thread_t *me, pass_t *pass) {
         unlock_table(me);
         if (!object) return;
         enter_elsewhere(me);
-        take_text(me, object, pass);
-        append(&gone, (const char *)&pass->line, sizeof pass->line);
-        pass->is_changed = true;
+        take_text(me, object, writing);
+        append(&gone, (const char *)&writing->line, sizeof writing->line);
+        writing->is_changed = true;
         free_object(object);
         leave(me);
-        write_text(pass);
+        write_text(writing);
     }
 }
 
 static void write_changes(thread_t *me) {
     static unsigned counted;
-    pass_t pass = {0};
+    writing_t writing = {0};
     while (!spin_try(&write_lock)) sched_yield();
-    write_dead(me, &pass);
+    write_dead(me, &writing);
     enter_elsewhere(me);
-    if (gone.size) append(&pass.lines, gone.at, gone.size);
+    if (gone.size) append(&writing.lines, gone.at, gone.size);
     leave(me);
-    for_each_object(me, look, write_text, &pass);
-    if (pass.is_changed || (folder[0] && counted != only_counted)) write_index(&pass.lines);
+    for_each_object(me, look, write_text, &writing);
+    if (writing.is_changed || (folder[0] && counted != only_counted)) write_index(&writing.lines);
     counted = only_counted;
-    heap_give(pass.lines.at);
+    heap_give(writing.lines.at);
     spin_unlock(&write_lock);
 }
 
@@ -348,7 +348,7 @@ static void *help(void *nothing) {
     return nothing;
 }
 
-/* The main thread ends, and leaves other threads behind. When they have ended, the helper ends the process. */
+/* The main thread ends before others. When they have ended, the helper ends the process. */
 void main_leaves(void) {
     atomic_store(&main_has_left, 1);
     atomic_store(&asked, 1);

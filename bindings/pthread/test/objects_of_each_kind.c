@@ -5,6 +5,8 @@
    fork: the program forks while its threads run and it holds a lock; the child goes on with all objects.
    hang: when all is done it prints a line, and its threads wait for good, so that it can be killed. */
 #define _GNU_SOURCE
+#include "check.h"
+
 #include <errno.h>
 #include <limits.h>
 #include <pthread.h>
@@ -19,23 +21,7 @@
 #include <time.h>
 #include <unistd.h>
 
-#define CHECK(fact)                                                            \
-    do {                                                                       \
-        if (!(fact)) {                                                         \
-            fprintf(stderr, "%s:%d: not so: %s\n", __FILE__, __LINE__, #fact); \
-            _exit(1);                                                          \
-        }                                                                      \
-    } while (0)
-
 static int threads, rounds;
-
-static struct timespec after(clockid_t clock, long milliseconds) {
-    struct timespec time;
-    clock_gettime(clock, &time);
-    time.tv_sec += milliseconds / 1000, time.tv_nsec += milliseconds % 1000 * 1000000;
-    if (time.tv_nsec >= 1000000000) time.tv_sec++, time.tv_nsec -= 1000000000;
-    return time;
-}
 
 static void in_threads(void *(*run)(void *)) {
     pthread_t *made = calloc((size_t)threads, sizeof *made);

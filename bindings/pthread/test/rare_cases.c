@@ -1,6 +1,8 @@
 /* What programs rarely do: rare_cases CASE. Each case uses a mutex, prints the same with and without the recorder,
    and ends with the same status. A case that hangs is ended by the alarm. Without a word the cases are listed. */
 #define _GNU_SOURCE
+#include "check.h"
+
 #include <errno.h>
 #include <fcntl.h>
 #include <pthread.h>
@@ -16,14 +18,6 @@
 #include <time.h>
 #include <unistd.h>
 
-#define CHECK(fact)                                                            \
-    do {                                                                       \
-        if (!(fact)) {                                                         \
-            fprintf(stderr, "%s:%d: not so: %s\n", __FILE__, __LINE__, #fact); \
-            _exit(1);                                                          \
-        }                                                                      \
-    } while (0)
-
 static pthread_mutex_t mutex = PTHREAD_MUTEX_INITIALIZER;
 static pthread_cond_t condition = PTHREAD_COND_INITIALIZER;
 static atomic_int is_done;
@@ -37,14 +31,6 @@ static pthread_t started(void *(*run)(void *), void *with) {
 static void join(pthread_t thread) { CHECK(pthread_join(thread, NULL) == 0); }
 
 static void use_mutex(void) { CHECK(!pthread_mutex_lock(&mutex) && !pthread_mutex_unlock(&mutex)); }
-
-static struct timespec after(long milliseconds) {
-    struct timespec time;
-    clock_gettime(CLOCK_REALTIME, &time);
-    time.tv_sec += milliseconds / 1000, time.tv_nsec += milliseconds % 1000 * 1000000;
-    if (time.tv_nsec >= 1000000000) time.tv_sec++, time.tv_nsec -= 1000000000;
-    return time;
-}
 
 static void handle(int signal, void (*handler)(int)) {
     struct sigaction action = {.sa_handler = handler, .sa_flags = SA_RESTART};
@@ -113,7 +99,7 @@ static void handler_posts_often(void) {
     for (int i = 0; i < 100; i++) {
         CHECK(pthread_kill(thread, SIGUSR1) == 0);
         for (int k = 0; k < POSTS; k++) {
-            struct timespec late = after(5000);
+            struct timespec late = after(CLOCK_REALTIME, 5000);
             CHECK(sem_timedwait(&posted, &late) == 0);
         }
     }
@@ -196,7 +182,7 @@ static void *signal_and_die(void *nothing) {
 /* A wait says that the owner of the mutex has died, and that a thread doesn't own the mutex. */
 static void wait_returns_the_errors_of_its_mutex(void) {
     pthread_mutex_t inherits = made(PTHREAD_MUTEX_STALLED, PTHREAD_PRIO_INHERIT, PTHREAD_MUTEX_ERRORCHECK);
-    struct timespec late = after(5000), soon = after(20);
+    struct timespec late = after(CLOCK_REALTIME, 5000), soon = after(CLOCK_REALTIME, 20);
     robust = made(PTHREAD_MUTEX_ROBUST, PTHREAD_PRIO_NONE, PTHREAD_MUTEX_NORMAL);
     CHECK(pthread_mutex_lock(&robust) == 0);
     pthread_t thread = started(signal_and_die, NULL);
@@ -235,7 +221,7 @@ static void stop_here(int signal) {
 }
 
 static void *wait_once(void *nothing) {
-    struct timespec late = after(20000);
+    struct timespec late = after(CLOCK_REALTIME, 20000);
     CHECK(pthread_mutex_lock(&mutex) == 0);
     atomic_store(&is_done, 1);
     CHECK(pthread_cond_timedwait(&condition, &mutex, &late) == 0);
@@ -248,7 +234,7 @@ static void *signal_until_done(void *nothing) {
     return nothing;
 }
 
-/* A thread that waits is stopped in a handler. Meanwhile nobody has the mutex, but for the thread that tries. */
+/* A thread that waits is stopped in a handler. Meanwhile no thread has the mutex but the one that tries. */
 static void trylock_beside_signals(void) {
     int busy = 0;
     CHECK(pipe(gate) == 0);
@@ -316,7 +302,7 @@ static void children_wait_together(void) {
 /* Read-write locks --------------------------------------------------------------------------------------- */
 
 static void *find_shared(void *lock) {
-    struct timespec soon = after(20);
+    struct timespec soon = after(CLOCK_REALTIME, 20);
     printf("another: %s", strerrorname_np(pthread_rwlock_trywrlock(lock)));
     printf(" %s\n", strerrorname_np(pthread_rwlock_timedwrlock(lock, &soon)));
     return NULL;
@@ -325,7 +311,7 @@ static void *find_shared(void *lock) {
 /* A reader that asks to write waits for itself. */
 static void reader_asks_to_write(void) {
     pthread_rwlock_t lock = PTHREAD_RWLOCK_INITIALIZER;
-    struct timespec soon = after(20);
+    struct timespec soon = after(CLOCK_REALTIME, 20);
     CHECK(pthread_rwlock_rdlock(&lock) == 0);
     printf("reader: %s", strerrorname_np(pthread_rwlock_trywrlock(&lock)));
     printf(" %s\n", strerrorname_np(pthread_rwlock_timedwrlock(&lock, &soon)));
