@@ -251,8 +251,8 @@ impl Condvar {
         }
     }
 
-    /// Waits until this thread's ticket is notified. A thread that is woken for another one's sake waits
-    /// again, last.
+    /// Waits until this thread's ticket is notified. A thread that is woken in place of another waits again,
+    /// after all others.
     fn sleep(&self, mutex: &RawMutex, until: Option<Instant>, interruptible: bool) -> Result<(), Error> {
         let mut pending = Pending::default();
         let (mut ticket, number) = {

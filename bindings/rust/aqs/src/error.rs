@@ -140,7 +140,7 @@ pub(crate) fn check(status: sys::Status) -> Result<(), Error> {
     }
 }
 
-/// Whether it has what it asked for. What neither a timeout nor a try explains is the caller's fault.
+/// Whether the call got what it asked for. It panics at an error other than a timeout or a failed try.
 #[track_caller]
 pub(crate) fn taken(status: sys::Status) -> bool {
     match check(status) {

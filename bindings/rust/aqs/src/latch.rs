@@ -1,7 +1,7 @@
 //! A latch.
 
 use crate::error::{check, must, refused, taken, Error};
-use crate::object::{after, Kind, Lazy, Waits};
+use crate::object::{after, calls_of_each_object, Kind, Lazy, Waits};
 use crate::options::Options;
 use crate::sys::{self, Status};
 use std::fmt;
@@ -15,17 +15,17 @@ unsafe impl Kind for LatchKind {
     type Start = u32;
 
     unsafe fn open(place: *mut *mut sys::Latch, count: u32, options: &sys::Options) -> Status {
-        // SAFETY: the caller's.
+        // SAFETY: the caller sees to it.
         unsafe { sys::aqs_latch_open(place, count, options) }
     }
 
     unsafe fn close(raw: *mut sys::Latch) {
-        // SAFETY: the caller's.
+        // SAFETY: the caller sees to it.
         unsafe { sys::aqs_latch_close(raw) }
     }
 
     unsafe fn object(raw: *mut sys::Latch) -> *mut sys::Object {
-        // SAFETY: the caller's.
+        // SAFETY: the caller sees to it.
         unsafe { sys::aqs_latch_object(raw) }
     }
 }
@@ -125,15 +125,7 @@ impl Latch {
         Ok(count)
     }
 
-    /// The text of the history since the last trim, as `aqs audit` and `aqs draw` read it.
-    pub fn history(&self) -> Result<String, Error> {
-        self.latch.history()
-    }
-
-    /// Forgets the recorded entries, and returns how many.
-    pub fn trim(&self) -> Result<u64, Error> {
-        self.latch.trim()
-    }
+    calls_of_each_object! { latch }
 }
 
 impl fmt::Debug for Latch {

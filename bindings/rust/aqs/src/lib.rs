@@ -1,7 +1,7 @@
 //! The synchronisers of java.util.concurrent for Rust: a mutex, conditions, a read-write lock, a semaphore
 //! and a latch, with the names and calls of parking_lot.
 //!
-//! Who gets what, in which order, and what each call answers is decided by proved code. Parking (`aqs.c`)
+//! Who gets what, in which order, and what each call returns is decided by proved code. Parking (`aqs.c`)
 //! and this crate are not proved. Each object records its calls, and [`history`](Mutex::history) returns
 //! them as the text that `aqs audit` checks and `aqs draw` draws.
 //!

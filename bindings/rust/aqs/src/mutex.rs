@@ -1,7 +1,7 @@
 //! A lock round a value.
 
 use crate::error::{check, taken, Error};
-use crate::object::{after, Lazy};
+use crate::object::{after, calls_of_each_object, Lazy};
 use crate::options::Options;
 use crate::raw_mutex::RawMutex;
 use std::cell::UnsafeCell;
@@ -145,7 +145,9 @@ impl<T: ?Sized> Mutex<T> {
         Entry { mutex: self, not_send: PhantomData }
     }
 
-    /// Whether any thread has the value. Another thread may change that before the caller reads it.
+    /// Whether any thread has the value. Another thread may change that before the caller reads it. It
+    /// records nothing.
+    #[track_caller]
     pub fn is_locked(&self) -> bool {
         self.raw.is_locked()
     }
@@ -160,15 +162,7 @@ impl<T: ?Sized> Mutex<T> {
         self.value.get_mut()
     }
 
-    /// The text of the history since the last trim, as `aqs audit` and `aqs draw` read it.
-    pub fn history(&self) -> Result<String, Error> {
-        self.raw.lock.history()
-    }
-
-    /// Forgets the recorded entries, and returns how many.
-    pub fn trim(&self) -> Result<u64, Error> {
-        self.raw.lock.trim()
-    }
+    calls_of_each_object! { raw.lock }
 }
 
 impl<T: Default> Default for Mutex<T> {

@@ -1,6 +1,6 @@
 //! What all objects share: how they are opened, their histories, and calls that wait.
 
-use crate::error::{check, refused, Error};
+use crate::error::{check, must, refused, Error};
 use crate::options::Options;
 use crate::sys;
 use std::ptr;
@@ -117,14 +117,64 @@ impl<K: Kind> Lazy<K> {
         check(unsafe { sys::aqs_history_trim(K::object(self.get()), &mut count) })?;
         Ok(count)
     }
+
+    /// How many threads are in the queue.
+    #[track_caller]
+    pub(crate) fn queue_length(&self) -> u32 {
+        self.count(sys::aqs_object_queue_length)
+    }
+
+    /// How many threads wait in all.
+    #[track_caller]
+    pub(crate) fn waiters(&self) -> u32 {
+        self.count(sys::aqs_object_waiters)
+    }
+
+    #[track_caller]
+    fn count(&self, call: unsafe extern "C" fn(*mut sys::Object, *mut u32) -> sys::Status) -> u32 {
+        let mut count = 0;
+        // SAFETY: the object is open, and the number lives.
+        must(unsafe { call(K::object(self.get()), &mut count) });
+        count
+    }
 }
 
-/// When so much time from now is over. None: never.
+/// The calls that each type has, by the path of its field to the object.
+macro_rules! calls_of_each_object {
+    ($($field:ident).+) => {
+        /// How many threads are in the queue: those that wait for the value, for permits or for the latch.
+        /// Others may come or leave before the caller reads it. It records nothing.
+        #[track_caller]
+        pub fn queue_length(&self) -> u32 {
+            self.$($field).+.queue_length()
+        }
+
+        /// How many threads wait in all: those in the queue, and those on a [`Condvar`](crate::Condvar).
+        /// Others may come or leave before the caller reads it. It records nothing.
+        #[track_caller]
+        pub fn waiters(&self) -> u32 {
+            self.$($field).+.waiters()
+        }
+
+        /// The text of the history since the last trim, as `aqs audit` and `aqs draw` read it.
+        pub fn history(&self) -> Result<String, Error> {
+            self.$($field).+.history()
+        }
+
+        /// Forgets the recorded entries, and returns how many.
+        pub fn trim(&self) -> Result<u64, Error> {
+            self.$($field).+.trim()
+        }
+    };
+}
+pub(crate) use calls_of_each_object;
+
+/// The moment after this time from now. None: never.
 pub(crate) fn after(time: Duration) -> Option<Instant> {
     Instant::now().checked_add(time)
 }
 
-/// What is left until a moment as milliseconds, rounded up, at most some 49 days.
+/// The milliseconds until a moment, rounded up, at most some 49 days.
 fn left(until: Instant) -> u32 {
     let whole = until.saturating_duration_since(Instant::now()).as_nanos().div_ceil(1_000_000);
     u32::try_from(whole).unwrap_or(u32::MAX)
@@ -134,7 +184,7 @@ pub(crate) fn is_up(until: Option<Instant>) -> bool {
     until.is_some_and(|until| Instant::now() >= until)
 }
 
-/// A call that waits in three ways: without end, until an interrupt, and for so many milliseconds.
+/// A call that waits in three ways: without end, until an interrupt, and for a number of milliseconds.
 pub(crate) struct Waits<P, I, T> {
     pub(crate) plain: P,
     pub(crate) interruptibly: I,
@@ -147,7 +197,7 @@ where
     I: Fn() -> sys::Status,
     T: Fn(u32) -> sys::Status,
 {
-    /// One call. A time may be up for the library that isn't yet for the caller, if it is long.
+    /// One call. A long time may be up for the library before it is for the caller.
     pub(crate) fn once(&self, until: Option<Instant>, interruptible: bool) -> sys::Status {
         match until {
             Some(until) => (self.timed)(left(until)),
@@ -188,6 +238,9 @@ impl Drop for Pending {
         }
     }
 }
+
+/// What no thread has for a number, and is not what one without a number gets.
+pub(crate) const NOBODY: u32 = u32::MAX - 1;
 
 /// The calling thread's number.
 #[inline]

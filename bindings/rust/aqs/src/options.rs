@@ -14,7 +14,7 @@ use crate::sys;
 #[derive(Clone, Copy, Debug, Default, PartialEq, Eq)]
 pub struct Options(pub(crate) sys::Options);
 
-/// As many as a lock of the library may have.
+/// The most conditions that a lock of the library may have.
 pub(crate) const CONDITIONS: u8 = 16;
 
 impl Options {
@@ -35,7 +35,7 @@ impl Options {
         self
     }
 
-    /// Keeps all entries, and refuses new calls where the history is full.
+    /// Keeps all entries, and refuses new calls if the history is full.
     pub const fn keep_history(mut self) -> Options {
         self.0.when_full = 1;
         self
@@ -60,7 +60,7 @@ impl Options {
         self
     }
 
-    /// The same, with so many conditions if it doesn't say how many.
+    /// The same, with the most conditions if it doesn't say how many.
     pub(crate) const fn with_conditions(mut self) -> Options {
         if self.0.conditions == 0 {
             self.0.conditions = CONDITIONS;

@@ -1,7 +1,7 @@
 //! The lock below a mutex: who owns it, and its conditions.
 
 use crate::error::{check, must, taken, Error};
-use crate::object::{me, Kind, Lazy, Waits};
+use crate::object::{me, Kind, Lazy, Waits, NOBODY};
 use crate::options::{Options, CONDITIONS};
 use crate::sys::{self, Status};
 use std::cell::Cell;
@@ -10,9 +10,6 @@ use std::sync::atomic::{AtomicBool, AtomicU32, Ordering};
 use std::sync::{Mutex, PoisonError};
 use std::thread;
 use std::time::Instant;
-
-// No thread has so great a number, nor is it what one without a number gets.
-const NOBODY: u32 = u32::MAX - 1;
 
 /// All who wait on a condition, in the place of a number of them.
 pub(crate) const ALL: u32 = u32::MAX;
@@ -25,17 +22,17 @@ unsafe impl Kind for LockKind {
     type Start = ();
 
     unsafe fn open(place: *mut *mut sys::Lock, _start: (), options: &sys::Options) -> Status {
-        // SAFETY: the caller's.
+        // SAFETY: the caller sees to it.
         unsafe { sys::aqs_lock_open(place, options) }
     }
 
     unsafe fn close(raw: *mut sys::Lock) {
-        // SAFETY: the caller's.
+        // SAFETY: the caller sees to it.
         unsafe { sys::aqs_lock_close(raw) }
     }
 
     unsafe fn object(raw: *mut sys::Lock) -> *mut sys::Object {
-        // SAFETY: the caller's.
+        // SAFETY: the caller sees to it.
         unsafe { sys::aqs_lock_object(raw) }
     }
 }
@@ -84,8 +81,12 @@ impl RawMutex {
         self.owner.load(Ordering::Relaxed) == me()
     }
 
+    #[track_caller]
     pub(crate) fn is_locked(&self) -> bool {
-        self.owner.load(Ordering::Relaxed) != NOBODY
+        let mut is_locked = false;
+        // SAFETY: the lock is open, and the answer lives.
+        must(unsafe { sys::aqs_lock_is_locked(self.lock.get(), &mut is_locked) });
+        is_locked
     }
 
     pub(crate) fn entered(&self) -> &Cell<u32> {
@@ -129,13 +130,13 @@ impl RawMutex {
         status
     }
 
-    /// Gives one hold back, which is not the last. It never lacks memory or room.
+    /// Gives one hold back. It never lacks memory or room.
     pub(crate) fn leave(&self) {
         // SAFETY: the lock is open, and the thread holds it.
         let _given = unsafe { sys::aqs_lock_unlock(self.lock.get()) };
     }
 
-    /// Gives the last hold back.
+    /// Gives the last hold back, after the signals that are due.
     pub(crate) fn unlock(&self) {
         self.give_up();
         self.leave();
@@ -181,7 +182,7 @@ impl RawMutex {
         call(self.numbers.lock().unwrap_or_else(PoisonError::into_inner).get_or_insert_default())
     }
 
-    /// A number for a condvar, which is another's too if all are taken.
+    /// A number for a condvar, which shares it with others if all are taken.
     pub(crate) fn take_number(&self) -> u8 {
         self.with_numbers(|numbers| {
             let users = &mut numbers.users[..usize::from(self.conditions)];

@@ -2,7 +2,7 @@
 
 use crate::error::{check, must, taken, Error};
 use crate::mutex::shows_its_value;
-use crate::object::{after, me, Kind, Lazy, Waits};
+use crate::object::{after, calls_of_each_object, me, Kind, Lazy, Waits, NOBODY};
 use crate::options::Options;
 use crate::sys::{self, Status};
 use std::cell::UnsafeCell;
@@ -13,9 +13,6 @@ use std::ops::{Deref, DerefMut};
 use std::sync::atomic::{AtomicU32, AtomicUsize, Ordering};
 use std::time::{Duration, Instant};
 
-// No thread has so great a number, nor is it what one without a number gets.
-const NOBODY: u32 = u32::MAX - 1;
-
 enum RwLockKind {}
 
 // SAFETY: they are the functions of a read-write lock.
@@ -24,17 +21,17 @@ unsafe impl Kind for RwLockKind {
     type Start = ();
 
     unsafe fn open(place: *mut *mut sys::RwLock, _start: (), options: &sys::Options) -> Status {
-        // SAFETY: the caller's.
+        // SAFETY: the caller sees to it.
         unsafe { sys::aqs_rwlock_open(place, options) }
     }
 
     unsafe fn close(raw: *mut sys::RwLock) {
-        // SAFETY: the caller's.
+        // SAFETY: the caller sees to it.
         unsafe { sys::aqs_rwlock_close(raw) }
     }
 
     unsafe fn object(raw: *mut sys::RwLock) -> *mut sys::Object {
-        // SAFETY: the caller's.
+        // SAFETY: the caller sees to it.
         unsafe { sys::aqs_rwlock_object(raw) }
     }
 }
@@ -54,6 +51,14 @@ impl RawRwLock {
 
     fn writes(&self) -> bool {
         self.writer.load(Ordering::Relaxed) == me()
+    }
+
+    #[track_caller]
+    fn is_write_locked(&self) -> bool {
+        let mut is_locked = false;
+        // SAFETY: the lock is open, and the answer lives.
+        must(unsafe { sys::aqs_rwlock_is_write_locked(self.lock.get(), &mut is_locked) });
+        is_locked
     }
 
     #[track_caller]
@@ -291,13 +296,16 @@ impl<T: ?Sized> RwLock<T> {
     }
 
     /// Whether any thread reads or writes. Another thread may change that before the caller reads it.
+    #[track_caller]
     pub fn is_locked(&self) -> bool {
         self.is_locked_exclusive() || self.raw.readers.load(Ordering::Relaxed) > 0
     }
 
-    /// Whether any thread writes. Another thread may change that before the caller reads it.
+    /// Whether any thread writes. Another thread may change that before the caller reads it. It records
+    /// nothing.
+    #[track_caller]
     pub fn is_locked_exclusive(&self) -> bool {
-        self.raw.writer.load(Ordering::Relaxed) != NOBODY
+        self.raw.is_write_locked()
     }
 
     /// The value, which nobody else can reach.
@@ -305,15 +313,7 @@ impl<T: ?Sized> RwLock<T> {
         self.value.get_mut()
     }
 
-    /// The text of the history since the last trim, as `aqs audit` and `aqs draw` read it.
-    pub fn history(&self) -> Result<String, Error> {
-        self.raw.lock.history()
-    }
-
-    /// Forgets the recorded entries, and returns how many.
-    pub fn trim(&self) -> Result<u64, Error> {
-        self.raw.lock.trim()
-    }
+    calls_of_each_object! { raw.lock }
 }
 
 impl<T: Default> Default for RwLock<T> {

@@ -1,7 +1,7 @@
 //! A semaphore.
 
 use crate::error::{check, must, refused, taken, Error};
-use crate::object::{after, Kind, Lazy, Waits};
+use crate::object::{after, calls_of_each_object, Kind, Lazy, Waits};
 use crate::options::Options;
 use crate::sys::{self, Status};
 use std::fmt;
@@ -16,17 +16,17 @@ unsafe impl Kind for SemaphoreKind {
     type Start = i32;
 
     unsafe fn open(place: *mut *mut sys::Sem, permits: i32, options: &sys::Options) -> Status {
-        // SAFETY: the caller's.
+        // SAFETY: the caller sees to it.
         unsafe { sys::aqs_sem_open(place, permits, options) }
     }
 
     unsafe fn close(raw: *mut sys::Sem) {
-        // SAFETY: the caller's.
+        // SAFETY: the caller sees to it.
         unsafe { sys::aqs_sem_close(raw) }
     }
 
     unsafe fn object(raw: *mut sys::Sem) -> *mut sys::Object {
-        // SAFETY: the caller's.
+        // SAFETY: the caller sees to it.
         unsafe { sys::aqs_sem_object(raw) }
     }
 }
@@ -170,15 +170,7 @@ impl Semaphore {
         Ok(permits)
     }
 
-    /// The text of the history since the last trim, as `aqs audit` and `aqs draw` read it.
-    pub fn history(&self) -> Result<String, Error> {
-        self.semaphore.history()
-    }
-
-    /// Forgets the recorded entries, and returns how many.
-    pub fn trim(&self) -> Result<u64, Error> {
-        self.semaphore.trim()
-    }
+    calls_of_each_object! { semaphore }
 }
 
 impl fmt::Debug for Semaphore {

@@ -38,6 +38,7 @@ extern "C" {
     pub fn aqs_lock_timedlock(lock: *mut Lock, milliseconds: u32) -> Status;
     pub fn aqs_lock_trylock(lock: *mut Lock) -> Status;
     pub fn aqs_lock_unlock(lock: *mut Lock) -> Status;
+    pub fn aqs_lock_is_locked(lock: *mut Lock, is_locked: *mut bool) -> Status;
     pub fn aqs_lock_wait(lock: *mut Lock, condition: u8) -> Status;
     pub fn aqs_lock_wait_interruptibly(lock: *mut Lock, condition: u8) -> Status;
     pub fn aqs_lock_timedwait(lock: *mut Lock, condition: u8, milliseconds: u32) -> Status;
@@ -57,6 +58,7 @@ extern "C" {
     pub fn aqs_rwlock_timedwrlock(lock: *mut RwLock, milliseconds: u32) -> Status;
     pub fn aqs_rwlock_trywrlock(lock: *mut RwLock) -> Status;
     pub fn aqs_rwlock_wrunlock(lock: *mut RwLock) -> Status;
+    pub fn aqs_rwlock_is_write_locked(lock: *mut RwLock, is_locked: *mut bool) -> Status;
     pub fn aqs_rwlock_object(lock: *mut RwLock) -> *mut Object;
 
     pub fn aqs_sem_open(semaphore: *mut *mut Sem, permits: i32, options: *const Options) -> Status;
@@ -78,6 +80,9 @@ extern "C" {
     pub fn aqs_latch_timedawait(latch: *mut Latch, milliseconds: u32) -> Status;
     pub fn aqs_latch_getcount(latch: *mut Latch, count: *mut u32) -> Status;
     pub fn aqs_latch_object(latch: *mut Latch) -> *mut Object;
+
+    pub fn aqs_object_queue_length(object: *mut Object, count: *mut u32) -> Status;
+    pub fn aqs_object_waiters(object: *mut Object, count: *mut u32) -> Status;
 
     pub fn aqs_history_text(
         object: *mut Object,

@@ -1,6 +1,6 @@
 //! Condvars: any number for a mutex, notified by any thread, and nothing is lost.
-//!
-//! AQS_HISTORIES names a folder where the histories are put, for `aqs audit`.
+
+mod support;
 
 use aqs::{interrupted, Condvar, Error, Mutex, MutexGuard, Options, RwLock, Thread};
 use std::collections::VecDeque;
@@ -8,25 +8,13 @@ use std::sync::atomic::{AtomicBool, AtomicUsize, Ordering};
 use std::sync::mpsc::channel;
 use std::sync::Arc;
 use std::time::{Duration, Instant};
-use std::{env, fs, panic, path::PathBuf, thread};
+use std::{panic, thread};
+use support::{keep, until, LONG, SHORT};
 
-const SHORT: Duration = Duration::from_millis(10);
-const LONG: Duration = Duration::from_secs(30);
-
-fn keep(name: &str, history: String) {
-    assert!(history.starts_with("aqs-history "));
-    if let Some(folder) = env::var_os("AQS_HISTORIES") {
-        fs::write(PathBuf::from(folder).join(format!("rust-{name}.history")), history).unwrap();
-    }
-}
-
-/// Until it is so, the mutex is given to others.
-fn until<T>(mutex: &Mutex<T>, is_so: impl Fn(&T) -> bool) {
-    let begin = Instant::now();
-    while !is_so(&mutex.lock()) {
-        assert!(begin.elapsed() < LONG, "it did not come about");
-        thread::yield_now();
-    }
+/// Whether it is so while nobody else has the mutex: a thread that counted itself under it then waits.
+fn is_so_under<T>(mutex: &Mutex<T>, is_so: impl Fn() -> bool) -> bool {
+    let _guard = mutex.lock();
+    is_so()
 }
 
 #[test]
@@ -52,7 +40,7 @@ fn it_says_how_many_it_woke() {
                     condvar.wait(&mut guard);
                 });
             }
-            until(&waiting, |&waiting| waiting == 6);
+            until(|| *waiting.lock() == 6);
             let guard = owns.then(|| waiting.lock());
             assert!(condvar.notify_one() && condvar.notify_one());
             assert_eq!(condvar.notify_all(), 4);
@@ -75,11 +63,11 @@ fn those_who_waited_longest_go_first() {
                 condvar.wait(&mut guard);
                 guard.push(number);
             });
-            until(woken, |_| waiting.load(Ordering::SeqCst) == number + 1);
+            until(|| is_so_under(woken, || waiting.load(Ordering::SeqCst) == number + 1));
         }
         for number in 0..5 {
             assert!(condvar.notify_one());
-            until(&woken, |woken| woken.len() == number + 1);
+            until(|| woken.lock().len() == number + 1);
         }
     });
     assert_eq!(woken.into_inner(), [0, 1, 2, 3, 4]);
@@ -94,7 +82,7 @@ fn a_notify_never_waits_for_the_mutex() {
             *guard = true;
             condvar.wait(&mut guard);
         });
-        until(&mutex, |&waits| waits);
+        until(|| *mutex.lock());
         // Another thread has the mutex until the notify has returned.
         let guard = mutex.lock();
         scope.spawn(|| assert!(condvar.notify_one())).join().unwrap();
@@ -120,10 +108,10 @@ fn more_condvars_than_numbers() {
                     guard.push(number);
                 });
             }
-            until(&woken, |_| waiting.load(Ordering::SeqCst) == 20);
+            until(|| is_so_under(&woken, || waiting.load(Ordering::SeqCst) == 20));
             for (number, condvar) in condvars.iter().enumerate().rev() {
                 assert!(condvar.notify_one());
-                until(&woken, |woken| woken.last() == Some(&number));
+                until(|| woken.lock().last() == Some(&number));
             }
         });
         assert_eq!(*woken.lock(), (0..20).rev().collect::<Vec<_>>());
@@ -141,7 +129,7 @@ fn a_second_mutex_is_refused() {
             *guard = true;
             condvar.wait(&mut guard);
         });
-        until(&one, |&waits| waits);
+        until(|| *one.lock());
         let tried = panic::catch_unwind(panic::AssertUnwindSafe(|| condvar.wait(&mut two.lock())));
         assert!(condvar.notify_one() && !two.is_locked());
         panic::resume_unwind(tried.unwrap_err());
@@ -236,7 +224,7 @@ fn a_waiter_gets_the_mutex_in_between() {
     });
 }
 
-/// Numbers that go through a queue of so many places. Each is notified after the mutex is free again.
+/// Numbers that go through a queue with this many places. Each is notified after the mutex is free again.
 fn pass_through(
     places: usize,
     ends: usize,
@@ -338,7 +326,7 @@ fn owners_that_have_entered_notify() {
             condvar.wait(&mut guard);
             *lock.write() += 1;
         });
-        until(&mutex, |&waits| waits);
+        until(|| *mutex.lock());
         let (one, two) = (mutex.enter(), mutex.enter());
         assert!(condvar.notify_one());
         drop((one, two));

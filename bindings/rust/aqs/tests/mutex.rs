@@ -260,6 +260,16 @@ fn faults_have_names() {
     assert_eq!(format!("{:?}", Error::HistoryFull), "HistoryFull");
     let error: Box<dyn std::error::Error> = Box::new(Error::OutOfMemory);
     assert_eq!(error.to_string(), "the library got no memory");
+    let faults = [
+        Mutex::with((), Options::new().threads(300)).err(),
+        Mutex::with((), Options::new().conditions(17)).err(),
+    ];
+    assert_eq!(faults, [Some(Error::OutOfRange); 2]);
+    assert!(!full.is_locked() && Condvar::default().notify_all() == 0);
+}
+
+#[test]
+fn errors_have_the_names_of_their_statuses() {
     assert_eq!(Error::Other(99).name(), "no status");
     for (error, name) in [
         (Error::TimedOut, "AQS_TIMED_OUT"),
@@ -281,10 +291,4 @@ fn faults_have_names() {
     ] {
         assert_eq!(error.name(), name);
     }
-    let faults = [
-        Mutex::with((), Options::new().threads(300)).err(),
-        Mutex::with((), Options::new().conditions(17)).err(),
-    ];
-    assert_eq!(faults, [Some(Error::OutOfRange); 2]);
-    assert!(!full.is_locked() && Condvar::default().notify_all() == 0);
 }

@@ -1,24 +1,15 @@
 //! Each type once: what it lets through, what it refuses, and its history.
-//!
-//! AQS_HISTORIES names a folder where the histories are put, for `aqs audit`.
+
+mod support;
 
 use aqs::{interrupted, Condvar, Error, Latch, Mutex, Options, RwLock, Semaphore, Thread};
 use std::sync::mpsc::channel;
 use std::time::{Duration, Instant};
-use std::{env, fs, panic, path::PathBuf, thread};
-
-const SHORT: Duration = Duration::from_millis(10);
-const LONG: Duration = Duration::from_secs(30);
+use std::{panic, thread};
+use support::{keep, until, LONG, SHORT};
 
 fn kept() -> Options {
     Options::new().keep_history().fair()
-}
-
-fn keep(name: &str, history: String) {
-    assert!(history.starts_with("aqs-history "));
-    if let Some(folder) = env::var_os("AQS_HISTORIES") {
-        fs::write(PathBuf::from(folder).join(format!("rust-{name}.history")), history).unwrap();
-    }
 }
 
 #[test]
@@ -165,6 +156,13 @@ fn read_write_lock_keeps_writers_alone() {
             });
         }
     });
+    assert_eq!(*lock.read(), [200, 200]);
+    keep("rwlock-storm", lock.history().unwrap());
+}
+
+#[test]
+fn a_writer_that_is_downgraded_lets_readers_in() {
+    let lock = RwLock::with(0, kept()).unwrap();
     let writer = lock.write();
     thread::scope(|scope| {
         scope.spawn(|| {
@@ -181,7 +179,6 @@ fn read_write_lock_keeps_writers_alone() {
             assert_eq!(lock.write_interruptibly_for(SHORT).err(), Some(Error::TimedOut));
         });
     });
-    assert_eq!(*reader, [200, 200]);
     drop(reader);
     keep("rwlock", lock.history().unwrap());
 }
@@ -248,6 +245,97 @@ fn options_that_no_object_has_are_refused() {
     assert_eq!(Latch::with(2_147_483_648, Options::new()).err(), Some(error));
     assert_eq!(Semaphore::with(1, Options::new().conditions(1)).err(), Some(error));
     assert!(panic::catch_unwind(|| Latch::new(2_147_483_648)).is_err());
+}
+
+#[test]
+fn a_mutex_counts_its_queue_and_its_condvars() {
+    let (mutex, condvar) = (Mutex::with(false, kept()).unwrap(), Condvar::new());
+    let counts = || (mutex.is_locked(), mutex.queue_length(), mutex.waiters());
+    assert_eq!(counts(), (false, 0, 0));
+    let guard = mutex.lock();
+    thread::scope(|scope| {
+        assert_eq!(counts(), (true, 0, 0));
+        assert_eq!(scope.spawn(counts).join().unwrap(), (true, 0, 0));
+        for (more, waiting) in [(1, 1), (2, 3)] {
+            (0..more).for_each(|_| drop(scope.spawn(|| drop(mutex.lock()))));
+            until(|| mutex.queue_length() == waiting);
+            assert_eq!(scope.spawn(counts).join().unwrap(), (true, waiting, waiting));
+        }
+        drop(guard);
+    });
+    assert_eq!(counts(), (false, 0, 0));
+    thread::scope(|scope| {
+        (0..2).for_each(|_| drop(scope.spawn(|| condvar.wait_while(&mut mutex.lock(), |go| !*go))));
+        until(|| counts() == (false, 0, 2));
+        let mut guard = mutex.lock();
+        assert_eq!(counts(), (true, 0, 2));
+        *guard = true;
+        assert!(condvar.notify_one());
+        assert_eq!(counts(), (true, 1, 2));
+        assert!(condvar.notify_one());
+        assert_eq!(counts(), (true, 2, 2));
+    });
+    assert_eq!(counts(), (false, 0, 0));
+    keep("counted", mutex.history().unwrap());
+}
+
+#[test]
+fn a_read_write_lock_counts_its_queue() {
+    let lock = RwLock::new(0);
+    let counts = || (lock.is_locked_exclusive(), lock.queue_length(), lock.waiters());
+    let reader = lock.read();
+    assert_eq!((counts(), lock.is_locked()), ((false, 0, 0), true));
+    thread::scope(|scope| {
+        let writer = scope.spawn(|| drop(lock.write()));
+        until(|| counts() == (false, 1, 1));
+        drop(reader);
+        writer.join().unwrap();
+        let writer = lock.write();
+        assert_eq!(counts(), (true, 0, 0));
+        (0..2).for_each(|_| drop(scope.spawn(|| drop(lock.read()))));
+        scope.spawn(|| drop(lock.write()));
+        until(|| counts() == (true, 3, 3));
+        drop(writer);
+    });
+    assert_eq!((counts(), lock.is_locked()), ((false, 0, 0), false));
+}
+
+#[test]
+fn semaphores_and_latches_count_their_queues() {
+    let (permits, latch) = (Semaphore::new(0), Latch::new(1));
+    let counts = || [permits.queue_length(), permits.waiters(), latch.queue_length(), latch.waiters()];
+    assert_eq!(counts(), [0; 4]);
+    thread::scope(|scope| {
+        for waiting in 1..=3 {
+            scope.spawn(|| permits.acquire(1));
+            scope.spawn(|| latch.wait());
+            until(|| counts() == [waiting; 4]);
+        }
+        permits.release(3);
+        latch.count_down();
+    });
+    assert_eq!(counts(), [0; 4]);
+}
+
+#[test]
+fn questions_take_a_seat_and_record_nothing() {
+    let mutex = Mutex::with(0, kept().threads(1).most_entries(16)).unwrap();
+    let guard = mutex.lock();
+    let before = mutex.history().unwrap();
+    for _ in 0..30 {
+        assert!(mutex.is_locked() && mutex.queue_length() + mutex.waiters() == 0);
+    }
+    assert_eq!(mutex.history().unwrap(), before);
+    let asks: [&(dyn Fn() -> u32 + Sync); 3] =
+        [&|| u32::from(mutex.is_locked()), &|| mutex.queue_length(), &|| mutex.waiters()];
+    for ask in asks {
+        thread::scope(|scope| {
+            let said = scope.spawn(ask).join().unwrap_err().downcast::<String>().unwrap();
+            assert!(said.ends_with("(AQS_TOO_MANY_THREADS)"), "{said}");
+        });
+    }
+    drop(guard);
+    assert!(!mutex.is_locked());
 }
 
 #[test]
