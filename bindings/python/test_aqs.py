@@ -264,6 +264,77 @@ class Objects(Tests):
         self.assertTrue(latch.wait(timeout=10))
         self.keep("latch", latch)
 
+    def counts(self, thing, side=None):
+        """Whether it is locked, how many threads are in its queue, and how many wait in all."""
+        return (side or thing).locked(), thing.queue_length(), thing.waiters()
+
+    def test_a_lock_counts_its_queue(self):
+        both = aqs.RWLock()
+        with both.read:
+            self.assertEqual(self.counts(both, both.write), (False, 0, 0))
+        for thing, side in ((aqs.RLock(), None), (aqs.Lock(), None), (both, both.write)):
+            lock, threads = side or thing, []
+            with self.subTest(lock):
+                self.assertEqual(self.counts(thing, side), (False, 0, 0))
+                with lock:
+                    self.assertEqual(self.counts(thing, side), (True, 0, 0))
+                    for waiting in (1, 3):
+                        threads += run_all(waiting - len(threads), lambda _number: in_lock(lock, int))
+                        until(lambda: thing.queue_length() == waiting)
+                        self.assertEqual(in_other(lambda: self.counts(thing, side)), (True, waiting, waiting))
+                join_all(threads)
+                self.assertEqual(self.counts(thing, side), (False, 0, 0))
+
+    def test_a_lock_counts_those_on_its_conditions(self):
+        both = aqs.RWLock()
+        for thing, side in ((aqs.RLock(), None), (both, both.write)):
+            lock, condition = side or thing, aqs.Condition(side or thing)
+
+            def wait(number):
+                with lock:
+                    (condition, lock)[number].wait()
+
+            threads = run_all(2, wait)
+            until(lambda: self.counts(thing, side) == (False, 0, 2))
+            with lock:
+                self.assertEqual(self.counts(thing, side), (True, 0, 2))
+                condition.notify()
+                self.assertEqual(self.counts(thing, side), (True, 1, 2))
+                lock.notify_all()
+                self.assertEqual(self.counts(thing, side), (True, 2, 2))
+            join_all(threads)
+            self.assertEqual(self.counts(thing, side), (False, 0, 0))
+
+    def test_each_object_counts_who_waits(self):
+        permits, few, latch = aqs.Semaphore(0), aqs.BoundedSemaphore(), aqs.CountDownLatch(1)
+        event, barrier = aqs.Event(), aqs.Barrier(4)
+        things = (permits, few, latch, event, barrier)
+        few.acquire()
+        self.assertEqual([thing.waiters() for thing in things], [0] * 5)
+        threads = []
+        for call in (permits.acquire, lambda: in_lock(few, int), latch.wait, event.wait, barrier.wait):
+            threads += run_all(3, lambda _number, call=call: call())
+        until(lambda: [thing.waiters() for thing in things] == [3] * 5)
+        until(lambda: [thing.queue_length() for thing in things] == [3, 3, 3, 0, 0])
+        permits.release(3)
+        few.release()
+        latch.count_down()
+        event.set()
+        barrier.wait()
+        join_all(threads)
+        self.assertEqual([(thing.queue_length(), thing.waiters()) for thing in things], [(0, 0)] * 5)
+
+    def test_questions_take_a_seat_and_record_nothing(self):
+        lock = aqs.RLock(threads=1, keep_history=True, most_entries=16)
+        with lock:
+            before = lock.history()
+            for _ in range(30):
+                self.assertEqual(self.counts(lock), (True, 0, 0))
+            self.assertEqual(lock.history(), before)
+            for call in (lock.locked, lock.queue_length, lock.waiters):
+                self.assertIsInstance(raised_in_other(call), aqs.TooManyThreads)
+        self.assertEqual(in_other(lambda: self.counts(lock)), (False, 0, 0))
+
     def test_event_and_barrier_have_histories(self):
         event = aqs.Event(keep_history=True)
         threads = run_all(3, lambda _number: event.wait())
@@ -447,6 +518,8 @@ class Arguments(Tests):
             thing.close()
             self.assertRaisesRegex(ValueError, "is closed", getattr(thing, call))
             self.assertRaisesRegex(ValueError, "is closed", thing.history)
+            self.assertRaisesRegex(ValueError, "is closed", thing.waiters)
+            self.assertIn(type(thing).__name__, repr(thing))
             thing.close()
         lock = aqs.RWLock()
         lock.close()
@@ -500,6 +573,16 @@ class Arguments(Tests):
             self.assertRegex(repr(both), "^<aqs.RWLock at 0x.*: 1 readers>$")
             self.assertRegex(repr(both.read), "^<read side of an aqs.RWLock, 1 readers, at 0x")
         self.assertRegex(repr(both.write), "^<write side of an aqs.RWLock, count=0, at 0x")
+
+    def test_reprs_raise_nothing(self):
+        permits, lock = aqs.Semaphore(0, threads=1), aqs.Lock()
+        threads = run_all(1, lambda _number: permits.acquire(timeout=0.3))
+        until(lambda: re.search("^<aqs.Semaphore at 0x.*: AQS_TOO_MANY_THREADS: ", repr(permits)))
+        join_all(threads)
+        permits.close()
+        self.assertRegex(repr(permits), "^<aqs.Semaphore at 0x.*: closed>$")
+        lock.close()
+        self.assertRegex(repr(lock), "^<closed aqs.Lock object at 0x")
 
 
 class Conditions(Tests):
@@ -635,8 +718,7 @@ class Conditions(Tests):
                 seen.append("go")
                 condition.notify_all()
             join_all(threads)
-            self.assertEqual(seen, ["go", ["go"], ["go", ["go"]]][:1] + seen[1:])
-            self.assertEqual(len(seen), 3)
+            self.assertEqual((seen[0], len(seen)), ("go", 3))
 
     def test_signals_and_timeouts_lose_nothing(self):
         lock, permits, got = aqs.RLock(conditions=1, keep_history=True), [0], []

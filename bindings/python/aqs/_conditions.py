@@ -1,8 +1,8 @@
 """Conditions: any number for a lock, over the few that a lock of the library has.
 
-Whoever waits has a ticket, and a notify marks tickets. The library's own queue of a condition has the same
-order, so its signals wake the threads whose tickets are marked. A thread that wakes without a mark waits
-again, behind the others: after a slice of the main thread, and where conditions share a number of the lock.
+Each thread that waits has a ticket, and a notify marks tickets. The library's own queue of a condition has the
+same order, so its signals wake the threads whose tickets are marked. A thread that wakes without a mark waits
+again, after the others: the main thread after each slice, and others if conditions share a number of the lock.
 So no notify is lost and no wait ends without one.
 """
 import operator
@@ -25,7 +25,7 @@ class Ticket:
 
 
 class Numbers:
-    """How many queues use each condition number of a lock. The owner of the lock alone uses it."""
+    """How many queues use each condition number of a lock. Only the owner of the lock uses it."""
 
     def __init__(self, count: int) -> None:
         self.users = [0] * count
@@ -43,8 +43,8 @@ class Numbers:
 
 
 class Queue:
-    """Who waits on a condition of a lock. The owner of the lock alone uses it. It has a number of the lock as
-    long as anybody is inside."""
+    """Who waits on a condition of a lock. Only the owner of the lock uses it. It has a number of the lock as
+    long as a thread is inside."""
 
     def __init__(self, wanted: Optional[int] = None) -> None:
         self._wanted, self._number = wanted, 0
@@ -154,10 +154,14 @@ class Waitable:
     def _is_owned(self) -> bool:
         raise NotImplementedError
 
+    def _what_queues_need(self) -> Any:
+        """What the calls of a queue are given: the lock of the library, or a condition over another lock."""
+        return self
+
     def _wait(self, queue: Any, until: Optional[float], interruptible: bool) -> bool:
         if not self._is_owned():
             raise NotOwner("cannot wait on un-acquired lock")
-        return queue.wait(self, until, interruptible)
+        return queue.wait(self._what_queues_need(), until, interruptible)
 
     def _wait_for(
         self, queue: Any, predicate: Callable[[], T], timeout: Optional[float], interruptible: bool
@@ -172,16 +176,16 @@ class Waitable:
     def _notify(self, queue: Any, n: Optional[int]) -> None:
         if not self._is_owned():
             raise NotOwner("cannot notify on un-acquired lock")
-        queue.notify(self, len(queue) if n is None else operator.index(n))
+        queue.notify(self._what_queues_need(), len(queue) if n is None else operator.index(n))
 
 
 class Condition(Waitable):
     """threading.Condition over the library. Any number of them may belong to one lock.
 
-    A lock of the library has `conditions` numbers, at most 16. A condition has one of them while somebody
-    waits on it. If more are waited on at once, some share a number: a notify of such a one wakes all who wait
-    by that number, and those who were not meant wait again. Over another lock, as threading.Lock, its threads
-    wait beside that lock.
+    A lock of the library has `conditions` numbers, at most 16. A condition has one of them while a thread waits
+    on it. If threads wait on more conditions than that at once, some share a number: a notify of one of those
+    wakes all who wait by that number, and those who were not meant wait again. Over another lock, as
+    threading.Lock, its threads wait beside that lock.
     """
 
     def __init__(self, lock: Any = None) -> None:
@@ -222,15 +226,8 @@ class Condition(Waitable):
         """Wakes all who wait. Only the owner may call it."""
         self._notify(self._queue, None)
 
-    def _wait(self, queue: Any, until: Optional[float], interruptible: bool) -> bool:
-        if not self._is_owned():
-            raise NotOwner("cannot wait on un-acquired lock")
-        return queue.wait(self._lock if self._is_own else self, until, interruptible)
-
-    def _notify(self, queue: Any, n: Optional[int]) -> None:
-        if not self._is_owned():
-            raise NotOwner("cannot notify on un-acquired lock")
-        queue.notify(self._lock if self._is_own else self, len(queue) if n is None else operator.index(n))
+    def _what_queues_need(self) -> Any:
+        return self._lock if self._is_own else self
 
     def _is_owned(self) -> bool:
         asks = getattr(self._lock, "_is_owned", None)

@@ -176,4 +176,5 @@ class CountDownLatch(Recorded):
         return acquired(ran, self._calls, (self._opened.handle,), True, moment(timeout), interruptible)
 
     def __repr__(self) -> str:
-        return f"<{self._name()} at {id(self):#x}: count={self.count()}>"
+        count = self._state(lambda: f"count={self.count()}")
+        return f"<{self._name()} at {id(self):#x}: {count}>"

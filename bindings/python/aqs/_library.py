@@ -13,10 +13,8 @@ TOO_MANY_HOLDS = 5
 TOO_MANY_PERMITS = 6
 HOLDS_READ = 7
 NO_SUCH_CONDITION = 8
-BAD_AMOUNT = 9
 HISTORY_FULL = 10
 OUT_OF_MEMORY = 11
-OUT_OF_RANGE = 12
 TOO_MANY_THREADS = 13
 NO_SPACE = 14
 
@@ -42,17 +40,18 @@ class Options(ctypes.Structure):
 
 
 _N, _MS, _AT = ctypes.c_uint32, ctypes.c_uint32, ctypes.c_uint8
+_IS = ctypes.POINTER(ctypes.c_bool)
 _CALLS = {
     "aqs_lock_lock": [], "aqs_lock_lock_interruptibly": [], "aqs_lock_timedlock": [_MS],
     "aqs_lock_trylock": [], "aqs_lock_unlock": [], "aqs_lock_wait": [_AT],
     "aqs_lock_wait_interruptibly": [_AT], "aqs_lock_timedwait": [_AT, _MS],
-    "aqs_lock_signal": [_AT], "aqs_lock_signal_all": [_AT],
+    "aqs_lock_signal": [_AT], "aqs_lock_signal_all": [_AT], "aqs_lock_is_locked": [_IS],
     "aqs_rwlock_rdlock": [], "aqs_rwlock_rdlock_interruptibly": [], "aqs_rwlock_timedrdlock": [_MS],
     "aqs_rwlock_tryrdlock": [], "aqs_rwlock_rdunlock": [],
     "aqs_rwlock_wrlock": [], "aqs_rwlock_wrlock_interruptibly": [], "aqs_rwlock_timedwrlock": [_MS],
     "aqs_rwlock_trywrlock": [], "aqs_rwlock_wrunlock": [],
     "aqs_rwlock_wait": [_AT], "aqs_rwlock_wait_interruptibly": [_AT], "aqs_rwlock_timedwait": [_AT, _MS],
-    "aqs_rwlock_signal": [_AT], "aqs_rwlock_signal_all": [_AT],
+    "aqs_rwlock_signal": [_AT], "aqs_rwlock_signal_all": [_AT], "aqs_rwlock_is_write_locked": [_IS],
     "aqs_sem_acquire": [_N], "aqs_sem_acquire_interruptibly": [_N], "aqs_sem_timedacquire": [_N, _MS],
     "aqs_sem_tryacquire": [_N], "aqs_sem_release": [_N], "aqs_sem_drain": [ctypes.POINTER(ctypes.c_uint32)],
     "aqs_sem_getvalue": [ctypes.POINTER(ctypes.c_int64)],
@@ -91,6 +90,8 @@ def _declared(library):
         _declare(library, f"aqs_{kind}_object", [ctypes.c_void_p], ctypes.c_void_p)
     for name, more in _CALLS.items():
         _declare(library, name, [ctypes.c_void_p, *more])
+    for name in ("aqs_object_queue_length", "aqs_object_waiters"):
+        _declare(library, name, [ctypes.c_void_p, ctypes.POINTER(ctypes.c_uint32)])
     length = ctypes.POINTER(ctypes.c_size_t)
     _declare(library, "aqs_history_text", [ctypes.c_void_p, ctypes.c_char_p, ctypes.c_size_t, length])
     _declare(library, "aqs_history_trim", [ctypes.c_void_p, ctypes.POINTER(ctypes.c_uint64)])

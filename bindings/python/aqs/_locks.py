@@ -1,4 +1,5 @@
 """The locks with an owner: RLock, and the two sides of RWLock."""
+import ctypes
 from typing import Any, Callable, Dict, List, Optional, TypeVar
 
 from ._conditions import Numbers, Queue, Waitable
@@ -100,7 +101,10 @@ class Exclusive(Side, Waitable):
     """A side that one thread has at a time, with conditions. What it keeps beside the library, only the owner
     changes."""
 
-    _timed: Any
+    _waits: Any
+    _one: Any
+    _all: Any
+    _is_locked: Any
 
     def _open(self, opened: Opened, conditions: int) -> None:
         self._opened = opened
@@ -110,7 +114,9 @@ class Exclusive(Side, Waitable):
         self._queues: Dict[int, Queue] = {}
 
     def locked(self) -> bool:
-        return self._owner is not None
+        is_locked = ctypes.c_bool()
+        check(self._is_locked(self._opened.handle, ctypes.byref(is_locked)))
+        return is_locked.value
 
     def _recursion_count(self) -> int:
         return self._count if self._owner is myself() else 0
@@ -148,7 +154,8 @@ class Exclusive(Side, Waitable):
 
     def _await(self, condition: int, until: Optional[float], interruptible: bool) -> int:
         """One wait of the library, which has given the lock up and taken it again when it returns."""
-        count, ran = self._count, []  # type: int, List[int]
+        count = self._count
+        ran: List[int] = []
         try:
             self._set_count(0)
             return turn(ran, self._waits, (self._opened.handle, condition), until, interruptible)
@@ -169,11 +176,6 @@ class Exclusive(Side, Waitable):
         while self._recursion_count():
             self.release()
 
-    def __repr__(self) -> str:
-        kind = type(self)
-        state = "locked" if self.locked() else "unlocked"
-        return f"<{state} {kind.__module__}.{kind.__qualname__} object count={self._count} at {id(self):#x}>"
-
 
 class RLock(Exclusive, Recorded):
     """A reentrant lock with conditions: threading.RLock over the library.
@@ -187,13 +189,14 @@ class RLock(Exclusive, Recorded):
     _waits = calls_of("lock", "wait", "wait_interruptibly", "timedwait")
     _unlock = library.aqs_lock_unlock
     _one, _all = library.aqs_lock_signal, library.aqs_lock_signal_all
+    _is_locked = library.aqs_lock_is_locked
 
     def __init__(self, *, conditions: int = CONDITIONS, **options: Any) -> None:
         self._open(Opened("lock", (), options_of(conditions=conditions, **options)), conditions)
 
     def close(self) -> None:
         """Frees its memory. RuntimeError if another thread owns it. Later calls raise ValueError."""
-        if self.locked() and not self._is_owned():
+        if self._owner not in (None, myself()):
             raise RuntimeError("another thread owns the lock")
         self._free()
         super().close()
@@ -205,6 +208,10 @@ class RLock(Exclusive, Recorded):
     def __del__(self) -> None:
         if getattr(self, "_owner", None):
             self._free()
+
+    def __repr__(self) -> str:
+        state = "locked" if self._count else "unlocked"
+        return f"<{state} {self._name()} object count={self._count} at {id(self):#x}>"
 
 
 class Monitor(RLock):
@@ -258,6 +265,7 @@ class WriteSide(Exclusive):
     _waits = calls_of("rwlock", "wait", "wait_interruptibly", "timedwait")
     _unlock = library.aqs_rwlock_wrunlock
     _one, _all = library.aqs_rwlock_signal, library.aqs_rwlock_signal_all
+    _is_locked = library.aqs_rwlock_is_write_locked
 
     def __init__(self, opened: Opened, conditions: int, read: ReadSide) -> None:
         self._read = read
@@ -289,8 +297,7 @@ class RWLock(Recorded):
 
     def close(self) -> None:
         """Frees its memory. RuntimeError if another thread holds it. Later calls raise ValueError."""
-        others = set(self.read._holds) - {myself()}
-        if others or (self.write.locked() and not self.write._is_owned()):
+        if {*self.read._holds, self.write._owner} - {None, myself()}:
             raise RuntimeError("another thread holds the lock")
         self._free()
         super().close()
@@ -305,5 +312,5 @@ class RWLock(Recorded):
             self._free()
 
     def __repr__(self) -> str:
-        state = "locked to write" if self.write.locked() else f"{len(self.read._holds)} readers"
+        state = "locked to write" if self.write._count else f"{len(self.read._holds)} readers"
         return f"<{self._name()} at {id(self):#x}: {state}>"

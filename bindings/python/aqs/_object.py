@@ -1,8 +1,8 @@
 """Objects of the library: how they are opened and closed, and their histories."""
 import ctypes
-from typing import Any, Optional
+from typing import Any, Callable, Optional
 
-from ._library import NO_SPACE, Options, Policy, check, library
+from ._library import NO_SPACE, Error, Options, Policy, check, library
 from ._waiting import number
 
 
@@ -33,9 +33,6 @@ def options_of(
     )
 
 
-_NAMES = {"lock": "lock", "rwlock": "read-write lock", "sem": "semaphore", "latch": "latch"}
-
-
 class Opened:
     """An object of the library, which its types share."""
 
@@ -47,7 +44,7 @@ class Opened:
     @property
     def handle(self) -> _Handle:
         if self._handle is None:
-            raise ValueError(f"the {_NAMES[self._kind]} is closed")
+            raise ValueError("the object is closed")
         return self._handle
 
     def function(self, name: str) -> Any:
@@ -79,10 +76,10 @@ class Opened:
                 return buffer.raw[: length.value].decode()
             size = length.value + length.value // 8
 
-    def trim(self) -> int:
-        count = ctypes.c_uint64()
-        handle = self.handle
-        check(library.aqs_history_trim(self.function("object")(handle), ctypes.byref(count)))
+    def count(self, call: Any, kind: Any = ctypes.c_uint32) -> int:
+        """The number, of this type of C, that a call of any object answers."""
+        count, handle = kind(), self.handle
+        check(call(self.function("object")(handle), ctypes.byref(count)))
         return count.value
 
 
@@ -97,7 +94,17 @@ class Recorded:
 
     def trim(self) -> int:
         """Forgets the recorded entries, and returns how many."""
-        return self._opened.trim()
+        return self._opened.count(library.aqs_history_trim, ctypes.c_uint64)
+
+    def queue_length(self) -> int:
+        """How many threads are in its queue: those that wait for the lock, for permits or for the latch. Others
+        may come or leave before the caller reads it. It records nothing."""
+        return self._opened.count(library.aqs_object_queue_length)
+
+    def waiters(self) -> int:
+        """How many threads wait in all: those in its queue, and those on its conditions. Others may come or
+        leave before the caller reads it. It records nothing."""
+        return self._opened.count(library.aqs_object_waiters)
 
     def close(self) -> None:
         """Frees its memory, at the latest when the last call that is under way has ended. Later calls raise
@@ -107,3 +114,12 @@ class Recorded:
     def _name(self) -> str:
         kind = type(self)
         return f"{kind.__module__}.{kind.__qualname__}"
+
+    def _state(self, tell: Callable[[], str]) -> str:
+        """What it tells, or why it can't: __repr__ raises nothing."""
+        try:
+            return tell()
+        except Error as error:
+            return str(error)
+        except ValueError:
+            return "closed"

@@ -77,7 +77,7 @@ class Bounded(Permits):
         self._give(n)
 
     def _return(self, n: int) -> bool:
-        """Whether so many permits were out. They are free again."""
+        """Whether n permits were out. They are free again."""
         taken: List[int] = []
         try:
             if run(taken, library.aqs_sem_tryacquire, self._out.handle, n) == WOULD_BLOCK:
@@ -134,7 +134,8 @@ class Semaphore(Permits):
         return self.acquire()
 
     def __repr__(self) -> str:
-        return f"<{self._name()} at {id(self):#x}: value={self.available()}>"
+        value = self._state(lambda: f"value={self.available()}")
+        return f"<{self._name()} at {id(self):#x}: {value}>"
 
 
 class BoundedSemaphore(Bounded):
@@ -162,7 +163,8 @@ class BoundedSemaphore(Bounded):
         return self.acquire()
 
     def __repr__(self) -> str:
-        return f"<{self._name()} at {id(self):#x}: value={self.available()}/{self._initial_value}>"
+        value = self._state(lambda: f"value={self.available()}/{self._initial_value}")
+        return f"<{self._name()} at {id(self):#x}: {value}>"
 
 
 class Lock(Bounded):
@@ -192,5 +194,5 @@ class Lock(Bounded):
         return self.acquire()
 
     def __repr__(self) -> str:
-        state = "locked" if self.locked() else "unlocked"
+        state = self._state(lambda: "locked" if self.locked() else "unlocked")
         return f"<{state} {self._name()} object at {id(self):#x}>"

@@ -28,7 +28,7 @@ def number(value: Any, least: int, most: int, name: str) -> int:
 
 
 def moment(timeout: Optional[float]) -> Optional[float]:
-    """When so many seconds from now are over. None: never."""
+    """The moment this many seconds from now. None: never."""
     if timeout is None:
         return None
     if math.isnan(timeout):
