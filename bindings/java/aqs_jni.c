@@ -156,6 +156,21 @@ NATIVE(jint, number)(JNIEnv *env, jclass class, jobject keep, jint kind, jlong a
     return (jint)status;
 }
 
+NATIVE(jlong, isLocked)(JNIEnv *env, jclass class, jobject keep, jint kind, jlong at) {
+    (void)env, (void)class, (void)keep;
+    aqs_bool_t is_locked = false;
+    aqs_status_t status = kind == LOCK ? aqs_lock_is_locked(pointer(at), &is_locked)
+                                       : aqs_rwlock_is_write_locked(pointer(at), &is_locked);
+    return status == AQS_OK ? (jlong)is_locked : -(jlong)status;
+}
+
+NATIVE(jlong, queueLength)(JNIEnv *env, jclass class, jobject keep, jint kind, jlong at) {
+    (void)env, (void)class, (void)keep;
+    uint32_t count = 0;
+    aqs_status_t status = aqs_object_queue_length(object_of(kind, at), &count);
+    return status == AQS_OK ? (jlong)count : -(jlong)status;
+}
+
 /* Where an array can't be made, an OutOfMemoryError is pending. */
 static void put_text(JNIEnv *env, jobjectArray into, const char *text, size_t length) {
     jbyteArray array = (*env)->NewByteArray(env, (jsize)length);

@@ -94,7 +94,7 @@ final class AqsTest {
         private static final int THREADS = 6, ROUNDS = 100, INTERRUPTS = 150;
         private final AtomicIntegerArray owed = new AtomicIntegerArray(THREADS);
         private final AtomicInteger sent = new AtomicInteger(), seen = new AtomicInteger();
-        private final AtomicInteger running = new AtomicInteger(THREADS);
+        private final AtomicInteger running = new AtomicInteger(THREADS), acquired = new AtomicInteger();
         private int inside, got;
 
         interface Way {
@@ -104,26 +104,9 @@ final class AqsTest {
         /** Each interrupt comes out once: as an exception, or as a flag that is still set. */
         void run(Way way, Work release) throws Exception {
             List<Thread> threads = new ArrayList<>();
-            AtomicInteger acquired = new AtomicInteger();
             for (int t = 0; t < THREADS; t++) {
                 int me = t;
-                threads.add(start(() -> {
-                    Random random = new Random(me);
-                    for (int i = 0; i < ROUNDS || seen.get() < INTERRUPTS; i++) {
-                        if (once(me, way, random.nextInt(4))) {
-                            acquired.incrementAndGet();
-                            inside++;
-                            check(inside == 1);
-                            got++;
-                            inside--;
-                            release.run();
-                        } else {
-                            LockSupport.parkNanos(50_000);
-                        }
-                        takeFlag(me);
-                    }
-                    running.decrementAndGet();
-                }));
+                threads.add(start(() -> acquireOften(me, way, release)));
             }
             Random random = new Random(7);
             while (running.get() > 0) {
@@ -142,6 +125,24 @@ final class AqsTest {
             }
             same(seen.get() + unseen, sent.get());
             check(seen.get() >= INTERRUPTS && got > ROUNDS);
+        }
+
+        private void acquireOften(int me, Way way, Work release) throws Exception {
+            Random random = new Random(me);
+            for (int i = 0; i < ROUNDS || seen.get() < INTERRUPTS; i++) {
+                if (once(me, way, random.nextInt(4))) {
+                    acquired.incrementAndGet();
+                    inside++;
+                    check(inside == 1);
+                    got++;
+                    inside--;
+                    release.run();
+                } else {
+                    LockSupport.parkNanos(50_000);
+                }
+                takeFlag(me);
+            }
+            running.decrementAndGet();
         }
 
         private boolean once(int me, Way way, int kind) {
@@ -244,7 +245,7 @@ final class AqsTest {
                 try {
                     notEmpty.await();
                 } catch (InterruptedException again) {
-                    // Who is interrupted looks again.
+                    // The thread that was interrupted looks again.
                 }
             }
             notFull.signal();
@@ -254,10 +255,18 @@ final class AqsTest {
         }
     }
 
+    static void waitSomehow(Condition condition, int how) throws InterruptedException {
+        switch (how % 3) {
+            case 0: condition.await(); break;
+            case 1: condition.awaitUninterruptibly(); break;
+            default: condition.awaitNanos(TimeUnit.MINUTES.toNanos(1));
+        }
+    }
+
     /** As many conditions as one likes, each with a waiter, signalled in any order. */
     static void manyConditions(Lock lock, int number) throws Exception {
         List<Condition> conditions = new ArrayList<>();
-        boolean[] told = new boolean[number];
+        boolean[] isSignalled = new boolean[number];
         List<Integer> order = new ArrayList<>();
         List<Thread> threads = new ArrayList<>();
         AtomicInteger waiting = new AtomicInteger();
@@ -269,14 +278,8 @@ final class AqsTest {
             threads.add(start(() -> {
                 lock.lock();
                 waiting.incrementAndGet();
-                while (!told[me]) {
-                    if (me % 3 == 0) {
-                        condition.await();
-                    } else if (me % 3 == 1) {
-                        condition.awaitUninterruptibly();
-                    } else {
-                        condition.awaitNanos(TimeUnit.MINUTES.toNanos(1));
-                    }
+                while (!isSignalled[me]) {
+                    waitSomehow(condition, me);
                 }
                 lock.unlock();
             }));
@@ -287,7 +290,7 @@ final class AqsTest {
         }
         for (int i : order) {
             lock.lock();
-            told[i] = true;
+            isSignalled[i] = true;
             if (i % 2 == 0) {
                 conditions.get(i).signal();
             } else {
@@ -396,6 +399,31 @@ final class AqsTest {
         }
     }
 
+    /** What the JDK's latch doesn't tell, that none of it is recorded, and that it takes a seat. */
+    static void questions() throws Exception {
+        try (AqsCountDownLatch latch = new AqsCountDownLatch(1);
+                AqsLock lock = new AqsLock(new AqsOptions().keepHistory().mostEntries(16).threads(1))) {
+            Thread waiter = start(latch::await);
+            while (!latch.hasQueuedThreads()) {
+                Thread.sleep(1);
+            }
+            same(latch.getQueueLength(), 1);
+            latch.countDown();
+            waiter.join();
+            same(latch.getQueueLength(), 0);
+            lock.lock();
+            String before = lock.history();
+            for (int i = 0; i < 30; i++) {
+                check(lock.isLocked() && !lock.hasQueuedThreads());
+            }
+            same(lock.history(), before);
+            start(() -> throwing(AqsException.class, lock::isLocked)).join();
+            start(() -> throwing(AqsException.class, lock::getQueueLength)).join();
+            lock.unlock();
+            start(() -> check(!lock.isLocked())).join();
+        }
+    }
+
     static void options() throws Exception {
         refused(() -> new AqsLock(new AqsOptions().threads(257)));
         refused(() -> new AqsLock(new AqsOptions().threads(-1)));
@@ -417,6 +445,8 @@ final class AqsTest {
         throwing(IllegalStateException.class, lock::tryLock);
         throwing(IllegalStateException.class, met::signal);
         throwing(IllegalStateException.class, lock::history);
+        throwing(IllegalStateException.class, lock::isLocked);
+        throwing(IllegalStateException.class, lock::hasQueuedThreads);
         try (AqsSemaphore full = new AqsSemaphore(0, new AqsOptions().keepHistory().mostEntries(16))) {
             check(!full.isFair());
             full.release(100);
@@ -473,7 +503,7 @@ final class AqsTest {
         AtomicInteger kept = new AtomicInteger();
         Runnable interrupting = () -> {
             waiter[0].interrupt();
-            LockSupport.parkNanos(50_000_000); // the wait has ended by then, but for the lock
+            LockSupport.parkNanos(50_000_000); // by then the wait has only to get the lock again
         };
         try (AqsCyclicBarrier barrier = new AqsCyclicBarrier(2, interrupting)) {
             waiter[0] = start(() -> {
@@ -493,6 +523,7 @@ final class AqsTest {
     public static void main(String[] words) throws Exception {
         folder = Paths.get(words[0]);
         options();
+        questions();
         sides();
         conditions();
         barriers();

@@ -23,7 +23,7 @@ public class AqsCyclicBarrier implements AutoCloseable {
     }
 
     /**
-     * A barrier for so many threads.
+     * A barrier for a number of threads.
      *
      * @param parties how many meet
      * @throws IllegalArgumentException if there are none

@@ -80,6 +80,16 @@ public class AqsLock extends AqsObject implements Lock {
     }
 
     /**
+     * Returns whether any thread owns the lock. Another thread may change that at any time. It records
+     * nothing.
+     *
+     * @return whether one does
+     */
+    public boolean isLocked() {
+        return locked();
+    }
+
+    /**
      * Returns whether threads wait on a condition of this lock. A thread whose wait was interrupted, or whose
      * time is up, may count until it has the lock again.
      *

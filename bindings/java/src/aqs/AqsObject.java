@@ -6,9 +6,9 @@ import java.util.concurrent.TimeUnit;
 /**
  * An object of the library: it records its calls.
  *
- * <p>Each constructor, and each call but `toString` and `isFair`, throws UnsupportedOperationException if a
- * virtual thread makes it. Each call may throw {@link AqsException}, which says what can't be as the JDK has
- * no word for it, or OutOfMemoryError. It throws IllegalStateException if the object is closed. After an
+ * <p>Each constructor, and each call except `toString` and `isFair`, throws UnsupportedOperationException if
+ * a virtual thread makes it. Each call may throw {@link AqsException}, for failures that the JDK's classes
+ * don't have, or OutOfMemoryError. It throws IllegalStateException if the object is closed. After an
  * exception nothing has changed, unless the call says otherwise.
  */
 public abstract class AqsObject implements AutoCloseable {
@@ -59,6 +59,26 @@ public abstract class AqsObject implements AutoCloseable {
     }
 
     /**
+     * Returns whether threads are in the queue, as {@link #getQueueLength} counts them. They may leave at any
+     * time. It records nothing.
+     *
+     * @return whether there are some
+     */
+    public final boolean hasQueuedThreads() {
+        return getQueueLength() > 0;
+    }
+
+    /**
+     * Returns how many threads are in the queue: those that wait for the lock, for permits or for the latch,
+     * but not those that wait on conditions. Others may come or leave at any time. It records nothing.
+     *
+     * @return their number
+     */
+    public final int getQueueLength() {
+        return (int) checked(Native.queueLength(this, kind, handle()));
+    }
+
+    /**
      * Frees the native memory. No thread may be in a call of the object, and none may own it. Later calls
      * throw IllegalStateException, but another close does nothing. An object that nobody closes is closed
      * some time after it can't be reached any more.
@@ -89,6 +109,11 @@ public abstract class AqsObject implements AutoCloseable {
         return open;
     }
 
+    /** Whether any thread owns the lock, or its write side. */
+    final boolean locked() {
+        return checked(Native.isLocked(this, kind, handle())) > 0;
+    }
+
     /** The free permits of a semaphore, or the count of a latch. */
     final long number() {
         long[] into = new long[1];
@@ -96,7 +121,7 @@ public abstract class AqsObject implements AutoCloseable {
         return into[0];
     }
 
-    /** A call that an interrupt may end. */
+    /** Makes a call that an interrupt may end. */
     final void interruptibly(int call, int number) throws InterruptedException {
         long open = handle();
         int status = Native.INTERRUPTED;
@@ -110,7 +135,7 @@ public abstract class AqsObject implements AutoCloseable {
         ended(status, sent);
     }
 
-    /** The same, for at most this time. Returns whether it came to what it asks for. */
+    /** The same, for at most this time. Returns whether the call got what it asks for. */
     final boolean timed(int call, int number, long time, TimeUnit unit) throws InterruptedException {
         long left = unit.toNanos(time);
         long end = System.nanoTime() + Math.max(0, left);
@@ -123,9 +148,7 @@ public abstract class AqsObject implements AutoCloseable {
         return false;
     }
 
-    /**
-     * The same, but it may end before its time, as no call of the library is for longer than some 24 days.
-     */
+    /** The same, but it may end before its time: no call of the library lasts longer than some 24 days. */
     final boolean timedOnce(int call, int number, long nanoseconds) throws InterruptedException {
         long open = handle();
         int status = Native.INTERRUPTED;
@@ -139,7 +162,7 @@ public abstract class AqsObject implements AutoCloseable {
         return ended(status, sent);
     }
 
-    /** What an interruptible call comes to. An interrupt that didn't end it stays set in the thread. */
+    /** Whether such a call got what it asks for. An interrupt that didn't end it stays set in the thread. */
     private static boolean ended(int status, boolean sent) throws InterruptedException {
         if (status == Native.INTERRUPTED) {
             if (sent) {
@@ -156,14 +179,14 @@ public abstract class AqsObject implements AutoCloseable {
         return (int) Math.max(0, Math.min(whole, Integer.MAX_VALUE));
     }
 
-    /** Throws unless the call came to what it asks for. */
+    /** Throws unless the call got what it asks for. */
     static void must(int status) {
         if (status != Native.OK) {
             throw fault(status);
         }
     }
 
-    /** Whether a try came to what it asks for. */
+    /** Whether a try got what it asks for. It throws unless that would have taken a wait. */
     static boolean tried(int status) {
         if (status == Native.WOULD_BLOCK) {
             return false;
@@ -172,6 +195,7 @@ public abstract class AqsObject implements AutoCloseable {
         return true;
     }
 
+    /** The value, unless it is a status, made negative: then it throws. */
     static long checked(long value) {
         if (value < 0) {
             throw fault((int) -value);

@@ -34,7 +34,7 @@ public final class AqsOptions {
     }
 
     /**
-     * Keeps all entries of the history, and refuses new calls where it is full.
+     * Keeps all entries of the history, and refuses new calls when it is full.
      *
      * @return this
      */

@@ -42,6 +42,16 @@ public class AqsReadWriteLock extends AqsObject implements ReadWriteLock {
     }
 
     /**
+     * Returns whether any thread owns the write side. Another thread may change that at any time. It records
+     * nothing.
+     *
+     * @return whether one does
+     */
+    public boolean isWriteLocked() {
+        return locked();
+    }
+
+    /**
      * Returns whether the calling thread owns the write side.
      *
      * @return whether it has a hold to write

@@ -33,7 +33,7 @@ public class AqsSemaphore extends AqsObject {
     }
 
     /**
-     * Takes permits at once, and waits until so many are free.
+     * Takes n permits at once, and waits until n are free.
      *
      * @param n how many
      * @throws InterruptedException if the thread is interrupted before or while it waits
@@ -49,8 +49,7 @@ public class AqsSemaphore extends AqsObject {
     }
 
     /**
-     * Takes permits at once, and waits until so many are free. An interrupt doesn't end the wait, and stays
-     * set.
+     * Takes n permits at once, and waits until n are free. An interrupt doesn't end the wait, and stays set.
      *
      * @param n how many
      * @throws IllegalArgumentException if n is below 0
@@ -69,7 +68,7 @@ public class AqsSemaphore extends AqsObject {
     }
 
     /**
-     * Takes permits if so many are free, before those that wait, unless the semaphore is strict.
+     * Takes n permits if n are free, before those that wait, unless the semaphore is strict.
      *
      * @param n how many
      * @return whether it did
@@ -92,7 +91,7 @@ public class AqsSemaphore extends AqsObject {
     }
 
     /**
-     * Takes permits at once, and waits for at most this time until so many are free.
+     * Takes n permits at once, and waits for at most this time until n are free.
      *
      * @param n how many
      * @param time how long
@@ -111,7 +110,7 @@ public class AqsSemaphore extends AqsObject {
     }
 
     /**
-     * Gives permits. Any thread may. It throws an Error if there would be more than 2147483647.
+     * Gives n permits. Any thread may. It throws an Error if there would be more than 2147483647.
      *
      * @param n how many
      * @throws IllegalArgumentException if n is below 0

@@ -48,7 +48,7 @@ final class Exclusive {
         return got;
     }
 
-    /** What it says must be so before others can own the lock. */
+    /** The holds are lowered first: as soon as the library has the lock free, another thread changes them. */
     void unlock() {
         long at = object.handle();
         boolean mine = isMine();
@@ -91,7 +91,7 @@ final class Exclusive {
         return before;
     }
 
-    /** The calling thread has so many holds. */
+    /** Notes how many holds the calling thread has. */
     void have(int number) {
         holds = number;
         OWNER.lazySet(this, number == 0 ? null : Thread.currentThread());

@@ -116,6 +116,12 @@ final class Native {
     /** A status. It puts the free permits of a semaphore, or the count of a latch, into the first place. */
     static native int number(Object keep, int kind, long at, long[] into);
 
+    /** 1 if any thread owns the lock, or its write side, 0 if none does, or the status, made negative. */
+    static native long isLocked(Object keep, int kind, long at);
+
+    /** How many threads are in the object's queue, or the status, made negative. */
+    static native long queueLength(Object keep, int kind, long at);
+
     /** A status. It puts the text into the first place. */
     static native int history(Object keep, int kind, long at, byte[][] into);
 
