@@ -289,18 +289,14 @@ class Objects(Tests):
         both = aqs.RWLock()
         for thing, side in ((aqs.RLock(), None), (both, both.write)):
             lock, condition = side or thing, aqs.Condition(side or thing)
-
-            def wait(number):
-                with lock:
-                    (condition, lock)[number].wait()
-
-            threads = run_all(2, wait)
+            waits = (condition.wait, lambda: lock.wait(condition=1))
+            threads = run_all(2, lambda number: in_lock(lock, waits[number]))
             until(lambda: self.counts(thing, side) == (False, 0, 2))
             with lock:
                 self.assertEqual(self.counts(thing, side), (True, 0, 2))
                 condition.notify()
                 self.assertEqual(self.counts(thing, side), (True, 1, 2))
-                lock.notify_all()
+                lock.notify_all(condition=1)
                 self.assertEqual(self.counts(thing, side), (True, 2, 2))
             join_all(threads)
             self.assertEqual(self.counts(thing, side), (False, 0, 0))
