@@ -25,7 +25,7 @@ typedef struct {
 
 static char top[PATH_MAX], folder[PATH_MAX + 64], program[PATH_MAX];
 static pid_t process;
-static atomic_uint write_lock, asked, has_helper, is_told, main_has_left;
+static atomic_uint write_lock, asked, has_helper, has_complained, main_has_left;
 static uint32_t every = 1;
 static struct stat errors_at_start;
 static bytes_t gone; /* the lines of objects that are gone */
@@ -42,7 +42,7 @@ static bool has_errors(void) {
 
 static void complain(const char *what, const char *path) {
     int error = errno;
-    if (!has_errors() || atomic_exchange(&is_told, 1)) return;
+    if (!has_errors() || atomic_exchange(&has_complained, 1)) return;
     errno = error;
     dprintf(2, "aqs: %s %s: %m\n", what, path);
 }

@@ -77,7 +77,7 @@ class Opened:
             size = length.value + length.value // 8
 
     def count(self, call: Any, kind: Any = ctypes.c_uint32) -> int:
-        """The number, of this type of C, that a call of any object answers."""
+        """The number, of this type of C, that a call of any object puts into its place."""
         count, handle = kind(), self.handle
         check(call(self.function("object")(handle), ctypes.byref(count)))
         return count.value

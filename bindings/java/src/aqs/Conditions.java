@@ -27,7 +27,7 @@ final class Conditions {
         return new AqsCondition(this, Math.floorMod(made.getAndIncrement(), having.size()));
     }
 
-    /** The lock's condition that this is. */
+    /** The condition, if it is one of this lock. Otherwise it throws. */
     AqsCondition own(java.util.concurrent.locks.Condition condition) {
         if (condition == null) {
             throw new NullPointerException();

@@ -135,7 +135,7 @@ impl Condvar {
         self.sleep(guard.raw(), None, true)
     }
 
-    /// The same, for at most so long: [`Error::TimedOut`] or [`Error::Interrupted`].
+    /// The same, for at most this time: [`Error::TimedOut`] or [`Error::Interrupted`].
     pub fn wait_interruptibly_for<T: ?Sized>(
         &self,
         guard: &mut MutexGuard<'_, T>,
@@ -144,7 +144,7 @@ impl Condvar {
         self.sleep(guard.raw(), after(time), true)
     }
 
-    /// Waits for at most so long.
+    /// Waits for at most this time.
     #[track_caller]
     pub fn wait_for<T: ?Sized>(&self, guard: &mut MutexGuard<'_, T>, time: Duration) -> WaitTimeoutResult {
         self.wait_to(guard, after(time))
@@ -171,7 +171,7 @@ impl Condvar {
         self.wait_while_until_internal(guard, is_so, None);
     }
 
-    /// Waits while the value is so, for at most so long. If the time was up, the value wasn't looked at
+    /// Waits while the value is so, for at most this time. If the time was up, the value wasn't looked at
     /// again.
     #[track_caller]
     pub fn wait_while_for<T: ?Sized>(

@@ -94,13 +94,13 @@ impl Latch {
         check(self.pass(None, true))
     }
 
-    /// The same, for at most so long: [`Error::TimedOut`] or [`Error::Interrupted`].
+    /// The same, for at most this time: [`Error::TimedOut`] or [`Error::Interrupted`].
     #[track_caller]
     pub fn wait_interruptibly_for(&self, time: Duration) -> Result<(), Error> {
         check(self.pass(after(time), true))
     }
 
-    /// Waits for at most so long. Whether the count is 0.
+    /// Waits for at most this time. Whether the count is 0.
     #[track_caller]
     pub fn wait_for(&self, time: Duration) -> bool {
         taken(self.pass(after(time), false))

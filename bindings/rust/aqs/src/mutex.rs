@@ -92,7 +92,7 @@ impl<T: ?Sized> Mutex<T> {
         Ok(self.guard())
     }
 
-    /// The same, for at most so long: [`Error::TimedOut`] or [`Error::Interrupted`].
+    /// The same, for at most this time: [`Error::TimedOut`] or [`Error::Interrupted`].
     #[track_caller]
     pub fn lock_interruptibly_for(&self, time: Duration) -> Result<MutexGuard<'_, T>, Error> {
         self.refuse_owner();
@@ -106,7 +106,7 @@ impl<T: ?Sized> Mutex<T> {
         (!self.raw.is_mine() && taken(self.raw.try_lock())).then(|| self.guard())
     }
 
-    /// Takes the value, and waits for at most so long. The thread that has it gets None at once.
+    /// Takes the value, and waits for at most this time. The thread that has it gets None at once.
     #[track_caller]
     pub fn try_lock_for(&self, time: Duration) -> Option<MutexGuard<'_, T>> {
         self.try_lock_to(after(time))

@@ -211,7 +211,7 @@ impl<T: ?Sized> RwLock<T> {
         Ok(self.reader())
     }
 
-    /// The same, for at most so long: [`Error::TimedOut`] or [`Error::Interrupted`].
+    /// The same, for at most this time: [`Error::TimedOut`] or [`Error::Interrupted`].
     #[track_caller]
     pub fn read_interruptibly_for(&self, time: Duration) -> Result<ReadGuard<'_, T>, Error> {
         self.raw.refuse_writer();
@@ -231,7 +231,7 @@ impl<T: ?Sized> RwLock<T> {
         self.try_read()
     }
 
-    /// Takes the value to read it, and waits for at most so long.
+    /// Takes the value to read it, and waits for at most this time.
     #[track_caller]
     pub fn try_read_for(&self, time: Duration) -> Option<ReadGuard<'_, T>> {
         self.try_read_to(after(time))
@@ -264,7 +264,7 @@ impl<T: ?Sized> RwLock<T> {
         Ok(self.writer())
     }
 
-    /// The same, for at most so long: [`Error::TimedOut`] or [`Error::Interrupted`].
+    /// The same, for at most this time: [`Error::TimedOut`] or [`Error::Interrupted`].
     #[track_caller]
     pub fn write_interruptibly_for(&self, time: Duration) -> Result<WriteGuard<'_, T>, Error> {
         self.raw.refuse_writer();
@@ -278,7 +278,7 @@ impl<T: ?Sized> RwLock<T> {
         (!self.raw.writes() && taken(self.raw.try_write())).then(|| self.writer())
     }
 
-    /// Takes the value to change it, and waits for at most so long.
+    /// Takes the value to change it, and waits for at most this time.
     #[track_caller]
     pub fn try_write_for(&self, time: Duration) -> Option<WriteGuard<'_, T>> {
         self.try_write_to(after(time))

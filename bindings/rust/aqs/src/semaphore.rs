@@ -91,7 +91,7 @@ impl Semaphore {
         check(self.take(n, None, true))
     }
 
-    /// The same, for at most so long: [`Error::TimedOut`] or [`Error::Interrupted`].
+    /// The same, for at most this time: [`Error::TimedOut`] or [`Error::Interrupted`].
     #[track_caller]
     pub fn acquire_interruptibly_for(&self, n: u32, time: Duration) -> Result<(), Error> {
         check(self.take(n, after(time), true))
@@ -104,7 +104,7 @@ impl Semaphore {
         taken(unsafe { sys::aqs_sem_tryacquire(self.semaphore.get(), n) })
     }
 
-    /// Takes n permits, and waits for at most so long.
+    /// Takes n permits, and waits for at most this time.
     #[track_caller]
     pub fn try_acquire_for(&self, n: u32, time: Duration) -> bool {
         taken(self.take(n, after(time), false))
@@ -139,13 +139,13 @@ impl Semaphore {
     /// The same if n permits are free.
     #[track_caller]
     pub fn try_permits(&self, n: u32) -> Option<Permits<'_>> {
-        self.try_acquire(n).then_some(n).map(|n| Permits { semaphore: self, n })
+        self.try_acquire(n).then(|| Permits { semaphore: self, n })
     }
 
-    /// The same, and waits for at most so long.
+    /// The same, and waits for at most this time.
     #[track_caller]
     pub fn try_permits_for(&self, n: u32, time: Duration) -> Option<Permits<'_>> {
-        self.try_acquire_for(n, time).then_some(n).map(|n| Permits { semaphore: self, n })
+        self.try_acquire_for(n, time).then(|| Permits { semaphore: self, n })
     }
 
     /// Takes all free permits, and returns how many.
