@@ -160,7 +160,7 @@ static const sleeper_t sleepers[] = {
 };
 
 /* These own the lock or the write side before they wait, and have it again afterwards. */
-static const sleeper_t waiters[] = {
+static const sleeper_t owners[] = {
     {LOCK, "$ lock = OK", "wait 0", "$ unlock = OK"},
     {LOCK, "$ lock = OK; $ lock = OK", "wait_interruptibly 0", "$ unlock = OK; $ unlock = OK"},
     {LOCK, "$ lock = OK", "timedwait 0 20000", "$ unlock = OK"},
@@ -170,7 +170,7 @@ static const sleeper_t waiters[] = {
     {RW, "$ wrlock = OK", "timedwait 0 20000", "$ wrunlock = OK"},
 };
 
-enum { SLEEPERS = sizeof sleepers / sizeof sleepers[0], WAITERS = sizeof waiters / sizeof waiters[0] };
+enum { SLEEPERS = sizeof sleepers / sizeof sleepers[0], OWNERS = sizeof owners / sizeof owners[0] };
 
 static void fall_asleep(const sleeper_t *row, int thread) {
     char line[200];
@@ -194,10 +194,10 @@ static void sleep_a_second(void) {
     IS(aqs_sem_open(&semaphore, 0, &options), AQS_OK);
     IS(aqs_latch_open(&latch, 1, &options), AQS_OK);
     play_name = "threads that wait for a second";
-    for (int i = 0; i < WAITERS; i++) fall_asleep(&waiters[i], 1 + i);
+    for (int i = 0; i < OWNERS; i++) fall_asleep(&owners[i], 1 + i);
     play_lines(LOCK, "0 lock = OK");
     play_lines(RW, "0 wrlock = OK");
-    for (int i = 0; i < SLEEPERS; i++) fall_asleep(&sleepers[i], 1 + WAITERS + i);
+    for (int i = 0; i < SLEEPERS; i++) fall_asleep(&sleepers[i], 1 + OWNERS + i);
     /* one whose time is a second exactly, and then all others */
     play_lines(SEM, "33 timedacquire 1 1000 = TIMED_OUT");
     if (players[33].used > USED * INT64_C(1000000))
@@ -206,8 +206,8 @@ static void sleep_a_second(void) {
     play_lines(RW, "0 signal_all 0 = OK; 0 wrunlock = OK");
     play_lines(SEM, "0 release 4 = OK");
     play_lines(LATCH, "0 count_down = OK");
-    for (int i = 0; i < SLEEPERS; i++) get_up(&sleepers[i], 1 + WAITERS + i);
-    for (int i = 0; i < WAITERS; i++) get_up(&waiters[i], 1 + i);
+    for (int i = 0; i < SLEEPERS; i++) get_up(&sleepers[i], 1 + OWNERS + i);
+    for (int i = 0; i < OWNERS; i++) get_up(&owners[i], 1 + i);
     for (kind_t kind = LOCK; kind <= LATCH; kind++) close_it(kind);
 }
 
