@@ -8,6 +8,7 @@
 - `growth.py`: how time and memory grow with the input and with the seats.
 - `storms.py`: two short storms of threads.
 - `fuzz.py`: random texts, others each day.
+- `misspelt.py`: texts that are spoilt in one way each, and where they are wrong.
 - `spoilt.py`: two examples with each byte changed.
 - `page.py`: the pages of `aqs draw --page`, under node and in a browser, where this machine has them.
 - `java.py`: scenarios on the JDK of this machine, if it has one.
@@ -42,6 +43,7 @@ def checks(seed):
     yield ["storms.py", "2", "16", "4", number]
     yield ["storms.py", "1", "64", "8", number]
     yield ["fuzz.py", "4000"]
+    yield ["misspelt.py", "2000"]
     yield ["spoilt.py", seed]
     yield ["page.py"]
     if java.has_jdk():

@@ -1,7 +1,7 @@
 #!/usr/bin/env python3
 """Devices that fail, and lines and texts without end: checks/devices.py PROGRAM [GIGABYTES].
 
-For each of replay, audit, draw and run: input that comes one byte at a time and output that is taken so, a
+For each of replay, audit, draw, explain and run: input that comes one byte at a time and output that is taken so, a
 terminal at which one Ctrl-D ends a text, a text that is cut short or no text, an output that nobody reads, a
 full disk, a folder and a file that may not be read as FILE, and ever less memory for data until the system
 does not load the program. Of eight threads each one in turn is not started. With GIGABYTES, that much of good
@@ -24,6 +24,7 @@ import tempfile
 import termios
 import threading
 
+import places
 import rules
 import runs
 
@@ -66,6 +67,7 @@ COMMANDS = [
     (["replay", "--history"], STEPS, HISTORY),
     (["audit"], HISTORY, rules.audit(HISTORY)[1]),
     (["draw"], DRAWN, PICTURE),
+    (["explain"], STEPS, places.RIGHT_STEPS),
     (["run"], SCRIPT, RUN),
 ]
 CUT_SHORT = (3, b"", b"aqs: cut short\n")
@@ -114,15 +116,30 @@ def at_a_terminal(program, words, text, patience=10):
     return done.returncode, done.stdout, done.stderr
 
 
+def is_short(words, text, answer):
+    """Whether a command says that a text is cut short. An explanation says where."""
+    if words == ["explain"]:
+        return answer is not None and places.is_told(text, answer)
+    return answer == (NOT_JSON if words == ["run"] else CUT_SHORT)
+
+
+def is_unread(words, name, answer):
+    """Whether a command says that its input can't be read. An explanation names it, and says why."""
+    if words != ["explain"]:
+        return answer == READ_FAILED
+    told = answer[1].startswith(f"cannot read {name}: ".encode()) and answer[1].find(b"\n") == len(answer[1]) - 1
+    return told and (answer[0], answer[2]) == (1, b"")
+
+
 def terminals(program, words, text, wanted):
     """Whether one Ctrl-D is enough, after a whole text, after one without its last line, and without any."""
     name, lines = " ".join(words), text.splitlines(keepends=True)
-    fault = NOT_JSON if words == ["run"] else CUT_SHORT
     whole = at_a_terminal(program, words, text.rstrip() + b"\n")
     yield f"{name}, a whole text at a terminal", whole == (0, wanted, b"")
-    cut = at_a_terminal(program, words, b"".join(lines[:-1]))
-    yield f"{name}, a text that is cut short at a terminal", cut == fault
-    yield f"{name}, no text at a terminal", at_a_terminal(program, words, b"") == fault
+    short = b"".join(lines[:-1])
+    cut = at_a_terminal(program, words, short)
+    yield f"{name}, a text that is cut short at a terminal", is_short(words, short, cut)
+    yield f"{name}, no text at a terminal", is_short(words, b"", at_a_terminal(program, words, b""))
 
 
 def into(program, words, text, output):
@@ -232,16 +249,16 @@ def results(program, scratch):
         with open(scratch / "in", "wb") as only_written:
             done = subprocess.run([program, *words], stdin=only_written, capture_output=True, timeout=60)
             answer = (done.returncode, done.stdout, done.stderr)
-            yield f"{name}, an input that is not read", answer == READ_FAILED
+            yield f"{name}, an input that is not read", is_unread(words, "standard input", answer)
         with open("/dev/null", "rb") as only_read:
             answer = into(program, words, text, only_read)
             yield f"{name}, an output that is not written", answer == WRITE_FAILED
-        yield f"{name} of a folder", run(program, [*words, str(scratch)]) == READ_FAILED
-        yield f"{name} of no file", run(program, [*words, str(scratch / "none")]) == READ_FAILED
-        yield f"{name} below a file", run(program, [*words, str(hidden / "below")]) == READ_FAILED
+        unread = {"of a folder": scratch, "of no file": scratch / "none", "below a file": hidden / "below"}
+        for told, file in unread.items():
+            yield f"{name} {told}", is_unread(words, file, run(program, [*words, str(file)]))
         answer = run(own, [*words, str(hidden)], **somebody)
-        yield f"{name} of a file that may not be read", answer == READ_FAILED
-        yield f"{name}, no input", run(program, words)[0] == 3
+        yield f"{name} of a file that may not be read", is_unread(words, hidden, answer)
+        yield f"{name}, no input", run(program, words)[0] == (1 if words == ["explain"] else 3)
         yield f"{name}, little memory", little_memory(program, words, text, wanted)
     yield "run, threads that are not started", threads_not_started(program)
 

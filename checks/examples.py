@@ -162,10 +162,12 @@ def manuals(program):
     """The examples of the manual's pages are what the program writes."""
     for name in ("replay", "audit", "explain", "summary", "run"):
         page = run(program, ["manual", name])[1].decode()
-        found = re.search(r"From the text\n\n(.*?\n)\nit writes\n\n((?:  [^\n]*\n)*)", page, re.S)
-        given, told = (re.sub(r"(?m)^  ", "", part).encode() for part in found.groups())
-        status = 1 if told.startswith(b"not legal") else 0
-        yield f"the example of manual {name}", run(program, [name], given) == (status, told, b"")
+        found = re.findall(r"From the text\n\n(.*?\n)\nit writes\n\n((?:  [^\n]*\n)*)", page, re.S)
+        yield f"manual {name} has an example", found != []
+        for parts in found:
+            given, told = (re.sub(r"(?m)^  ", "", part).encode() for part in parts)
+            status = 1 if told.startswith((b"not legal", b"wrong at")) else 0
+            yield f"an example of manual {name}", run(program, [name], given) == (status, told, b"")
 
 
 def named_files(program, folder):

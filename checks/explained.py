@@ -2,7 +2,7 @@
 from the list, and each step of the seat is tried on it.
 
 `explain(text, at)` gives the status, the output and the line on standard error. `at` is the number of an entry,
-or None.
+or None. For a text that is no right history it gives None: checks/places.py judges what is answered then.
 """
 
 import copy
@@ -186,7 +186,7 @@ def explain(text, at=None):
     """What `aqs explain` answers to a text."""
     try:
         _, read_ = rules.read_history(text)
-    except rules.TextFault as fault:
-        return 3, b"", f"aqs: {fault}\n".encode()
+    except rules.TextFault:
+        return None
     answer = "".join(lines(read_, at)).encode()
     return 0 if answer.startswith(b"legal\n") else 1, answer, b""

@@ -21,6 +21,7 @@ import sys
 import drawn
 import explained
 import page
+import places
 import rules
 import runs
 import summed
@@ -216,6 +217,7 @@ def script_tries(chance):
     text = json.dumps(script_of(chance), indent=chance.choice((None, 1))).encode()
     if chance.randrange(4) == 0:
         text = spoilt_bytes(chance, text)
+    yield ["explain"], text, None
     fault = rules.script_fault(text)
     if fault is not None:
         yield ["run"], text, (3, b"", f"aqs: {fault}\n".encode())
@@ -243,6 +245,7 @@ def tries(chance):
         for _ in range(chance.choice((1, 1, 2, 3))):
             steps = spoilt_bytes(chance, steps) or b"\n"
         yield ["replay"], steps, rules.replay(steps)
+        yield ["explain"], steps, None
         return
     history = rules.replay(steps, True)
     if way == 1:
@@ -269,6 +272,8 @@ def tries(chance):
 
 def agrees(words, text, wanted, answer):
     """Whether an answer is the wanted one; a picture and a page must show what their history says."""
+    if words[0] == "explain" and wanted is None:
+        return places.is_told(text, answer)
     if words == ["draw", "--page"]:
         return (answer[0], answer[2]) == (wanted[0], b"") and page.has_data(answer[1], text)
     if words != ["draw"] or wanted[0] > 1:
@@ -284,7 +289,7 @@ def fuzz(path, texts, seed):
     for _ in range(texts):
         for words, text, wanted in tries(chance):
             answer = program.answer(words, text)
-            kinds[words[0] if "--at" in words else " ".join(words), wanted[0]] += 1
+            kinds[words[0] if "--at" in words else " ".join(words), answer[0]] += 1
             if not agrees(words, text, wanted, answer):
                 wrong.append((words, text, wanted, answer))
     program.close()

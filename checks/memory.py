@@ -37,6 +37,7 @@ KEPT = 2  # blocks of a thread that the kit keeps if it lacks memory for the lis
 MORE = 4  # requests of a longer run text
 NO_MEMORY = (5, b"", b"aqs: out of memory\n")
 READ_FAILED = (4, b"", b"aqs: read failed\n")
+NOT_READ = b"cannot read standard input: "
 WRITE_FAILED = (4, b"aqs: write failed\n")
 # The calls of one thread at an object of each kind. Two of them are not recorded. Each object but the last is trimmed.
 SCRIPT = {
@@ -68,8 +69,22 @@ def run(program, library, words, text, **fails):
     return Run((done.returncode, done.stdout, done.stderr), counts)
 
 
+def wrong_texts():
+    """Texts of each kind in which something is wrong: a first line, a line, the end."""
+    header = b"lock fair seats 2 conditions 1 cap 16\n"
+    yield b"lock\n"
+    yield b"aqs-steps 1 " + header + b"0 lok\nend 1\n"
+    yield b"aqs-history 1 " + header + b"0 0 got x\nend 1 1\n"
+    yield b"aqs-history 2 " + header + b"base 1\nseat 0 calls 1 x 2 s 1\n"
+    yield b"aqs-history 2 " + header + b"base 1\nseat 0 calls 1 x 1 s 0\nseat 1 calls 0 x 0 s 0\nline 0 back\n"
+    for part, calls in ("lock fair", []), (header.decode().strip(), ["a get x 1"]), (header.decode().strip(), [1]):
+        threads = [{"repeat": 1, "calls": calls}, {"repeat": 1, "calls": []}]
+        yield json.dumps({"objects": [["a", part]], "threads": threads}).encode()
+    yield b'{"objects": [], "threads": [}'
+
+
 def commands():
-    """Commands, and a text for each: of each object, with a base and without, legal and not."""
+    """Commands, and a text for each: of each object, with a base and without, legal and not, right and wrong."""
     names = ("bounded_buffer", "downgrade", "latch_counts_down", "request_of_none_and_drain", "trim_behind_a_sleeper")
     texts = [file.read_bytes() for file in sorted(EXAMPLES.glob("*.steps")) if file.stem in names]
     for text in [*texts, pairs(700)]:
@@ -80,6 +95,8 @@ def commands():
     for text in histories:
         for words in ("audit",), ("draw",), ("draw", "--page"), ("explain",), ("summary",):
             yield [*words], text
+    for text in wrong_texts():
+        yield ["explain"], text
     yield ["run"], json.dumps(SCRIPT).encode()
 
 
@@ -105,11 +122,19 @@ def refused(program, library, words, text):
     return f"{in_vain} requests in vain" if in_vain > IN_VAIN + of_calls or in_vain == whole.counts.requests else None
 
 
+def is_unread(words, answer):
+    """Whether an answer is that of a run that could not read its text. An explanation says why."""
+    if words[0] != "explain":
+        return answer == READ_FAILED
+    return (answer[0], answer[2]) == (1, b"") and answer[1].startswith(NOT_READ) and answer[1].count(b"\n") == 1
+
+
 def unread(program, library, words, text):
     """What is wrong if each read in turn fails, or None. No read comes after the last."""
     reads = run(program, library, words, text).counts.reads
     answers = [run(program, library, words, text, READ=number).answer for number in range(reads)]
-    return None if reads and {*answers} == {READ_FAILED} else f"{reads} reads: {answers}"[:400]
+    is_told = reads and all(is_unread(words, answer) for answer in answers)
+    return None if is_told else f"{reads} reads: {answers}"[:400]
 
 
 def unwritten(program, library, words, text):

@@ -1,7 +1,7 @@
 # Completes the words of aqs in fish. Made by tools/shell.py.
 complete -c aqs -f -n 'not __fish_seen_subcommand_from replay audit explain summary draw run manual about' -a replay -d 'answers each step of a steps text'
 complete -c aqs -f -n 'not __fish_seen_subcommand_from replay audit explain summary draw run manual about' -a audit -d 'says whether a history is legal, and adds it up'
-complete -c aqs -f -n 'not __fish_seen_subcommand_from replay audit explain summary draw run manual about' -a explain -d 'says why an entry of a history is legal or not'
+complete -c aqs -f -n 'not __fish_seen_subcommand_from replay audit explain summary draw run manual about' -a explain -d 'says why an entry of a history is legal or not, or where any text is wrong'
 complete -c aqs -f -n 'not __fish_seen_subcommand_from replay audit explain summary draw run manual about' -a summary -d 'sums a history up: a line for each thread'
 complete -c aqs -f -n 'not __fish_seen_subcommand_from replay audit explain summary draw run manual about' -a draw -d 'draws a history as an SVG document'
 complete -c aqs -f -n 'not __fish_seen_subcommand_from replay audit explain summary draw run manual about' -a run -d 'runs the threads of a script'

@@ -126,7 +126,7 @@ fn job_of(name: &str, options: &ArgMatches<'_>) -> Result<Job, Fault> {
         "audit" => Job::Answer(Task::Audit),
         "draw" if options.get_flag("page") => Job::Answer(Task::Page(choice_in(options)?)),
         "draw" => Job::Answer(Task::Draw(choice_in(options)?)),
-        "explain" => Job::Answer(Task::Explain(number_in(options, "at", Fault::BadAt)?)),
+        "explain" => Job::Explain(number_in(options, "at", Fault::BadAt)?),
         "summary" => Job::Answer(Task::Summary),
         _ if options.get_flag("history") => Job::Answer(Task::Replay(Form::History)),
         _ => Job::Answer(Task::Replay(Form::Replay)),
@@ -154,7 +154,7 @@ fn asked_by(alloc: Global, words: &ArgMatches<'_>) -> Result<Asked, Fault> {
     let job = job_of(name, options)?;
     let file = match job {
         Job::Tell(_) => None,
-        Job::Answer(_) | Job::Run => file_in(alloc, options)?,
+        Job::Answer(_) | Job::Explain(_) | Job::Run => file_in(alloc, options)?,
     };
     Ok(Asked { job, file })
 }

@@ -6,8 +6,9 @@
 //! writes its audit text. The exit status is 1 if the history isn't legal. `aqs draw [FILE]` writes a picture
 //! of a history as an SVG document, with the same status; with `--page` it writes a page of HTML that steps
 //! through the entries. `--from` and `--to` choose entries. `aqs explain [FILE]` explains the first entry that
-//! isn't legal, or the one of `--at`, with the same status. `aqs summary [FILE]` sums a history up, seat by
-//! seat, with the same status. `aqs run [FILE]` reads a script and runs its threads. It writes the history of
+//! isn't legal, or the one of `--at`, with the same status. Of any other text it says where it is wrong, of a
+//! file that can't be read why, with status 1. `aqs summary [FILE]` sums a history up, seat by seat, with the
+//! status of its verdict. `aqs run [FILE]` reads a script and runs its threads. It writes the history of
 //! each of its objects, with the audit's lines on it. `aqs manual` and `aqs about` write pages. Without any
 //! words the program replays. A fault is printed on standard error, in one
 //! line. Nothing has been written then, unless writing itself failed.
@@ -17,7 +18,7 @@ mod arguments;
 mod input;
 
 use crate::arguments::{Asked, arguments};
-use crate::input::Input;
+use crate::input::{Input, Origin};
 use std::convert::AsStr;
 use std::env;
 use std::fs::File;
@@ -28,9 +29,11 @@ use std::sync::Wait;
 use std::thread::Threads;
 use std::time::Clock;
 use streams::device::Device;
+use streams::sink::Sink;
 use streams::stream_fault::StreamFault;
 use streams::until_end::UntilEnd;
 use tasks::ending::status_of_end;
+use tasks::explain::{explain, tell_unread};
 use tasks::fault::Fault;
 use tasks::perform::perform;
 use tasks::run_script::run_script;
@@ -38,18 +41,40 @@ use tasks::task::Job;
 use tasks::tell::tell;
 
 /// Does a job, with the text from a reader.
-fn finish<R: AllocGlobal + Threads + Wait + Clock + Sync, I: Read + Drop, O: Write + Drop>(
+fn finish<R: AllocGlobal + Threads + Wait + Clock + Sync, I: Read + Drop, W: Sink>(
     rt: &R,
     job: Job,
     input: I,
-    output: O,
+    writer: &mut W,
 ) -> Result<u8, Fault> {
     let mut reader = UntilEnd::new(Device::new(input));
-    let mut writer = Device::new(output);
     match job {
-        Job::Answer(task) => perform(rt.alloc(), &mut reader, &mut writer, task),
-        Job::Run => run_script(rt, &mut reader, &mut writer),
-        Job::Tell(page) => tell(&mut writer, page),
+        Job::Answer(task) => perform(rt.alloc(), &mut reader, writer, task),
+        Job::Explain(at) => explain(rt.alloc(), &mut reader, writer, at),
+        Job::Run => run_script(rt, &mut reader, writer),
+        Job::Tell(page) => tell(writer, page),
+    }
+}
+
+/// Returns the fault of a text that can't be read. An explanation says why instead.
+fn unread<R: AllocGlobal, W: Sink>(
+    rt: &R,
+    job: Job,
+    file: Option<&str>,
+    reason: &io::Error,
+    writer: &mut W,
+) -> Result<u8, Fault> {
+    match job {
+        Job::Explain(_) => {
+            let reason = format!(in rt.alloc(); "{reason}")?;
+            tell_unread(
+                rt.alloc(),
+                writer,
+                file.unwrap_or("standard input"),
+                &reason,
+            )
+        }
+        _ => Err(Fault::Stream(StreamFault::ReadFailed)),
     }
 }
 
@@ -61,14 +86,28 @@ fn run<
     O: Write + Drop,
 >(rt: &R, words: &[S], given: I, output: O) -> Result<u8, Fault> {
     let Asked { job, file } = arguments(rt.alloc(), words)?;
-    let input = match file {
-        None => Input::Given(given),
-        Some(file) => match File::open(rt, file.as_str()) {
-            Ok(file) => Input::Named(file),
-            Err(_) => return Err(Fault::Stream(StreamFault::ReadFailed)),
+    let mut writer = Device::new(output);
+    let origin = match &file {
+        None => Origin::Given(given),
+        Some(name) => match File::open(rt, name.as_str()) {
+            Ok(file) => Origin::Named(file),
+            Err(error) => return unread(rt, job, Some(name.as_str()), &error, &mut writer),
         },
     };
-    finish(rt, job, input, output)
+    let mut input = Input::new(origin);
+    let done = finish(rt, job, &mut input, &mut writer);
+    match (done, input.failure()) {
+        (Err(Fault::Stream(StreamFault::ReadFailed)), Some(error)) => {
+            unread(
+                rt,
+                job,
+                file.as_ref().map(|name| name.as_str()),
+                error,
+                &mut writer,
+            )
+        }
+        (done, _) => done,
+    }
 }
 
 /// Returns the words of the command line.

@@ -7,7 +7,8 @@ pub const OVERVIEW: &[u8] = b"\
     \n\
     \x20 aqs replay [--history] [FILE]          answers each step of a steps text\n\
     \x20 aqs audit [FILE]                       says whether a history is legal, and adds it up\n\
-    \x20 aqs explain [--at K] [FILE]            says why an entry of a history is legal or not\n\
+    \x20 aqs explain [--at K] [FILE]            says why an entry of a history is legal or not, or where\n\
+    \x20                                        any text is wrong\n\
     \x20 aqs summary [FILE]                     sums a history up: a line for each thread\n\
     \x20 aqs draw [--from A] [--to B] [FILE]    draws a history as an SVG document\n\
     \x20 aqs draw --page [FILE]                 writes a page of HTML that steps through a history\n\
@@ -85,6 +86,10 @@ pub const EXPLAIN: &[u8] = b"\
     Then it writes what each step of the thread would have recorded there, with the rule that decides\n\
     and its heading in the specification. The status is 1 if the history is not legal.\n\
     \n\
+    Of a text that is wrong it says where: the line and the column, the word that stands there, what\n\
+    was expected, and a right line. It takes steps texts and scripts too, and says if one is right.\n\
+    Of a file that can't be read it says why. The status is 1 if the text is wrong or not read.\n\
+    \n\
     \x20 --at K    explains entry K, but none after the first that is not legal\n\
     \n\
     Example. From the text\n\
@@ -104,7 +109,23 @@ pub const EXPLAIN: &[u8] = b"\
     \x20 could tryfair x 1: missed x 1. Seat 1 could not acquire (What a seat could acquire).\n\
     \x20 could entryinterrupt x 1: refused x 1 Interrupted. Seat 1 had an interrupt \
     pending at entry (Steps).\n\
-    \x20 could give x 1: refused x 1 NotOwner. Seat 1 has no such hold (Steps).\n";
+    \x20 could give x 1: refused x 1 NotOwner. Seat 1 has no such hold (Steps).\n\
+    \n\
+    Another example. From the text\n\
+    \n\
+    \x20 aqs-steps 1 lock fair seats 2 conditions 0 cap 16\n\
+    \x20 0 acquire x 1\n\
+    \x20 1 acqire x 1\n\
+    \x20 end 2\n\
+    \n\
+    it writes\n\
+    \n\
+    \x20 wrong at line 3 column 3\n\
+    \x20 found \"acqire\"\n\
+    \x20 expected acquire, try, tryfair, entryinterrupt or give\n\
+    \x20 expected await, signal or signalall\n\
+    \x20 expected look, expire, interrupt or drain\n\
+    \x20 example 1 acquire x 1\n";
 
 /// What a summary is.
 pub const SUMMARY: &[u8] = b"\

@@ -1,2 +1,3 @@
 pub mod OpenGates
 pub mod Runs
+mod Explaining

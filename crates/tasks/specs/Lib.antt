@@ -1,3 +1,4 @@
+pub mod Explain
 pub mod Fault
 pub mod StreamFault
 pub mod Perform

@@ -3,8 +3,10 @@
 #![tactic(auto)]
 
 pub mod ending;
+pub mod explain;
 pub mod fault;
 pub mod perform;
 pub mod run_script;
 pub mod task;
 pub mod tell;
+mod text_source;

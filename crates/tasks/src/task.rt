@@ -9,6 +9,8 @@ use manual::page::Page;
 pub enum Job {
     /// A text is read and another written, by one thread.
     Answer(Task),
+    /// The entry of a number in a history text is explained, or where another text is wrong.
+    Explain(Option<u64>),
     /// The threads of a script are run.
     Run,
     /// A page of the manual is written.

@@ -1,0 +1,4 @@
+mod Columns
+mod LineLemmas
+mod Parts
+mod Told
