@@ -14,6 +14,10 @@
 //! line. Nothing has been written then, unless writing itself failed.
 #![tactic(auto)]
 
+ghost use Rattle.std.specs.Prelude.{◌≡◌, ◌↔◌, false, IsErrOf, IsTrue};
+ghost use Rattle.streams.specs.declared.stream_fault.StreamFault.TheVariants.{WriteFailed};
+ghost use Rattle.tasks.specs.declared.fault.Fault.TheVariants.{Stream};
+
 mod arguments;
 mod input;
 
@@ -46,7 +50,10 @@ fn finish<R: AllocGlobal + Threads + Wait + Clock + Sync, I: Read + Drop, W: Sin
     job: Job,
     input: I,
     writer: &mut W,
-) -> Result<u8, Fault> {
+) -> Result<u8, Fault>
+    requires { W.failed writer.old ≡ false }
+    ensures { IsErrOf result (Stream WriteFailed) ↔ IsTrue (W.failed writer.new) }
+{
     let mut reader = UntilEnd::new(Device::new(input));
     match job {
         Job::Answer(task) => perform(rt.alloc(), &mut reader, writer, task),
@@ -63,7 +70,9 @@ fn unread<R: AllocGlobal, W: Sink>(
     file: Option<&str>,
     reason: &io::Error,
     writer: &mut W,
-) -> Result<u8, Fault> {
+) -> Result<u8, Fault>
+    requires { W.failed writer.old ≡ false }
+{
     match job {
         Job::Explain(_) => {
             let reason = format!(in rt.alloc(); "{reason}")?;
