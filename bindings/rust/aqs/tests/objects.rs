@@ -257,7 +257,9 @@ fn a_mutex_counts_its_queue_and_its_condvars() {
         assert_eq!(counts(), (true, 0, 0));
         assert_eq!(scope.spawn(counts).join().unwrap(), (true, 0, 0));
         for (more, waiting) in [(1, 1), (2, 3)] {
-            (0..more).for_each(|_| drop(scope.spawn(|| drop(mutex.lock()))));
+            for _ in 0..more {
+                scope.spawn(|| drop(mutex.lock()));
+            }
             until(|| mutex.queue_length() == waiting);
             assert_eq!(scope.spawn(counts).join().unwrap(), (true, waiting, waiting));
         }
@@ -265,7 +267,9 @@ fn a_mutex_counts_its_queue_and_its_condvars() {
     });
     assert_eq!(counts(), (false, 0, 0));
     thread::scope(|scope| {
-        (0..2).for_each(|_| drop(scope.spawn(|| condvar.wait_while(&mut mutex.lock(), |go| !*go))));
+        for _ in 0..2 {
+            scope.spawn(|| condvar.wait_while_for(&mut mutex.lock(), |go| !*go, LONG));
+        }
         until(|| counts() == (false, 0, 2));
         let mut guard = mutex.lock();
         assert_eq!(counts(), (true, 0, 2));
@@ -292,7 +296,8 @@ fn a_read_write_lock_counts_its_queue() {
         writer.join().unwrap();
         let writer = lock.write();
         assert_eq!(counts(), (true, 0, 0));
-        (0..2).for_each(|_| drop(scope.spawn(|| drop(lock.read()))));
+        scope.spawn(|| drop(lock.read()));
+        scope.spawn(|| drop(lock.read()));
         scope.spawn(|| drop(lock.write()));
         until(|| counts() == (true, 3, 3));
         drop(writer);
@@ -307,8 +312,8 @@ fn semaphores_and_latches_count_their_queues() {
     assert_eq!(counts(), [0; 4]);
     thread::scope(|scope| {
         for waiting in 1..=3 {
-            scope.spawn(|| permits.acquire(1));
-            scope.spawn(|| latch.wait());
+            scope.spawn(|| assert!(permits.try_acquire_for(1, LONG)));
+            scope.spawn(|| assert!(latch.wait_for(LONG)));
             until(|| counts() == [waiting; 4]);
         }
         permits.release(3);
