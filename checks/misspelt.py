@@ -17,6 +17,7 @@ import random
 import re
 import sys
 
+import explained
 import fuzz
 import places
 import rules
@@ -162,19 +163,20 @@ def tried(path, texts, seed):
         way = chance.choice(WAYS)
         spoilt = way(chance)
         answer = program.answer(["explain"], spoilt.text)
-        is_right = answer[0] == 0 and rules_take(spoilt.text)
-        kinds[way.__name__, "right" if is_right else "wrong"] += 1
-        if not is_right and not spoilt.is_told(answer):
+        right = right_answer(spoilt.text)
+        kinds[way.__name__, "wrong" if right is None else "right"] += 1
+        if answer != right if right else not spoilt.is_told(answer):
             wrong.append((way.__name__, spoilt, answer))
     program.close()
     return kinds, wrong
 
 
-def rules_take(text):
-    """Whether a text is right in spite of its spoiling, as one whose word was replaced by itself."""
-    if text.startswith(b"aqs-history"):
-        return places.stop_of(text) is None
-    return places.is_told(text, (0, places.RIGHT_STEPS, b"")) or places.is_told(text, (0, places.RIGHT_SCRIPT, b""))
+def right_answer(text):
+    """The answer to a text that is right in spite of its spoiling, as one whose word was replaced by itself, or None."""
+    for told in places.RIGHT_STEPS, places.RIGHT_SCRIPT:
+        if not text.startswith(b"aqs-history") and places.is_told(text, (0, told, b"")):
+            return 0, told, b""
+    return explained.explain(text)
 
 
 def main(words):
