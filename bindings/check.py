@@ -65,12 +65,14 @@ CONTENT = {
     "limits": "limits, and threads that end",
     "seats": "who has which seat, objects without an opening, and conditions as objects",
     "stops": "a thread that is stopped at each instruction of a call",
+    "eintr": "what a signal handler does to a call that waits",
 }
 # Those of them that the sanitizers run too: a sanitizer takes processor time, and the others stand in for the library.
 SANITIZED = ("wakes", "interrupts", "statuses", "histories", "limits", "seats")
 # What the linker puts in the place of other functions.
 WRAPPED = {
     "thread_numbers": ["pthread_setspecific"],
+    "handlers": ["syscall"],
     "closes": ["aqs_step_now", "aqs_begin", "aqs_go_on"],
 }
 
@@ -152,6 +154,9 @@ def check_c(tests):
     for name, what in {**CONTENT, **PLAIN}.items():
         tests.run(what, [OUT / name], 120)
     tests.run("allocations that fail", [OUT / "memory"])
+    tests.run("signal handlers that release, and interrupt", [OUT / "handlers"], 120)
+    tests.run("10,000 threads that live at a time", [OUT / "crowd"], 120)
+    tests.run("processes that fork while threads make calls", [OUT / "forks"], 120)
     tests.run("names that the library has inside", [OUT / "names"])
     tests.run("a library that is closed under its threads", [OUT / "unload", OUT / "libaqs.so"])
     tests.run("guards of C++", [OUT / "guards", kept])

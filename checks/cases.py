@@ -75,7 +75,7 @@ class Case:
 
     def is_run(self, text):
         """Whether a text may be that of a run, if this is a run."""
-        is_other = self.words[:1] != ["run"] or self.status != 0
+        is_other = self.words[:1] != ["run"] or "--object" in self.words or self.status != 0
         return is_other or runs.judged(json.loads(self.input()), text) is None
 
     def is_answer(self, status, output, error):

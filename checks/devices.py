@@ -1,12 +1,12 @@
 #!/usr/bin/env python3
 """Devices that fail, and lines and texts without end: checks/devices.py PROGRAM [GIGABYTES].
 
-For each of replay, audit, draw, explain and run: input that comes one byte at a time and output that is taken so, a
-terminal at which one Ctrl-D ends a text, a text that is cut short or no text, an output that nobody reads, a
-full disk, a folder and a file that may not be read as FILE, and ever less memory for data until the system
-does not load the program. Of eight threads each one in turn is not started. With GIGABYTES, that much of good
-steps flows through `aqs replay --history` into `aqs audit` by pipes, and their greatest memory is told. The
-last line is 'N passed, M failed'.
+For each of replay, audit, draw, explain and run: input that comes one byte at a time and output that is taken
+so, a terminal at which one Ctrl-D ends a text, a text that is cut short or no text, an output that nobody
+reads, a full disk, a folder and a file that may not be read as FILE, files that `-o` makes and replaces or
+can't, and ever less memory for data until the system does not load the program. Of eight threads each one in
+turn is not started. With GIGABYTES, that much of good steps flows through `aqs replay --history` into `aqs
+audit` by pipes, and their greatest memory is told. The last line is 'N passed, M failed'.
 """
 
 import collections
@@ -18,6 +18,7 @@ import pathlib
 import pty
 import resource
 import shutil
+import signal
 import subprocess
 import sys
 import tempfile
@@ -234,6 +235,60 @@ def as_somebody(program, scratch):
     return own, {"user": 65534}
 
 
+def stops_after(size):
+    """What keeps a program from writing more than so many bytes to a file."""
+    signal.signal(signal.SIGXFSZ, signal.SIG_IGN)
+    resource.setrlimit(resource.RLIMIT_FSIZE, (size, size))
+
+
+def outputs(program, words, text, wanted, folder):
+    """Files that -o names: what is written to them, and what is left after a fault. No other file is left."""
+    folder.mkdir()
+    out, fine, unwritten = folder / "out", (0, b"", b""), (4, b"", b"aqs: write failed\n")
+    to = lambda file, text=text, **how: run(program, [*words, "-o", str(file)], text, **how)
+    holds = lambda told: [file.name for file in folder.iterdir()] == ["out"] and out.read_bytes() == told
+    yield "a new file", to(out) == fine and holds(wanted)
+    out.write_bytes(b"0" * 100_000)
+    out.chmod(0o640)
+    yield "a longer file", to(out) == fine and holds(wanted)
+    yield "a file keeps its permissions", out.stat().st_mode & 0o777 == 0o640
+    out.write_bytes(b"before")
+    half = to(out, preexec_fn=lambda: stops_after(len(wanted) // 2))
+    yield "a file is as it was when writing fails half way", half == unwritten and holds(b"before")
+    if words != ["explain"]:
+        yield "a file is as it was after a fault", to(out, b"")[0] == 3 and holds(b"before")
+    (folder / "out.0.part").write_bytes(b"mine")
+    yield "a file beside it stays", to(out) == fine and (folder / "out.0.part").read_bytes() == b"mine"
+    (folder / "out.0.part").unlink()
+    out.write_bytes(text)
+    yield "the file that is read", run(program, [*words, "-o", str(out), str(out)]) == fine and holds(wanted)
+    unmade = {"a folder": folder, "below a file": out / "below", "in no folder": folder / "none" / "out",
+              "without a name": "", "with too long a name": folder / ("n" * 300), "a full disk": "/dev/full"}
+    for told, file in unmade.items():
+        yield told, to(file) == unwritten and holds(wanted)
+    (folder / "link").symlink_to(out)
+    yield "a link is written in its place", to(folder / "link") == fine and (folder / "link").is_symlink()
+    (folder / "link").unlink()
+    yield "the file of a link", holds(wanted)
+    yield "the standard output by its name", to("/dev/stdout") == (0, wanted, b"")
+    yield "no file", to("/dev/null") == fine
+
+
+def guarded_outputs(own, somebody, folder):
+    """A file that may not be written is not replaced, nor is one in a folder that may not be written."""
+    folder.mkdir()
+    kept = folder / "kept"
+    kept.write_bytes(b"before")
+    kept.chmod(0o444)
+    answers = []
+    for mode, file in ((0o777, kept), (0o555, folder / "new")):
+        folder.chmod(mode)
+        answers.append(run(own, ["replay", "-o", str(file)], STEPS, **somebody))
+    folder.chmod(0o755)
+    left = [file.name for file in folder.iterdir()] == ["kept"] and kept.read_bytes() == b"before"
+    yield "an output that may not be written", left and answers == [(4, b"", b"aqs: write failed\n")] * 2
+
+
 def results(program, scratch):
     hidden = scratch / "hidden"
     hidden.write_bytes(STEPS)
@@ -259,7 +314,10 @@ def results(program, scratch):
         answer = run(own, [*words, str(hidden)], **somebody)
         yield f"{name} of a file that may not be read", is_unread(words, hidden, answer)
         yield f"{name}, no input", run(program, words)[0] == (1 if words == ["explain"] else 3)
+        for told, good in outputs(program, words, text, wanted, scratch / name):
+            yield f"{name} -o, {told}", good
         yield f"{name}, little memory", little_memory(program, words, text, wanted)
+    yield from guarded_outputs(own, somebody, scratch / "guarded")
     yield "run, threads that are not started", threads_not_started(program)
 
 

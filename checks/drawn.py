@@ -1,5 +1,5 @@
-"""What `aqs draw` must show of a history: the bars, labels, marks and tooltips of docs/SPECIFICATION.md once more,
-in Python.
+"""What `aqs draw` must show of a history: the rows, bars, labels, marks and tooltips of docs/SPECIFICATION.md, once
+more in Python.
 
 What that page leaves open, the shapes of the marks and the places within a row, is as in the crate `picture`.
 """
@@ -8,6 +8,7 @@ import re
 import xml.etree.ElementTree as xml
 
 import rules
+import summed
 
 SVG = "{http://www.w3.org/2000/svg}"
 MOST = 2000
@@ -20,6 +21,7 @@ SHAPES = {
     "granted": "m-4 0l3 3l5 -6",
     "timeout": "m-4 0a4 4 0 1 0 8 0a4 4 0 1 0 -8 0m4 -3v3h2",
     "interrupt": "m1 -4l-3 4h4l-3 4",
+    "barged": "m-4 -4l4 4l-4 4m4 -8l4 4l-4 4",
     "not legal": "m0 -5v5m0 2v2",
 }
 SAME_SIGN = {"signalall": "signal", "back": "granted"}
@@ -34,6 +36,20 @@ def sign_of(entry):
     word = entry.word.split()[0]
     sign = entry.end if word in ("left", "lapse") else SAME_SIGN.get(word, word)
     return sign if sign in SHAPES else None
+
+
+def barges(state, entry):
+    """Whether an entry acquires at once while another seat waits in line for a first acquire. An acquire of a lock by a
+    seat that holds it already does not."""
+    others = any(arrival.seat != entry.seat and not arrival.back for arrival in state.line)
+    return others and summed.is_new(state.header, entry, summed.held(state))
+
+
+def signs(state, entries):
+    """What the mark of each entry shows, or None, from the state before them."""
+    for entry in entries:
+        yield "barged" if barges(state, entry) else sign_of(entry)
+        state.add(entry)
 
 
 def levels(state):
@@ -85,43 +101,62 @@ def told(number, entry):
     return f"entry {number}: seat {entry.seat} {rules.spelt(entry)}"
 
 
+class Place:
+    """Where the entries and the rows of a picture are. A seat that has no bar and made no entry has no row."""
+
+    def __init__(self, kind, entries, stretches, culprit):
+        self.step = 20 if len(entries) <= 200 else 8
+        self.top = TOP if kind in ("lock", "rw") else TOP_WITH_CURVE
+        seats = {seat for (seat, _, _), _, _, _ in stretches} | {entry.seat for entry in [*entries, *culprit]}
+        self.rows = {seat: row for row, seat in enumerate(sorted(seats))}
+
+    def x(self, number):
+        return 72 + number * self.step
+
+    def y(self, seat):
+        return self.top + self.rows[seat] * 40
+
+    def mark(self, number, entry, sign):
+        return f"M{self.x(number) + self.step // 2} {self.y(entry.seat) + 34}{SHAPES[sign]}"
+
+    def names(self, seats):
+        """The names of the rows, and how many seats have none."""
+        names = {(self.y(seat) + 20, f"seat {seat}") for seat in self.rows}
+        return names, seats - len(names)
+
+
 def wanted(text):
-    """The bars, labels and marks by their places, with their tooltips, the field of the entry that is not legal, and
-    what names it."""
+    """The rows, bars, labels and marks by their places, with their tooltips, the field of the entry that is not legal,
+    and what names it."""
     header, lines = rules.read_history(text)
     shown, wrong = legal_part(lines)
-    folded = lines.folded()
-    step = 20 if len(shown) <= 200 else 8
-    top = TOP if header.kind in ("lock", "rw") else TOP_WITH_CURVE
-    rects, labels, marks = set(), set(), set()
-    for (seat, kind, condition), count, first, last in bars(lines.start(), shown):
-        x, width = 72 + first * step, (last + 1 - first) * step
-        y = top + seat * 40 + (17 if kind == "s" else 3)
-        looks = "v" if kind == "w" and is_to_share(header.kind, seat, first, last, lines.entries[:MOST]) else kind
+    kept, folded = lines.entries[:MOST], lines.folded()
+    number = None if wrong is None else wrong - folded
+    culprit = [] if number is None else kept[number:number + 1]
+    stretches = bars(lines.start(), shown)
+    place = Place(header.kind, shown, stretches, culprit)
+    rects, labels, marks, fields = set(), set(), set(), set()
+    for (seat, kind, condition), count, first, last in stretches:
+        x, width = place.x(first), (last + 1 - first) * place.step
+        y = place.y(seat) + (17 if kind == "s" else 3)
+        looks = "v" if kind == "w" and is_to_share(header.kind, seat, first, last, kept) else kind
         digits = str(count if condition is None else condition)
         span = f"entries {folded + first} to {folded + last}; {told(folded + first, shown[first])}"
         rects.add((looks, x, y, width, f"seat {seat}{STATES[kind].format(digits)}, {span}"))
         if kind != "w" and width >= 6 * len(digits) + 4:
             labels.add((x + 4, y + 10, digits if condition is None else f"c{digits}"))
-    for number, entry in enumerate(shown):
-        sign = sign_of(entry)
+    for at, (entry, sign) in enumerate(zip(shown, signs(lines.start(), shown))):
         if sign is not None:
-            marks.add((place_of(number, step, top, entry) + SHAPES[sign], told(folded + number, entry)))
-    fields = set()
-    if wrong is None:
-        return rects, labels, marks, fields, None
-    number = wrong - folded
-    culprit = lines.entries[:MOST][number:number + 1]
+            marks.add((place.mark(at, entry, sign), told(folded + at, entry)))
+    names = place.names(header.seats)
+    if number is None:
+        return names, rects, labels, marks, fields, None
     said = told(wrong, culprit[0]) if culprit else f"entry {wrong}"
     if number == len(shown):
-        fields.add((72 + number * step, top, step, header.seats * 40, f"not legal: {said}"))
-        marks.update((place_of(number, step, top, entry) + SHAPES["not legal"], None) for entry in culprit)
-    return rects, labels, marks, fields, f"not legal at {said}"
-
-
-def place_of(number, step, top, entry):
-    """Where the mark of an entry is."""
-    return f"M{72 + number * step + step // 2} {top + entry.seat * 40 + 34}"
+        height = len(place.rows) * 40
+        fields.add((place.x(number), place.top, place.step, height, f"not legal: {said}"))
+        marks.update((place.mark(number, entry, "not legal"), None) for entry in culprit)
+    return names, rects, labels, marks, fields, f"not legal at {said}"
 
 
 def shown(picture):
@@ -132,12 +167,21 @@ def shown(picture):
              for each in root.iter(f"{SVG}rect") if each.get("class") in ("x", "s", "w", "v", "z")}
     labels = {(int(each.get("x")), int(each.get("y")), each.text)
               for each in root.iter(f"{SVG}text") if each.get("class") in ("n", "i")}
+    names = {(int(each.get("y")), each.text)
+             for each in root.iter(f"{SVG}text") if each.get("x") == "8" and (each.text or "").startswith("seat ")}
     marks = {(each.get("d"), title_of(each)) for each in root.iter(f"{SVG}path") if each.get("class") == "m"}
     marks = {mark for mark in marks if int(re.match("M[0-9]+ ([0-9]+)m", mark[0])[1]) >= TOP}
     fields = {(*(int(each.get(name)) for name in ("x", "y", "width", "height")), title_of(each))
               for each in root.iter(f"{SVG}rect") if each.get("class") == "e"}
     named = next((each.text for each in root.iter(f"{SVG}tspan") if each.get("class") == "f"), None)
-    return {rect for rect in rects if rect[2] >= TOP}, labels, marks, fields, named
+    return (names, left_out(root)), {rect for rect in rects if rect[2] >= TOP}, labels, marks, fields, named
+
+
+def left_out(root):
+    """How many seats have no row, as the line below the title says it."""
+    line = next(each.text for each in root.iter(f"{SVG}text") if each.get("y") == "36")
+    found = re.search("; seats without a row: ([0-9]+)$", line)
+    return int(found[1]) if found else 0
 
 
 def title_of(element):

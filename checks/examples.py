@@ -1,18 +1,21 @@
 #!/usr/bin/env python3
 """Runs every example and every case through the program: checks/examples.py PROGRAM [FOLDER].
 
-Each pair NAME.steps and NAME.answers is replayed, and each pair NAME.history and NAME.answers audited, from
-the file. Cut after any byte but the last, each of them is cut short. The history text of each steps text is
-legal, and a trim after each step changes no answer. Each NAME.svg is the picture of NAME.history, or of the
-history that a replay of NAME.steps gives. The explanations and summaries of docs/AQS.md, and the examples of `aqs
-manual`, are what the program writes. Each NAME.script is run: the lines outside its histories are as NAME.answers has them,
-where * stands for a number that depends on the schedule, and `aqs audit` says the same of each history. Texts of
-an enemy follow, the cases of cases/ (`cases.py`), long random lists of steps (`crowds.py`), and the times of
-common lines (`common_lines.py`).
+Each pair NAME.steps and NAME.answers is replayed, and each pair NAME.history and NAME.answers audited, from the
+file. Cut after any byte but the last, each of them is cut short. The history text of each steps text is legal,
+and a trim after each step changes no answer. Each NAME.svg is the picture of NAME.history, or of the history
+that a replay of NAME.steps gives, also in the folders of bindings/ that have pictures. The explanations and
+summaries of docs/AQS.md, and the examples of `aqs manual`, are what the program writes. The objects of `--json`
+say what the lines say (`objects.py`). Each NAME.script is run: the lines outside its histories are as
+NAME.answers has them, where * stands for a number that depends on the schedule, and `aqs audit` says the same of
+each history. Each NAME.late is a script that never ends, and is run with --timeout 2000. Texts of an enemy follow,
+the cases of cases/ (`cases.py`), long random lists of steps (`crowds.py`), and the times of common lines
+(`common_lines.py`).
 Compared are the exit status, standard output and standard error. The last line is 'N passed, M failed', and
 the status is 0 only if nothing failed and something passed.
 """
 
+import json
 import pathlib
 import re
 import subprocess
@@ -22,11 +25,14 @@ import tempfile
 import cases
 import common_lines
 import crowds
+import objects
 from program import Program
 
 SECONDS = 60
 
-INPUTS = (".steps", ".history", ".script")
+INPUTS = (".steps", ".history", ".script", ".late")
+# Other folders with pictures, each beside its history.
+PICTURED = ("bindings/c/examples", "bindings/pthread/pictures")
 
 
 def run(program, words, given=b""):
@@ -107,6 +113,13 @@ def runs(program, folder, scratch):
             yield f"run {file.name}, audit of object {number}", is_same
 
 
+def late_runs(program, folder):
+    """A script that never ends is told as its threads stand."""
+    for file in sorted(folder.glob("*.late")):
+        told = run(program, ["run", "--timeout", "2000", file])
+        yield f"run --timeout 2000 {file.name}", told == (1, file.with_suffix(".answers").read_bytes(), b"")
+
+
 def round_trips(program, folder, scratch):
     """The history text of each steps text is legal."""
     for file in sorted(folder.glob("*.steps")):
@@ -150,10 +163,13 @@ def trimmed(program, folder):
 
 
 def shown(program, folder):
-    """The explanations and summaries that docs/AQS.md shows are what the program writes of those files."""
+    """The explanations, summaries and objects that docs/AQS.md shows are what the program writes of those files."""
     page = (folder.parent / "docs" / "AQS.md").read_text()
-    for words, told in re.findall(r"`aqs ((?:explain|summary) [^`]+)`[^`]*```\n(.*?)```", page, re.S):
+    for words, told in re.findall(r"`aqs ((?:explain|summary|audit --json) [^`]+)`[^`]*```\n(.*?)```", page, re.S):
         done = subprocess.run([program, *words.split()], cwd=folder.parent, capture_output=True, timeout=SECONDS)
+        if "--json" in words:
+            yield words, json.loads(done.stdout) == json.loads(told) and done.stderr == b""
+            continue
         status = 1 if told.startswith("not legal") else 0
         yield words, (done.returncode, done.stdout, done.stderr) == (status, told.encode(), b"")
 
@@ -177,6 +193,61 @@ def named_files(program, folder):
     yield "replay of a file beside an input", run(program, ["replay", steps], wrong.read_bytes()) == answers
     answers = (1, wrong.with_suffix(".answers").read_bytes(), b"")
     yield "audit of a file beside an input", run(program, ["audit", wrong], steps.read_bytes()) == answers
+
+
+ONE_THREAD = b"""{"objects": [["a", "lock fair seats 1 conditions 0 cap 16"], ["-b", "latch seats 1 count 2 cap 16"]],
+ "threads": [{"repeat": 1, "calls": ["a acquire x 1", "-b give s 1", "-b trim"]}]}"""
+BAD_DIR = (2, b"", b"aqs: bad --dir\n")
+WRITE_FAILED = (4, b"", b"aqs: write failed\n")
+
+
+def held(folder):
+    """The files of a folder, and what they have."""
+    return {file.name: file.read_bytes() for file in folder.iterdir() if file.is_file()}
+
+
+def left_histories(program, scratch):
+    """With --dir a run leaves the history of each object in a folder, and answers as without."""
+    folder, whole, kept = scratch / "histories", run(program, ["run"], ONE_THREAD), scratch / "kept"
+    folder.mkdir()
+    yield "a run with --dir answers as without", run(program, ["run", "--dir", folder], ONE_THREAD) == whole
+    yield "a run leaves a file for each object", sorted(held(folder)) == ["-b.history", "a.history"]
+    for name, history in held(folder).items():
+        told = run(program, ["run", f"--object={name.removesuffix('.history')}"], ONE_THREAD)
+        yield f"{name} is the history of the object", told == (0, history, b"") and history in whole[1]
+        yield f"{name} is legal", run(program, ["audit", folder / name])[0] == 0
+        told = run(program, ["run", f"--object={name.removesuffix('.history')}", "-o", kept], ONE_THREAD)
+        yield f"the history of {name} goes to a file", told == (0, b"", b"") and kept.read_bytes() == history
+    before = held(folder)
+    yield "no file is overwritten", run(program, ["run", "--dir", folder], ONE_THREAD) == BAD_DIR
+    yield "all files are as before", held(folder) == before
+    for file in folder.iterdir():
+        file.unlink()
+    told = run(program, ["run", "--object=a", "--dir", folder, "-o", folder / "a"], ONE_THREAD)
+    yield "a file, a folder and an object", told == (0, b"", b"")
+    yield "the file has the object's history", held(folder) == {**before, "a": before["a.history"]}
+
+
+def unleft_histories(program, scratch):
+    """After a fault a run with --dir leaves nothing, and what was there stays."""
+    folder, elsewhere = scratch / "unleft", scratch / "elsewhere"
+    folder.mkdir()
+    words = ["run", "--dir", folder]
+    yield "a file in no folder", run(program, [*words, "-o", scratch / "none" / "out"], ONE_THREAD) == WRITE_FAILED
+    yield "a full disk", run(program, [*words, "-o", "/dev/full"], ONE_THREAD) == WRITE_FAILED
+    with open("/dev/full", "wb") as full:
+        done = subprocess.run([program, *words], input=ONE_THREAD, stdout=full, stderr=subprocess.PIPE, timeout=SECONDS)
+    yield "a full standard output", (done.returncode, done.stderr) == (4, b"aqs: write failed\n")
+    yield "a wrong name", run(program, [*words, "--object=c"], ONE_THREAD) == (2, b"", b"aqs: bad --object\n")
+    yield "a wrong script", run(program, words, b"[]") == (3, b"", b"aqs: bad top\n")
+    yield "a folder as a script", run(program, [*words, folder]) == (4, b"", b"aqs: read failed\n")
+    yield "nothing is left", list(folder.iterdir()) == []
+    (folder / "a.history").symlink_to(elsewhere)
+    yield "no link is followed", run(program, words, ONE_THREAD) == BAD_DIR and not elsewhere.exists()
+    (folder / "a.history").unlink()
+    (folder / "-b.history").mkdir()
+    yield "a folder in the place of a file", run(program, words, ONE_THREAD) == BAD_DIR
+    yield "nothing is left beside it", [file.name for file in folder.iterdir()] == ["-b.history"]
 
 
 def situations(folder):
@@ -212,13 +283,21 @@ def results(program, folder, scratch):
     yield from round_trips(program, folder, scratch)
     yield from trimmed(program, folder)
     yield from runs(program, folder, scratch)
+    yield from late_runs(program, folder)
     yield from pictures(program, folder)
+    for place in PICTURED:
+        yield from pictures(program, folder.parent / place)
     yield from named_files(program, folder)
     yield from manuals(program)
+    if folder.name == "examples":
+        yield from left_histories(program, scratch)
+        yield from unleft_histories(program, scratch)
     yield from hostile(program)
     if folder.name == "examples":
         yield from situations(folder)
         yield from shown(program, folder)
+        several = [case for file in cases.all_files() for case in cases.read(file.read_text(), file.name)]
+        yield from objects.results(program, folder, several, scratch)
     for file in unpaired(folder):
         yield f"{file.name} has its pair", False
     for wrong in [*cases.results(program, cases.all_files()), *crowds.results(program)]:

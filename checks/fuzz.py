@@ -20,6 +20,7 @@ import sys
 
 import drawn
 import explained
+import objects
 import page
 import places
 import rules
@@ -229,9 +230,20 @@ def script_tries(chance):
 
 def explained_tries(chance, text):
     """An explanation of a history, and one of an entry that chance chooses."""
-    yield ["explain"], text, explained.explain(text)
+    told = explained.explain(text)
+    yield ["explain"], text, told
+    if told is not None:
+        yield ["explain", "--json"], text, objects.explain(told)
     at = chance.choice((0, 1, chance.randrange(90), 2 ** 64 - 1))
     yield ["explain", "--at", str(at)], text, explained.explain(text, at)
+
+
+def object_tries(text):
+    """A summary, and both answers that can be objects."""
+    summary = summed.summarise(text)
+    yield ["summary"], text, summary
+    yield ["summary", "--json"], text, objects.summary(summary)
+    yield ["audit", "--json"], text, objects.audit(rules.audit(text))
 
 
 def tries(chance):
@@ -256,7 +268,7 @@ def tries(chance):
         for name in ("audit", "draw"):
             yield [name], text, rules.audit(text)
         yield from explained_tries(chance, text)
-        yield ["summary"], text, summed.summarise(text)
+        yield from object_tries(text)
         return
     audited = rules.audit(history[1])
     assert audited[0] == 0, steps
@@ -267,7 +279,7 @@ def tries(chance):
     if chance.random() < 0.25:
         yield ["draw", "--page"], history[1], audited
     yield from explained_tries(chance, history[1])
-    yield ["summary"], history[1], summed.summarise(history[1])
+    yield from object_tries(history[1])
 
 
 def agrees(words, text, wanted, answer):

@@ -7,7 +7,8 @@ storms of threads and failing devices (`by_program.py`). After that, four steps 
 hour is followed by the letter (`first_hour.py`), also in a repository that has only taken the library
 (`own_repository.py`). The library for C is built, and its callers in other languages are tested (`bindings.py`). The
 wrong bodies of wrong-bodies/ are held to their ledger, of which a sample is tried again (`wrong_bodies.py`). Then the
-archive that users without the kit get is made and used (`archive.py`). Last, a sample of the wrong bodies of the C side
+archive that users without the kit get is made and used (`archive.py`), and a sample of real programs is fetched and run
+over the library where the network has them (`clients.py`). Last, a sample of the wrong bodies of the C side
 is tried, while nothing else runs, since its tests measure times (`wrong_c.py`). The commit's hash decides which, and
 which texts. --write writes the ledger's lines anew.
 
@@ -148,8 +149,9 @@ def last_steps(tree, is_written):
 
 
 def over_what_was_built(tree):
-    """Returns the step that packs what the steps before have built, and uses it."""
+    """Returns the steps that use what the steps before have built: as an archive, and under real programs."""
     yield [sys.executable, "-B", f"{tree}/checks/archive.py", f"{tree}/crates/aqs/out/aqs"], COUNTED
+    yield [sys.executable, "-B", f"{tree}/bindings/clients/clients.py", "--sample"], COUNTED
 
 
 def alone(tree):

@@ -33,6 +33,8 @@ ANSWER = 16  # bytes of an answer that no entry says, a trim among them
 LISTED = 1.4  # answers, and entries that were folded, stand in lists, which have more room than they use
 ITSELF = 3 << 20  # bytes that the program takes with a short text
 STACKS = 16 << 20  # and with a thread
+THREAD = (8 << 20) + 60_000  # bytes of each further thread of a script, most of them for its stack
+EXPLAINED = 52  # bytes of a line of some 17 bytes of which an explanation keeps text and entry
 START = 0.01  # seconds that a start may take, whatever it does
 CLOSES = 5_000  # locks that are opened and closed
 WIDER = 6  # as long with 256 seats as with 64 at most
@@ -86,6 +88,12 @@ def script(calls, count):
     return json.dumps({"objects": objects, "threads": [{"repeat": count, "calls": calls}]}).encode()
 
 
+def brief(threads):
+    """A script in which each thread makes one call."""
+    latch = [["a", f"latch seats {threads} count 1 cap 4096"]]
+    return json.dumps({"objects": latch, "threads": [{"repeat": 1, "calls": ["a give s 1"]}] * threads}).encode()
+
+
 def napping(asks, *objects):
     """A script in which threads make calls that wait. Before that, one thread takes the lock `a`, and lets the others
     begin by the latch `go`. Then it sleeps on a condition of the lock `b`, and gives `a` back."""
@@ -125,17 +133,24 @@ def growing(program):
     """The cases of a text that grows."""
     call = ["a acquire x 1", "a give x 1"]
     folded = LISTED * (2 * ENTRY + ANSWER)
+    legal = lambda count: history(program, pairs(count))
     on_base = lambda count: history(program, steps(LOCK.format(2), PAIR + "trim\n", PAIR, count, form=2))
     yield Case("replay", ["replay"], 200_000, pairs, 2 * ENTRY)
     yield Case("replay, its history", ["replay", "--history"], 200_000, pairs, 2 * ENTRY)
     yield Case("replay of looks in vain", ["replay"], 200_000, waits, LISTED * ANSWER)
     yield Case("replay with trims", ["replay"], 100_000, trimmed, folded)
     yield Case("replay with trims, its history", ["replay", "--history"], 100_000, trimmed, folded)
-    yield Case("audit", ["audit"], 100_000, lambda count: history(program, pairs(count)), 0)
+    yield Case("audit", ["audit"], 100_000, legal, 0)
     yield Case("audit on a base", ["audit"], 100_000, on_base, 0)
-    yield Case("draw", ["draw"], 20_000, lambda count: history(program, pairs(count)), 4096)
-    yield Case("draw all", ["draw", "--from", "0"], 20_000, lambda count: history(program, pairs(count)), 4096)
+    yield Case("draw", ["draw"], 20_000, legal, 4096)
+    yield Case("draw all", ["draw", "--from", "0"], 20_000, legal, 4096)
+    yield Case("draw the last entries on a page", ["draw", "--page"], 20_000, legal, 0)
+    yield Case("explain", ["explain"], 100_000, legal, 2 * EXPLAINED)
+    yield Case("explain an entry in the middle", ["explain", "--at", "{}"], 100_000, legal, 2 * EXPLAINED)
+    yield Case("summary", ["summary"], 100_000, legal, 0)
+    yield Case("summary on a base", ["summary"], 100_000, on_base, 0)
     yield Case("run", ["run"], 100_000, lambda count: script(call, count), 2 * ENTRY, STACKS)
+    yield Case("run by many threads", ["run"], 64, brief, THREAD, STACKS)
     yield Case("run with trims", ["run"], 100_000, lambda count: script([*call, "a trim"], count), 0, STACKS)
     locks = beside(program, LOCKS)
     if os.path.exists(locks):
@@ -179,10 +194,15 @@ def crowded(program):
     for name, text in [*replayed, *trims]:
         yield f"replay, {name}", ["replay"], text
     told = lambda text: lambda seats: history(program, text(seats))
+    handed = lambda last: f"0 acquire x 1\n{last} acquire x 1\n0 give x 1\n{last} look\n{last} give x 1\n"
+    two_came = lambda seats: steps(lock(seats), "", handed(seats - 1), count // 3)
     audited = [("idle", idle), ("in line", line), ("leaving", leave), ("asleep", asleep)]
     for name, text in [*audited, ("the last owns", last_owns), ("permits", permits), ("conditions", conditions)]:
         yield f"audit, {name}", ["audit"], told(text)
         yield f"draw, {name}", ["draw", "--from", "0"], told(text)
+        yield f"summary, {name}", ["summary"], told(text)
+        yield f"explain, {name}", ["explain"], told(text)
+    yield "draw, two came", ["draw", "--from", "0"], told(two_came)
     yield "draw, signalled", ["draw", "--from", "0"], told(lambda seats: signals(lock(seats), seats, count))
 
 

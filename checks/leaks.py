@@ -68,8 +68,8 @@ def counted(program, library, words, text, output=subprocess.PIPE, limit=None):
     return Counts(*map(int, line), ran.stdout or b"") if len(line) == 5 else None
 
 
-def fault(counts, size):
-    """None, or what is wrong with the counts of a run on a text of some size."""
+def fault(counts, size, more=MORE):
+    """None, or what is wrong with the counts of a run on a text of some size, which may take so many writes more."""
     if counts is None:
         return "it ended before its end"
     if counts.taken != counts.given:
@@ -77,14 +77,18 @@ def fault(counts, size):
     if counts.reads > size // PIECE + MORE:
         return f"{counts.reads} reads for {size} bytes"
     objects = len(re.findall(rb"^object ", counts.told, re.M))
-    if counts.writes > len(counts.told) // PIECE + MORE + PARTS * objects:
+    if counts.writes > len(counts.told) // PIECE + more + PARTS * objects:
         return f"{counts.writes} writes for {len(counts.told)} bytes"
     return None
 
 
 def of_case(program, library, case):
-    text = case.input()
-    return f"{case.file}, line {case.line}: {case.name}", fault(counted(program, library, case.words, text), len(text))
+    """A run that is late leaves its threads, and so what they have."""
+    text, more = case.input(), PARTS if "--object" in case.words else MORE
+    counts = counted(program, library, case.words, text)
+    if counts and "--timeout" in case.words and case.status == 1:
+        counts = dataclasses.replace(counts, given=counts.taken)
+    return f"{case.file}, line {case.line}: {case.name}", fault(counts, len(text), more)
 
 
 def of_devices(program, library):

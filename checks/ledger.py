@@ -13,6 +13,9 @@ in how they search. No sound search closes a false goal, so a line outlives such
 only not found could be found by another kit. So KITS names the kits with which every wrong body was tried, and the
 gate says if it runs with another.
 
+The programs that judged before 29 November 2026 read one line of each error. Their lines stand until their wrong bodies
+are tried again, and the gate says how many there are.
+
 The lines stand in crates/NAME/wrong-bodies/refused.txt, a sum and a name each.
 """
 import hashlib
@@ -24,6 +27,7 @@ from kit import rt
 
 HERE = os.path.dirname(os.path.realpath(__file__))
 JUDGES = ("bodies.py", "kit.py", "ledger.py", "said.py", "trial.py")
+EARLIER = bytes.fromhex("0f5664c9e8583ace727f9f819fad5f329a226cb7bd2ec6bd2f8e11fb54638b95")  # the judges' sum before
 KITS = f"{HERE}/kits.txt"
 SOURCES = ("src", "specs", "proofs")
 PROVED_BY = ("lang/antt/specs", "lang/antt/proofs")
@@ -156,6 +160,11 @@ def sums(crate, seen):
         edit: sum_of(above, own(crate, edit), os.path.basename(edit).encode(), read(edit)).hex()[:DIGITS]
         for edit in edits_of(crate)[0]
     }
+
+
+def earlier_sums(crate, seen):
+    """Returns the sum of each of a crate's wrong bodies as the judges before made it. `seen` is what `sums` kept."""
+    return sums(crate, {**seen, "judges": EARLIER})
 
 
 def path_of(crate):

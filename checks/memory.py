@@ -38,6 +38,7 @@ MORE = 4  # requests of a longer run text
 NO_MEMORY = (5, b"", b"aqs: out of memory\n")
 READ_FAILED = (4, b"", b"aqs: read failed\n")
 NOT_READ = b"cannot read standard input: "
+NO_OBJECT = b'{"verdict":"not read","file":"standard input","reason":"'
 WRITE_FAILED = (4, b"aqs: write failed\n")
 # The calls of one thread at an object of each kind. Two of them are not recorded. Each object but the last is trimmed.
 SCRIPT = {
@@ -47,6 +48,7 @@ SCRIPT = {
         "a acquire x 1", "a await-timed 0 0", "a trim", "a give x 1", "b give s 5", "b acquire s 1", "b trim", "b drain",
         "a give x 2", "c give s 1", "c trim", "c trim", "d trim", "d drain", "d acquire s 1"]}],
 }
+NO_CALLS = {**SCRIPT, "threads": [{"repeat": 1, "calls": []}]}
 PAIRS = b"0 acquire x 1\n1 look\n0 give x 1\n"
 LONG = 5000  # pairs, whose answers take several writes
 MANY = 100_000  # pairs, whose entries take many pages
@@ -95,16 +97,24 @@ def commands():
     for text in histories:
         for words in ("audit",), ("draw",), ("draw", "--page"), ("explain",), ("summary",):
             yield [*words], text
+        for name in ("audit", "explain", "summary"):
+            yield [name, "--json"], text
+        yield ["audit", "-o", "/dev/null"], text
+    last = ["explain", "--at", str(2 * PAGE - 1)]  # its state is that after two pages of entries
+    yield last, rules.replay(pairs(PAGE), True)[1]
     for text in wrong_texts():
         yield ["explain"], text
+        yield ["explain", "--json"], text
     yield ["run"], json.dumps(SCRIPT).encode()
+    yield ["run", "--object", "d"], json.dumps(NO_CALLS).encode()
+    yield ["run", "--timeout", "60000"], json.dumps(NO_CALLS).encode()
 
 
 def lacks_memory(words, answer):
     """Whether an answer is that of a run that was refused memory. A script's calls may have been."""
     if words == ["run"] and answer[0] == 0:
         return not answer[2] and runs.judged(SCRIPT, answer[1], lacks_memory=True) is None
-    return answer == NO_MEMORY or words == ["run"] and answer == (4, b"", b"aqs: thread 0 not started\n")
+    return answer == NO_MEMORY or words[0] == "run" and answer == (4, b"", b"aqs: thread 0 not started\n")
 
 
 def refused(program, library, words, text):
@@ -112,7 +122,7 @@ def refused(program, library, words, text):
     whole, in_vain = run(program, library, words, text), 0
     for number in range(whole.counts.requests):
         answer, counts = run(program, library, words, text, REFUSED=number)
-        kept = KEPT if words == ["run"] and answer == NO_MEMORY else 0
+        kept = KEPT if words[0] == "run" and answer == NO_MEMORY else 0
         if not 0 <= counts.taken - counts.given <= kept:
             return f"request {number}: it took {counts.taken} blocks and gave {counts.given} back"
         in_vain += answer == whole.answer
@@ -126,7 +136,8 @@ def is_unread(words, answer):
     """Whether an answer is that of a run that could not read its text. An explanation says why."""
     if words[0] != "explain":
         return answer == READ_FAILED
-    return (answer[0], answer[2]) == (1, b"") and answer[1].startswith(NOT_READ) and answer[1].count(b"\n") == 1
+    told = answer[1].startswith(NO_OBJECT if "--json" in words else NOT_READ)
+    return told and (answer[0], answer[2]) == (1, b"") and answer[1].count(b"\n") == 1
 
 
 def unread(program, library, words, text):

@@ -3,8 +3,9 @@
 
 Random steps texts, histories, some of them with a base, and scripts are spoilt in one way each: a word that no line
 has, a number that is too great, a seat that the object does not have, a line that is missing, carriage returns, a tab,
-bytes that are no UTF-8, a cut, JSON that is none. `places.py` judges what `aqs explain` says of each. Where the
-spoiling tells by itself which word is wrong, the line and the column that are told must be those of that word.
+bytes that are no UTF-8, a cut, JSON that is none, a name twice. `places.py` judges what `aqs explain` says of each.
+Where the spoiling tells by itself which word is wrong, the line and the column that are told must be those of that
+word.
 
 The last line is 'N passed, M failed'.
 """
@@ -131,7 +132,16 @@ def cut(chance):
 
 
 def script(chance):
-    return json.dumps(fuzz.script_of(chance), indent=chance.choice((None, 1))).encode()
+    """A script of one or several threads. It is told of, and not run. Some of its objects have the names that an
+    explanation proposes."""
+    made = fuzz.script_of(chance)
+    [thread] = made["threads"]
+    others = chance.choice((0, 0, 1, 3))
+    for pair in made["objects"]:
+        pair[1] = pair[1].replace("seats 1 ", f"seats {1 + others} ")
+    made["threads"] += [dict(thread, calls=chance.sample(thread["calls"], len(thread["calls"]))) for _ in range(others)]
+    text = json.dumps(made, indent=chance.choice((None, 1)))
+    return re.sub(r"\bo(\d+)\b", chance.choice((r"o\1", r"object-\1")), text).encode()
 
 
 def no_json(chance):
@@ -150,8 +160,19 @@ def wrong_script(chance):
     return Spoilt(text[:part.start()] + word + text[part.end():])
 
 
+def name_twice(chance):
+    """A script in which an object has the name of one before."""
+    made = json.loads(script(chance))
+    objects = made["objects"]
+    if len(objects) < 2:
+        return name_twice(chance)
+    place = chance.randrange(1, len(objects))
+    objects[place][0] = objects[chance.randrange(place)][0]
+    return Spoilt(json.dumps(made).encode())
+
+
 WAYS = (wrong_word, wrong_word, great_number, no_seat, missing_line, few_lines, carriage_returns, tab, no_utf8, cut,
-        no_json, wrong_script)
+        no_json, wrong_script, name_twice)
 
 
 def tried(path, texts, seed):

@@ -109,9 +109,9 @@ def wanted(text, first=None, last=None):
             ',"stretches":[["kind","seat","first","last","holds"]']
     told += [f',["{kind}",{seat},{begin + start},{begin + end},"{holds}"]' for end, seat, _, kind, start, holds in rows]
     told += ["]", ',"marks":[["sign","seat","entry"]']
-    for number, entry in enumerate(shown):
-        if (sign := drawn.sign_of(entry)) is not None:
-            told.append(f',["{sign}",{entry.seat},{begin + number}]')
+    for number, (entry, sign) in enumerate(zip(legal, drawn.signs(lines.start(), legal))):
+        if number >= begin and sign is not None:
+            told.append(f',["{sign}",{entry.seat},{number}]')
     told += ["]", ',"amounts":["amount"', *amounts(lines, legal, begin), "]"]
     told += [',"entries_shown":[["seat","words"]']
     told += [f',[{entry.seat},"{rules.spelt(entry)}"]' for entry in shown]

@@ -240,9 +240,14 @@ def strays_of(page, text, sources):
     return count + len(rows) + len(made), strays
 
 
+def is_built(path, top):
+    """Whether a file lies in a folder out/, where git does not keep it."""
+    return "out" in os.path.relpath(path, top).split(os.sep)
+
+
 def pages_of(top):
     some = ("README.md", "CONTRIBUTING.md", "docs/*.md", "crates/*/CALLING.md", "bindings/**/*.md")
-    return sorted(path for it in some for path in glob.glob(f"{top}/{it}", recursive=True))
+    return sorted(path for it in some for path in glob.glob(f"{top}/{it}", recursive=True) if not is_built(path, top))
 
 
 def sources_of(top):
@@ -252,7 +257,7 @@ def sources_of(top):
     def sources(kind):
         if kind not in kept:
             files = {it for some in HOMES[kind] for it in glob.glob(f"{top}/{some}", recursive=True)}
-            kept[kind] = [lines_of(it) for it in sorted(files)]
+            kept[kind] = [lines_of(it) for it in sorted(files) if not is_built(it, top)]
             if not kind:
                 kept[kind] = [[ASKED.sub("", it) for it in lines] for lines in kept[kind]]
         return kept[kind]

@@ -1,8 +1,8 @@
-"""Sees that the kit's messages still read as these checks expect, on a crate of two functions.
+"""Sees that the kit's messages still read as these checks expect, on a small crate with three wrong bodies.
 
-Each has a wrong body. The harmful one must be refused beside the other, by a goal of its own; the other
-changes nothing that its contract says, so it must be told as not refused. Where the messages of another kit
-read otherwise one of these fails, and with it the whole run: else a harmless wrong body could pass for a
+The harmful one must be refused beside the others, by a goal of its own. The two others change nothing that their
+contracts say, so they must be told as not refused, though one of them takes away what a proof names. Where the messages
+of another kit read otherwise one of these fails, and with it the whole run: else a harmless wrong body could pass for a
 refused one.
 """
 import os
@@ -13,10 +13,12 @@ from kit import rt
 from trial import tried, tried_by_itself
 
 SOURCE = """\
-//! Two functions.
+//! Four functions.
 #![tactic(auto)]
 
 ghost use Rattle.std.specs.Prelude.{◌≡◌, ◌≤◌};
+
+mod other;
 
 /// The smaller of two.
 pub fn smaller(a: u32, b: u32) -> u32
@@ -33,9 +35,41 @@ pub fn same(a: u32) -> u32
     let kept = a;
     kept
 }
+
+fn lower(n: u32) -> u32
+    ensures first { result ≤ n }
+    ensures second { result ≤ 7 }
+{
+    if n < 7 { n } else { 7 }
+}
+
+/// At most seven.
+pub fn at_most_seven(n: u32) -> u32
+    ensures { result ≤ 7 }
+{
+    lower(n)
+}
+"""
+OTHER = """\
+//! A function of the same name, whose promises have other names.
+ghost use Rattle.std.specs.Prelude.{◌≤◌};
+
+pub fn lower(n: u32) -> u32
+    ensures first { result ≤ n }
+    ensures other { result ≤ 7 }
+{
+    if n < 7 { n } else { 7 }
+}
+"""
+ANSWER = """\
+use Rattle.small.proofs.at_most_seven.Goals as goal
+
+pub returns : goal.returns
+returns c = c.lower.ensures.second
 """
 HARMFUL = "file: src/lib.rt\nold:     if a < b { a } else { b }\nnew:     if a < b { b } else { a }\n"
 HARMLESS = "file: src/lib.rt\nold:     let kept = a;\nnew:     let kept = a / 1;\n"
+GONE = "file: src/lib.rt\nold:     lower(n)\nnew:     other::lower(n)\n"
 
 
 def write(path, text):
@@ -49,6 +83,9 @@ def failure(tell):
     with tempfile.TemporaryDirectory(prefix="wrong-bodies-self-") as root:
         write(f"{root}/crates.txt", "small:\n")
         write(f"{root}/crates/small/src/lib.rt", SOURCE)
+        write(f"{root}/crates/small/src/other.rt", OTHER)
+        write(f"{root}/crates/small/proofs/at_most_seven/Answers.antt", ANSWER)
+        write(f"{root}/crates/small/{FOLDER}/at_most_seven.calls_another.edit", GONE)
         write(f"{root}/crates/small/{FOLDER}/same.is_the_same.edit", HARMLESS)
         write(f"{root}/crates/small/{FOLDER}/smaller.is_the_larger.edit", HARMFUL)
         os.makedirs(f"{root}/.git")
@@ -56,8 +93,9 @@ def failure(tell):
         os.chdir(root)
         try:
             [crate] = rt.rtlib.crates_below(root)
-            harmless, harmful = tried(crate, edits_of(crate)[0], tell)
-            alone = tried_by_itself(crate, edits_of(crate)[0][1])
+            gone, harmless, harmful = tried(crate, edits_of(crate)[0], tell)
+            alone = tried_by_itself(crate, edits_of(crate)[0][2])
+            gone_alone = tried_by_itself(crate, edits_of(crate)[0][0])
         finally:
             os.chdir(at)
     if not harmful.is_refused or harmful.is_alone:
@@ -66,4 +104,6 @@ def failure(tell):
         return f"a harmful wrong body is not told as refused by itself: {alone.text}"
     if harmless.is_refused:
         return f"a harmless wrong body is told as refused: {harmless.text}"
+    if gone.is_refused or gone_alone.is_refused:
+        return f"a wrong body is told as refused for a name that it took from a proof: {gone.text}, {gone_alone.text}"
     return None

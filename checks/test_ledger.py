@@ -153,6 +153,20 @@ class Lines(unittest.TestCase):
         self.assertEqual(self.of({}, limited).renewed(), {})
         self.assertEqual(self.of({}, {edit: Result(True, True, "")}).renewed(), {name: self.sum()})
 
+    def test_a_line_of_the_judges_before_stands_until_its_wrong_body_is_tried_again(self):
+        [(edit, earlier)] = ledger.earlier_sums(self.high, {"kit": b"same"}).items()
+        name = os.path.basename(edit)
+        self.assertNotEqual(earlier, self.sum())
+        stands = self.of({name: earlier})
+        stands.earlier = {edit: earlier}
+        self.assertTrue(stands.is_refused(edit) and stands.is_of_before(edit))
+        self.assertEqual(stands.renewed(), {name: earlier})
+        stands.results[edit] = Result(True, True, "")
+        self.assertEqual(stands.renewed(), {name: self.sum()})
+        stands.results[edit] = Result(False, True, "")
+        self.assertEqual(stands.renewed(), {})
+        self.assertFalse(self.of({name: self.sum()}).is_of_before(edit))
+
     def test_lines_and_wrong_bodies_must_match(self):
         self.assertEqual(len(self.of({}).faults()), 1)
         self.assertEqual(len(self.of({"one.is_three.edit": "", "gone.edit": ""}).faults()), 1)

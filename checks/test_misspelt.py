@@ -1,5 +1,6 @@
 """Tests that the reader of places.py finds the wrong word where misspelt.py has put it."""
 
+import json
 import random
 import unittest
 
@@ -27,6 +28,10 @@ class Misspelt(unittest.TestCase):
         for seed in range(20):
             self.assertTrue(misspelt.script(random.Random(seed)).startswith(b"{"))
             self.assertTrue(misspelt.history_text(random.Random(seed)).startswith(b"aqs-history"))
+
+    def test_a_script_has_one_thread_or_several(self):
+        counts = {len(json.loads(misspelt.script(random.Random(seed)))["threads"]) for seed in range(40)}
+        self.assertEqual(counts, {1, 2, 4})
 
 
 if __name__ == "__main__":

@@ -148,7 +148,7 @@ class References(unittest.TestCase):
         made = pages.made_of(self.PAGE, "Mutex Guard")
         for it in ("#### `Mutex::open`", "#### `Mutex::lock`", "#### `Guard::wait`", "#### `Guard::drop`"):
             self.assertIn(f"{it}\n", made)
-        self.assertIn("requires free { holds pass.old ≡ 0 }", made)
+        self.assertIn("requires can { CanLock lock.now (P.seats parking.now) pass.old }", made)
 
     def test_a_name_that_no_source_has_is_a_stray(self):
         self.assertIsNone(pages.made_of(self.PAGE, "Mutex Cup"))

@@ -37,7 +37,7 @@ class Shell(unittest.TestCase):
         source = ARGUMENTS.read_text()
         options = {option for found in shell.options_of(self.pages).values() for option, _, _ in found}
         self.assertEqual(options, set(re.findall(r'option\(alloc, "(\w+)"', source)))
-        names = set(re.findall(r'Command::new\(alloc, "(\w+)"\)|reader\(alloc, "(\w+)"\)', source))
+        names = set(re.findall(r'Command::new\(alloc, "(\w+)"\)|(?:reader|teller)\(alloc, "(\w+)"\)', source))
         self.assertEqual(set(shell.commands(self.pages)), {one or other for one, other in names} - {"aqs"})
 
     def test_bash_completes_commands_options_and_files(self):

@@ -38,7 +38,7 @@ class Edits(unittest.TestCase):
         for it in edits:
             with self.subTest(it.stem):
                 path, _ = wrong_c.edited(it.read_text(), lambda path: (wrong_c.C / path).read_text())
-                self.assertIn(path, ("aqs.c", "aqs_over.c"))
+                self.assertIn(path, ("aqs.c", "aqs_over.c", "aqs.hpp"))
 
 
 class Samples(unittest.TestCase):

@@ -4,15 +4,16 @@ import os
 import resource
 import shutil
 import tempfile
+from concurrent.futures import ThreadPoolExecutor
 from dataclasses import dataclass
 
 from bodies import body_of, composed, symbol_of
-from kit import AT_LIMIT, REFUSED, rt
+from kit import AT_LIMIT, AT_ONCE, REFUSED, rt
 from said import Said
 
 ONE_JOB = ["--jobs", "1"]
 REFUSALS = (REFUSED, AT_LIMIT)  # by a failing goal, or by a limit of the prover, as rt ci counts them
-MOST = 60  # wrong bodies in one check: a crate has seldom more, and a check of so many takes some 1.5 GB
+MOST = 30  # wrong bodies in one check, so that those of a large crate go into several at the same time
 
 
 @dataclass
@@ -85,12 +86,9 @@ class Trial:
 
     def over_a_copy(self, work):
         """Gives a call a copy of what the crate's own check kept, so that no wrong body's work is found."""
-        copy = f"{self.room}/copy"
-        shutil.copytree(f"{self.room}/kept", copy)
-        try:
+        with tempfile.TemporaryDirectory(dir=self.room) as copy:
+            shutil.copytree(f"{self.room}/kept", copy, dirs_exist_ok=True)
             return work(copy)
-        finally:
-            shutil.rmtree(copy)
 
     def together(self, group):
         """Tries bodies of different functions in one check, and returns those to be tried so again."""
@@ -118,6 +116,12 @@ class Trial:
             kind, text = rt.must_fail(self.crate, edit, ONE_JOB)
         return result_of(kind, text)
 
+    def work_off(self, left):
+        """Tries bodies together, until each was in a check without what stood in its way."""
+        while left:
+            group = picked(left, self.calls)
+            left = [it for it in left if it not in group] + self.together(group)
+
     def run(self):
         """Tries all, and returns what came of each edit, in their order."""
         whole = self.check({}, f"{self.room}/kept")
@@ -129,12 +133,11 @@ class Trial:
         for body in bodies:
             body.symbol = symbol_of(body, known)
         left = [it for it in bodies if it.symbol]
-        while left:
-            group = picked(left, self.calls)
-            left = [it for it in left if it not in group] + self.together(group)
-        for edit in self.edits:
-            if edit not in self.results:
-                self.results[edit] = self.alone(edit)
+        parts = -(-len(left) // MOST)
+        with ThreadPoolExecutor(AT_ONCE) as pool:
+            [*pool.map(self.work_off, [left[at::parts] for at in range(parts)])]
+            rest = [it for it in self.edits if it not in self.results]
+            self.results.update(zip(rest, pool.map(self.alone, rest)))
         return [self.results[it] for it in self.edits]
 
 

@@ -1,7 +1,9 @@
 #!/usr/bin/env python3
 """Tries the wrong bodies crates/NAME/wrong-bodies/*.edit, and keeps a ledger of those that were refused.
 
-usage: checks/wrong_bodies.py [--anew] [--sample SEED] [--built] [--write] [NAME..]    at the top, of all crates or of these
+usage: checks/wrong_bodies.py [--anew] [--earlier] [--sample SEED] [--built] [--write] [NAME..]
+
+At the top of the repository, of all crates or of these.
 
 A wrong body is refused if its function is not proved, and one of that function's own goals fails. An edit that is
 refused only because a proof names what it took away counts as not refused: it says nothing of the contract.
@@ -13,6 +15,7 @@ in the way, is tried once more without that one, and then alone, by rt's own rul
 one function's body.
 
 --anew           tries all, with a valid line or without
+--earlier        tries also those that stand by a line of the judges before, who read one line of each error
 --sample SEED    tries some of those with a valid line again, by themselves, in an order that the seed decides. None is
                  begun after 150 seconds of processor time; with those under way it comes to some five minutes
 --built          the libraries stand as rt ci has just left them, and nothing else that earlier checks kept is taken
@@ -32,10 +35,9 @@ sys.dont_write_bytecode = True
 import ledger
 import selftest
 from bodies import edits_of
-from kit import rt
+from kit import AT_ONCE, rt
 from trial import ONE_JOB, seconds, tried, tried_by_itself
 
-MEMORY = 2_000_000_000  # of a crate's checks, one at a time
 FEW = 5  # wrong bodies of a crate that are tried each by itself: more go into one check
 SAMPLE = 150  # processor seconds, after which no more of the sample are begun
 OF_SAMPLE = 2  # of the sample at the same time: each of them goes on behind that moment
@@ -53,9 +55,17 @@ class Ledger:
     sums: dict  # of each wrong body, by its path
     lines: dict  # of each line, by the wrong body's name
     results: dict = field(default_factory=dict)  # of each trial, by the path
+    earlier: dict = field(default_factory=dict)  # of each wrong body the sum as the judges before made it, by its path
+
+    def line(self, edit):
+        return self.lines.get(os.path.basename(edit))
 
     def is_valid(self, edit):
-        return self.lines.get(os.path.basename(edit)) == self.sums[edit]
+        return self.line(edit) == self.sums[edit] or self.is_of_before(edit)
+
+    def is_of_before(self, edit):
+        """Whether a wrong body's line is one of the judges before."""
+        return edit in self.earlier and self.line(edit) == self.earlier[edit]
 
     def faults(self):
         """Returns what is wrong with the files of the folder and their lines."""
@@ -70,18 +80,14 @@ class Ledger:
     def renewed(self):
         """Returns the lines as they are to stand."""
         is_kept = lambda edit: self.is_refused(edit) and not (edit in self.results and self.results[edit].is_by_limit)
-        return {os.path.basename(edit): made for edit, made in self.sums.items() if is_kept(edit)}
+        made = lambda edit: self.sums[edit] if edit in self.results else self.line(edit)
+        return {os.path.basename(edit): made(edit) for edit in self.sums if is_kept(edit)}
 
     def note(self, edit, result, took=""):
         self.results[edit] = result
         limit = ", but only by a limit of the prover, so it gets no line" if result.is_by_limit else ""
         verdict = "refused" if result.is_refused else "NOT REFUSED"
         tell(f"{self.crate.name}/{os.path.basename(edit)}: {verdict}{limit}{took}: {result.text}")
-
-
-def at_once():
-    fixed = os.environ.get("RT_JOBS", "")  # as rt ci reads it
-    return int(fixed) if fixed.isdigit() else max(1, min(rt.processors(), rt.free() // MEMORY))
 
 
 def try_together(of, edits, is_built):
@@ -100,16 +106,17 @@ def try_by_itself(of, edit):
     of.note(edit, result, f" in {time.monotonic() - begun:.0f} s")
 
 
-def try_left(ledgers, is_anew, is_built):
-    """Tries the wrong bodies without a valid line, the crates with most of them first."""
-    left = {of.crate.name: [it for it in of.sums if is_anew or not of.is_valid(it)] for of in ledgers}
+def try_left(ledgers, flags):
+    """Tries the wrong bodies without a valid line, and those that the flags ask for, the crates with most first."""
+    is_asked = lambda of, it: "--anew" in flags or ("--earlier" in flags and of.is_of_before(it))
+    left = {of.crate.name: [it for it in of.sums if is_asked(of, it) or not of.is_valid(it)] for of in ledgers}
     ledgers = sorted(ledgers, key=lambda of: -len(left[of.crate.name]) * of.crate.count(b"\n"))
-    with ThreadPoolExecutor(at_once()) as pool:
+    with ThreadPoolExecutor(AT_ONCE) as pool:
         begun = []
         for of in ledgers:
             edits = left[of.crate.name]
             if len(edits) > FEW:
-                begun.append(pool.submit(try_together, of, edits, is_built))
+                begun.append(pool.submit(try_together, of, edits, "--built" in flags))
             else:
                 begun += [pool.submit(try_by_itself, of, it) for it in edits]
         for it in begun:
@@ -135,7 +142,7 @@ def try_sample(ledgers, seed):
             begun += 1
             try_by_itself(of, edit)
 
-    threads = min(OF_SAMPLE, at_once())
+    threads = min(OF_SAMPLE, AT_ONCE)
     with ThreadPoolExecutor(threads) as pool:
         [*pool.map(go_on, range(threads))]
     return begun
@@ -176,7 +183,7 @@ def main(words):
     flags = [it for it in words if it.startswith("--")]
     seed = words[words.index("--sample") + 1] if "--sample" in words[:-1] else None
     names = [it for it in words if it not in flags and it != seed]
-    if {*flags} - {"--anew", "--sample", "--built", "--write"} or ("--sample" in flags) != bool(seed):
+    if {*flags} - {"--anew", "--earlier", "--sample", "--built", "--write"} or ("--sample" in flags) != bool(seed):
         sys.exit(__doc__)
     if "--write" in flags and "--built" not in flags:
         sys.exit(__doc__)
@@ -190,10 +197,15 @@ def main(words):
         return 2
     seen = {}
     ledgers = [Ledger(it, ledger.sums(it, seen), ledger.lines_of(it)) for it in crates]
-    left = try_left(ledgers, "--anew" in flags, is_built)
+    for of in ledgers:
+        of.earlier = ledger.earlier_sums(of.crate, seen)
+    left = try_left(ledgers, flags)
     again = try_sample(ledgers, seed) if seed else 0
     refused, others = judged(ledgers, "--write" in flags)
     tell(f"tried {left} without a valid line or anew, and {again} of the others")
+    before = sum(it not in of.results and of.is_of_before(it) for of in ledgers for it in of.sums)
+    if before:
+        tell(f"{before} stand by trials in which one line of each error was read: --earlier tries them")
     if not ledger.is_tried_with():
         tell(f"the others stand by trials with other kits than {ledger.kit()}: --anew tries all")
     tell(f"{(time.monotonic() - at) / 60:.1f} minutes, {seconds() / 60:.1f} processor minutes")

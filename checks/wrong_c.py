@@ -1,10 +1,11 @@
 #!/usr/bin/env python3
 """Tries the wrong bodies of the C side: checks/wrong_c.py [--sample SEED] [--core FILE] [--jobs N] [NAME..]
 
-No proof covers bindings/c/aqs.c and aqs_over.c, so tests must see what is wrong there. Each edit
+No proof covers bindings/c/aqs.c, aqs_over.c and aqs.hpp, so tests must see what is wrong there. Each edit
 bindings/c/wrong-bodies/NAME.edit is made on a copy, which is built over the proved library, and the tests run until
-one fails. One that no test sees is tried twice more, since threads meet otherwise in each run. An edit that still none
-sees fails, and so does one that can't be made or built. First the file as it stands must pass each test.
+one fails: those in C++ for aqs.hpp, and those in C for the others. One that no test sees is tried twice more, since
+threads meet otherwise in each run. An edit that still none sees fails, and so does one that can't be made or built.
+First the files as they stand must pass each test.
 
 --sample SEED   tries as many as go into a minute and a half; the seed, which is the commit's hash, decides which
 --core FILE     the proved library, if it is not crates/aqs_c/out/libaqs_c.a
@@ -33,8 +34,10 @@ BAD = "BAD EDIT"
 # The tests with the words that they get, those first that say most in the least time. FOLDER takes histories.
 TESTS = (
     "answers", "memory", "wakes", "statuses", "seats", "thread_numbers", "or_abort", "over", "interrupts", "limits",
-    "histories", "calls FOLDER", "times", "closes", "waits", "stops", "storms FOLDER 4 200", "storms FOLDER 16 60",
+    "histories", "eintr", "handlers", "forks", "crowd", "calls FOLDER", "times", "closes", "waits", "stops", "storms FOLDER 4 200",
+    "storms FOLDER 16 60",
 )
+TESTS_OF_CPP = ("guards FOLDER", "durations", "plain")
 
 
 def edited(text, read):
@@ -116,7 +119,7 @@ class Tree:
             path, text = edited((EDITS / f"{name}.edit").read_text(), lambda it: (C / it).read_text())
             folder = self.copied(self.base, name)
             (folder / path).write_text(text)
-            said = self.fault(folder)
+            said = self.fault(folder, TESTS_OF_CPP if path == "aqs.hpp" else TESTS)
         except (OSError, ValueError) as error:
             return False, f"{BAD}: {name}: {error}"
         finally:
@@ -159,7 +162,7 @@ def main(words):
     with tempfile.TemporaryDirectory(prefix="aqs-wrong-c-") as room:
         tree = Tree(room, os.path.abspath(given.core))
         try:
-            said = tree.fault(tree.base)
+            said = tree.fault(tree.base, (*TESTS, *TESTS_OF_CPP))
         except ValueError as error:
             said = str(error)
         if said:

@@ -14,6 +14,7 @@ TOP = pathlib.Path(__file__).resolve().parent.parent
 TEXTS = TOP / "crates" / "manual" / "src" / "texts.rt"
 FOLDER = TOP / "tools" / "shell"
 
+NAME, FILE, DIRECTORY = "N", "F", "D"  # what a page writes where an option takes no number
 CONSTANT = re.compile(r'(?ms)^pub const (\w+): &\[u8\] = b"(.*?[^\\])";')
 # A row of the overview, and one of an option: a name, and what it does, which may go on in the next lines.
 ROW = re.compile(r"(?m)^  aqs (\w+)((?: \[[^\]]*\])*) {2,}(\S.*(?:\n {30,}\S.*)*)$")
@@ -46,7 +47,7 @@ def commands(pages_):
 
 
 def options(page):
-    """The options of a command: the name, whether a number follows, and what it does, in a sentence."""
+    """The options of a command: the name, what follows it, if anything, and what it does, in a sentence."""
     return [(name, value.strip(), joined(told).split(". ")[0]) for name, value, told in OPTION.findall(page)]
 
 
@@ -104,7 +105,7 @@ def bash(pages_):
     ]
     numbered = set()
     for name, found in options_of(pages_).items():
-        numbered.update("--" + option for option, value, _ in found if value)
+        numbered.update("--" + option for option, value, _ in found if value not in ("", FILE, DIRECTORY))
         if found:
             lines.append(f'        {name}) options="{" ".join("--" + option for option, _, _ in found)}" ;;')
     lines += [
@@ -133,6 +134,10 @@ def zsh_told(text):
     return re.sub(r"([\[\]:])", r"\\\1", text)
 
 
+# What zsh completes after an option.
+ZSH = {"": "", NAME: ":name:", FILE: ":file:_files", DIRECTORY: ":folder:_files -/"}
+
+
 def zsh(pages_):
     lines = ["#compdef aqs", "# Completes the words of aqs in zsh. Made by tools/shell.py.", "", "local -a commands"]
     lines.append("commands=(")
@@ -141,7 +146,7 @@ def zsh(pages_):
     lines += ["local command=$words[2]", "shift words", "((CURRENT--))", "case $command in"]
     for name, found in options_of(pages_).items():
         told = [
-            quoted(f"--{option}[{zsh_told(text)}]" + (":number:" if value else ""))
+            quoted(f"--{option}[{zsh_told(text)}]" + ZSH.get(value, ":number:"))
             for option, value, text in found
         ]
         if name == "manual":
@@ -162,7 +167,8 @@ def fish(pages_):
     for name, found in options_of(pages_).items():
         seen = quoted(f"__fish_seen_subcommand_from {name}")
         for option, value, told in found:
-            lines.append(f"complete -c aqs -n {seen} -l {option}{' -x' if value else ''} -d {quoted(told)}")
+            takes = {"": "", FILE: " -r", DIRECTORY: " -r"}.get(value, " -x")
+            lines.append(f"complete -c aqs -n {seen} -l {option}{takes} -d {quoted(told)}")
     readers = " ".join(one for one in commands(pages_) if reads_file(one))
     lines.append(f"complete -c aqs -f -n '__fish_seen_subcommand_from manual' -a {quoted(readers)}")
     lines.append("complete -c aqs -f -n '__fish_seen_subcommand_from about'")

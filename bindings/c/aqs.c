@@ -18,6 +18,7 @@
 
 #include <errno.h>
 #include <linux/futex.h>
+#include <linux/membarrier.h>
 #include <pthread.h>
 #include <sched.h>
 #include <stdatomic.h>
@@ -89,6 +90,7 @@ enum { PERMIT = 1, INTERRUPT = 2, SLEEPS = 4 };
 typedef struct {
     _Alignas(64) _Atomic uint32_t word;
     _Atomic uint64_t holds; /* of all objects together. Only the thread of the place counts them */
+    atomic_bool has_turn;   /* whether the thread is about to make a turn, or makes one */
     pid_t process, thread;  /* whose it is, by the system's ids. thread 0: nobody's. Under `numbering` */
 } place_t;
 
@@ -117,9 +119,12 @@ static void wake(place_t *place) {
     syscall(SYS_futex, &place->word, FUTEX_WAKE_PRIVATE, 1, NULL, NULL, 0);
 }
 
-/* Sleeps while the word is `read`, until the moment at the longest. It may return early. */
-static void sleep_while(place_t *place, uint32_t read, const struct timespec *moment) {
+/* Sleeps while the word is `read`, until the moment at the longest. It may return early. Returns whether a
+   signal handler ended it. */
+static bool sleep_while(place_t *place, uint32_t read, const struct timespec *moment) {
+    errno = 0;
     syscall(SYS_futex, &place->word, FUTEX_WAIT_BITSET_PRIVATE, read, moment, NULL, FUTEX_BITSET_MATCH_ANY);
+    return errno == EINTR;
 }
 
 /* Sets a signal, and wakes the thread of the place if it sleeps. */
@@ -150,31 +155,42 @@ static bool comes_soon(place_t *place, uint32_t awaited, bool is_fair) {
     return false;
 }
 
-/* Returns whether it slept. */
-static bool sleep_at(place_t *place, uint32_t awaited, const struct timespec *moment, bool is_fair) {
-    if (comes_soon(place, awaited, is_fair)) return false;
+/* Whether a thread slept, and whether a signal handler ended that. */
+typedef enum { SLEPT_NOT, SLEPT, SLEPT_UNTIL_HANDLER } slept_t;
+
+static slept_t sleep_at(place_t *place, uint32_t awaited, const struct timespec *moment, bool is_fair) {
+    bool handler_ran = false;
+    if (comes_soon(place, awaited, is_fair)) return SLEPT_NOT;
     uint32_t read = atomic_fetch_or(&place->word, SLEEPS) | SLEEPS;
-    if (!(read & awaited)) sleep_while(place, read, moment);
+    if (!(read & awaited)) handler_ran = sleep_while(place, read, moment);
     atomic_fetch_and(&place->word, ~(uint32_t)SLEEPS);
-    return true;
+    return handler_ran ? SLEPT_UNTIL_HANDLER : SLEPT;
 }
 
-/* Waits as an answer says, and returns how that ended, and whether the thread slept. */
-static uint8_t park(place_t *place, const aqs_answer_t *answer, bool is_fair, bool *has_slept) {
+/* How a park may end beside AQS_WOKE_*: a signal handler ran. */
+enum { WOKE_HANDLER = AQS_WOKE_INTERRUPT + 1 };
+
+/* Waits as an answer says, and returns how that ended, and whether the thread slept. A signal handler ends it
+   only where an interrupt may. What the handler itself sent comes first. */
+static uint8_t
+park(place_t *place, const aqs_answer_t *answer, bool is_fair, bool heeds_handlers, bool *has_slept) {
     uint32_t awaited = answer->interruptible ? PERMIT | INTERRUPT : PERMIT;
+    bool may_handler_end = answer->interruptible && heeds_handlers;
     struct timespec moment = moment_of(answer->until);
-    for (;;) {
+    for (slept_t slept = SLEPT_NOT;;) {
         if (answer->interruptible && take(place, INTERRUPT)) return AQS_WOKE_INTERRUPT;
         if (take(place, PERMIT)) return AQS_WOKE_PERMIT;
+        if (may_handler_end && slept == SLEPT_UNTIL_HANDLER) return WOKE_HANDLER;
         if (answer->has_until && is_reached(&moment)) return AQS_WOKE_DEADLINE;
-        *has_slept |= sleep_at(place, awaited, answer->has_until ? &moment : NULL, is_fair);
+        slept = sleep_at(place, awaited, answer->has_until ? &moment : NULL, is_fair);
+        *has_slept |= slept != SLEPT_NOT;
     }
 }
 
-/* How long a thread pauses before it asks again for a lock that isn't fair, some 5 microseconds. The thread
+/* How long a thread pauses before it asks again for a lock that isn't fair, some 15 microseconds. The thread
    that released it goes on with what the lock guards in its cache, and may release it many times meanwhile:
    it wakes nobody again before the thread has asked. One that slept comes late enough. */
-enum { PAUSES = 1000 };
+enum { PAUSES = 3000 };
 
 static void let_others_go_on(void) {
     for (int i = 0; i < PAUSES; i++) relax();
@@ -202,13 +218,39 @@ typedef struct {
 } memory_t;
 enum { MEMORIES = 16 };
 
+/* A release by a signal handler that interrupted a call of the library. */
+typedef struct {
+    aqs_object_t *object;
+    uint32_t n;
+} post_t;
+enum { POSTS = 16 };
+
 /* The calling thread. It lies where the system finds it without a call, also in a shared library. */
 static _Thread_local __attribute__((tls_model("initial-exec"))) struct {
     uint64_t mine;  /* what a seat of its own says: it is made of its number, and never 0 */
     place_t *place; /* NULL if it has no number */
     aqs_thread_t number;
+    bool forks;            /* whether it holds the turns of others back */
+    atomic_bool is_inside; /* whether it has an object or the numbers, so that a handler must not wait */
+    atomic_uint posted;    /* how many posts are to be made */
     memory_t memories[MEMORIES];
+    post_t posts[POSTS];
 } self;
+
+static void make_posts(void);
+
+/* Between these two no handler of the thread makes a turn. It leaves a post, which is made at the end. */
+SHORT void enter(void) {
+    atomic_store_explicit(&self.is_inside, true, memory_order_relaxed);
+    atomic_signal_fence(memory_order_seq_cst);
+}
+
+SHORT void leave(void) {
+    atomic_signal_fence(memory_order_seq_cst);
+    atomic_store_explicit(&self.is_inside, false, memory_order_relaxed);
+    atomic_signal_fence(memory_order_seq_cst);
+    if (atomic_load_explicit(&self.posted, memory_order_relaxed) > 0) make_posts();
+}
 
 /* The block of a number, and the first number there. */
 static unsigned block_of(aqs_thread_t thread) {
@@ -239,20 +281,55 @@ static void give_number_back(void *number) {
         (void)pthread_setspecific(at_end, number);
         return;
     }
+    enter();
     self.place = NULL;
     memset(self.memories, 0, sizeof self.memories);
     pthread_mutex_lock(&numbering);
     free_number((aqs_thread_t)((uintptr_t)number - 1));
     pthread_mutex_unlock(&numbering);
+    leave();
 }
 
 static pid_t own_id(void) { return (pid_t)syscall(SYS_gettid); }
 
-/* No number is taken while the process forks. In the child, the thread that forked is the only one left, with
-   another id. Numbers of the others stay theirs. */
-static void before_fork(void) { pthread_mutex_lock(&numbering); }
-static void after_fork(void) { pthread_mutex_unlock(&numbering); }
+/* While the process forks, no number is taken and no turn is made. So in the child, where no other thread is
+   left, each object is between two turns. A thread that begins a turn shows that, and then looks whether the
+   process forks. The one that forks shows that, and then looks for turns. The kernel orders the two in
+   between (membarrier), so that a turn need not. */
+static atomic_bool is_forking;
+static bool can_order;
+
+static void back_off(unsigned *looks);
+
+static bool has_turn(const place_t *place) {
+    return place != self.place && atomic_load_explicit(&place->has_turn, memory_order_acquire);
+}
+
+static void before_fork(void) {
+    pthread_mutex_lock(&numbering);
+    if (!can_order) return;
+    self.forks = true;
+    atomic_store(&is_forking, true);
+    syscall(SYS_membarrier, MEMBARRIER_CMD_PRIVATE_EXPEDITED, 0, 0);
+    for (aqs_thread_t thread = 0; thread < count_of_places; thread++) {
+        unsigned looks = 0;
+        while (has_turn(place_of(thread))) back_off(&looks);
+    }
+}
+
+static void let_turns_begin(void) {
+    self.forks = false;
+    atomic_store(&is_forking, false);
+}
+
+static void after_fork(void) {
+    let_turns_begin();
+    pthread_mutex_unlock(&numbering);
+}
+
+/* The thread that forked is the only one that is left, with another id. */
 static void after_fork_in_child(void) {
+    let_turns_begin();
     if (self.place) {
         self.place->process = getpid();
         self.place->thread = own_id();
@@ -263,6 +340,12 @@ static void after_fork_in_child(void) {
 static void prepare(void) {
     is_watched = __tsan_acquire || IS_ON_VALGRIND();
     has_key = pthread_key_create(&at_end, give_number_back) == 0;
+}
+
+/* What a program does before a fork, such as to acquire its locks, is done before turns are held back, if the
+   program says so later than this. */
+static __attribute__((constructor)) void prepare_for_forks(void) {
+    can_order = syscall(SYS_membarrier, MEMBARRIER_CMD_REGISTER_PRIVATE_EXPEDITED, 0, 0) == 0;
     (void)pthread_atfork(before_fork, after_fork, after_fork_in_child);
 }
 
@@ -323,16 +406,26 @@ static COLD bool take_number(void) {
     return true;
 }
 
-aqs_thread_t aqs_thread_self(void) { return self.place || take_number() ? self.number : AQS_NO_THREAD; }
+static bool has_number(void) {
+    if (self.place) return true;
+    enter();
+    bool has_one = self.place || take_number();
+    leave();
+    return has_one;
+}
+
+aqs_thread_t aqs_thread_self(void) { return has_number() ? self.number : AQS_NO_THREAD; }
 
 aqs_status_t aqs_thread_interrupt(aqs_thread_t thread) {
     place_t *place = place_of(thread);
+    int before = errno; /* what a handler interrupts may be about to read it */
     if (!place) return AQS_OUT_OF_RANGE;
     send(place, INTERRUPT);
+    errno = before;
     return AQS_OK;
 }
 
-bool aqs_thread_interrupted(void) { return (self.place || take_number()) && take(self.place, INTERRUPT); }
+bool aqs_thread_interrupted(void) { return has_number() && take(self.place, INTERRUPT); }
 
 /* Seats -------------------------------------------------------------------------------------------------- */
 
@@ -344,6 +437,7 @@ typedef struct aqs_seat {
     _Atomic uint64_t taken; /* by nobody: 0. Else the `mine` of its thread, and 1 more while that is inside */
     place_t *_Atomic place; /* of the thread that had it last */
     uint64_t stays;         /* why its thread keeps it, in the units below. Only that thread looks */
+    bool waits;             /* whether a call of its thread waits in it. Only that thread looks */
 } seat_t;
 
 enum { INSIDE = 1 };
@@ -374,6 +468,26 @@ SHORT memory_t *memory_of(const aqs_object_t *object) {
     return &self.memories[(at >> 4 ^ at >> 7) % MEMORIES];
 }
 
+/* The process forks, and the thread makes no turn until that is over. If it is the one that forks, a program
+   makes a call between: so nobody is held back any more. */
+static COLD void wait_for_fork(void) {
+    unsigned looks = 0;
+    atomic_store_explicit(&self.place->has_turn, false, memory_order_release);
+    if (self.forks) let_turns_begin();
+    while (atomic_load(&is_forking)) back_off(&looks);
+}
+
+SHORT void begin_turn(void) {
+    for (;;) {
+        atomic_store_explicit(&self.place->has_turn, true, memory_order_relaxed);
+        atomic_signal_fence(memory_order_seq_cst);
+        if (!atomic_load_explicit(&is_forking, memory_order_acquire)) return;
+        wait_for_fork();
+    }
+}
+
+SHORT void end_turn(void) { atomic_store_explicit(&self.place->has_turn, false, memory_order_release); }
+
 /* Takes a seat that nobody has. What its last thread did with its pass is seen then. */
 SHORT bool claims(seat_t *seat) {
     uint64_t nobody = 0;
@@ -389,22 +503,34 @@ SHORT bool is_own(const seat_t *seat) {
     return atomic_load_explicit(&seat->taken, memory_order_relaxed) == self.mine;
 }
 
+/* Whether a call of the thread waits in its seat, so that a handler which interrupts it takes another seat. At
+   a lock it gets none: that call is a misuse. */
+SHORT bool needs_another(const aqs_object_t *object, const seat_t *seat) {
+    return seat->waits && object->kind_ >= AQS_KIND_SEMAPHORE;
+}
+
 /* The thread comes back to its seat. */
 SHORT void come_back(seat_t *seat) {
     atomic_store_explicit(&seat->taken, self.mine | INSIDE, memory_order_relaxed);
 }
 
-/* The seat that the calling thread has, or NULL. A thread that holds nothing anywhere has none, and one that
-   remembers a seat here has no other. */
-static seat_t *own_seat(const aqs_object_t *object) {
-    const memory_t *memory = memory_of(object);
-    bool is_known = memory->object == object;
+/* The seat of a thread that doesn't remember one here. A thread that holds nothing anywhere has none. */
+static COLD seat_t *look_for_own_seat(const aqs_object_t *object) {
     bool has_some = self.place && !holds_nothing(self.place);
-    uint32_t count = has_some ? count_of_seats(object) : 0, first = is_known ? memory->seat : 0;
-    for (uint32_t i = first; i < count && (i == first || !is_known); i++) {
+    uint32_t count = has_some ? count_of_seats(object) : 0;
+    for (uint32_t i = 0; i < count; i++) {
         if (is_own(&object->seats_[i])) return &object->seats_[i];
     }
     return NULL;
+}
+
+/* The seat that the calling thread has, or NULL. One that remembers a seat here has no other. */
+SHORT seat_t *own_seat(const aqs_object_t *object) {
+    const memory_t *memory = memory_of(object);
+    if (memory->object != object) return look_for_own_seat(object);
+    if (memory->seat >= count_of_seats(object)) return NULL;
+    seat_t *seat = &object->seats_[memory->seat];
+    return is_own(seat) ? seat : NULL;
 }
 
 /* A seat that nobody had: the one of the thread's number, if that is free. Threads that are inside may leave
@@ -431,11 +557,15 @@ static COLD seat_t *come_slowly(aqs_object_t *object, aqs_status_t *status) {
     *status = AQS_OUT_OF_MEMORY;
     if (!self.place && !take_number()) return NULL;
     if (count_of_seats(object) == 0 && (*status = open_at_first_call(object)) != AQS_OK) return NULL;
+    begin_turn();
     seat_t *seat = own_seat(object);
-    if (seat) come_back(seat);
+    if (seat && !needs_another(object, seat)) come_back(seat);
     else seat = free_seat(object);
     *status = seat ? AQS_OK : AQS_TOO_MANY_THREADS;
-    if (!seat) return NULL;
+    if (!seat) {
+        end_turn();
+        return NULL;
+    }
     atomic_store_explicit(&seat->place, self.place, memory_order_relaxed);
     *memory_of(object) = (memory_t){object, (uint32_t)(seat - object->seats_)};
     return seat;
@@ -451,13 +581,16 @@ static COLD seat_t *come_slowly(aqs_object_t *object, aqs_status_t *status) {
 SHORT seat_t *come(aqs_object_t *object, aqs_status_t *status) {
     const memory_t *memory = memory_of(object);
     seat_t *seat = NULL;
+    enter();
     if (memory->object == object && memory->seat < count_of_seats(object)) {
         seat = &object->seats_[memory->seat];
-        if (is_own(seat)) come_back(seat);
+        begin_turn();
+        if (is_own(seat) && !needs_another(object, seat)) come_back(seat);
         else if (!claims(seat)) seat = NULL;
     }
     if (!seat) seat = come_slowly(object, status);
     if (seat) tell_before(object);
+    else leave();
     return seat;
 }
 
@@ -466,6 +599,8 @@ SHORT void depart(aqs_object_t *object, seat_t *seat) {
     uint64_t taken = seat->stays ? self.mine : 0;
     tell_after(object);
     atomic_store_explicit(&seat->taken, taken, memory_order_release);
+    end_turn();
+    leave();
 }
 
 /* By how much more, or less, keeps the seat. */
@@ -533,28 +668,36 @@ static void settle(place_t *woken, const aqs_answer_t *answer) {
 static uint8_t wait_for_turn(const aqs_object_t *object, const aqs_call_t *call, const aqs_answer_t *answer) {
     bool is_fair = object->policy_ != AQS_NONFAIR, has_slept = false;
     if (!answer->parks) return AQS_WOKE_PERMIT;
-    uint8_t woke = park(self.place, answer, is_fair, &has_slept);
+    uint8_t woke = park(self.place, answer, is_fair, object->heeds_handlers_, &has_slept);
     bool is_lock = object->kind_ == AQS_KIND_LOCK || object->kind_ == AQS_KIND_READ_WRITE;
     bool is_late = has_slept || is_fair || woke != AQS_WOKE_PERMIT;
     if (is_lock && call->kind == AQS_CALL_ACQUIRE && !is_late) let_others_go_on();
     return woke;
 }
 
-/* The call waits: its park, and its next turn. The thread is inside, before and after. */
-static void next_turn(aqs_object_t *object, seat_t *seat, const aqs_call_t *call, aqs_answer_t *answer) {
+/* The call waits: its park, and its next turn. The thread is inside, before and after. The proved library is
+   told of a signal handler as of an interrupt. But no interrupt was taken then, so none is set again. */
+static void next_turn(
+    aqs_object_t *object, seat_t *seat, const aqs_call_t *call, aqs_answer_t *answer, bool *handler_ran) {
     place_t *woken = woken_by(object, answer);
     keep(seat, ONE_WAIT);
+    seat->waits = true;
     depart(object, seat);
     settle(woken, answer);
     uint8_t woke = wait_for_turn(object, call, answer);
     unsigned looks = 0;
+    if (woke == WOKE_HANDLER) *handler_ran = true, woke = AQS_WOKE_INTERRUPT;
+    enter();
+    begin_turn();
     come_back(seat);
     tell_before(object);
+    seat->waits = false;
     keep(seat, -ONE_WAIT);
     for (;; back_off(&looks)) {
         aqs_go_on(&seat->pass, woke, answer);
         if (answer->kind != AQS_IS_BUSY) break;
     }
+    if (*handler_ran) answer->again = false;
 }
 
 /* Answers as statuses ------------------------------------------------------------------------------------ */
@@ -598,7 +741,7 @@ const char *aqs_status_name(aqs_status_t status) {
         "AQS_OK", "AQS_TIMED_OUT", "AQS_INTERRUPTED", "AQS_WOULD_BLOCK", "AQS_NOT_OWNER",
         "AQS_TOO_MANY_HOLDS", "AQS_TOO_MANY_PERMITS", "AQS_HOLDS_READ", "AQS_NO_SUCH_CONDITION",
         "AQS_BAD_AMOUNT", "AQS_HISTORY_FULL", "AQS_OUT_OF_MEMORY", "AQS_OUT_OF_RANGE",
-        "AQS_TOO_MANY_THREADS", "AQS_NO_SPACE", "AQS_IO_ERROR", "AQS_MISUSE",
+        "AQS_TOO_MANY_THREADS", "AQS_NO_SPACE", "AQS_IO_ERROR", "AQS_MISUSE", "AQS_HANDLER_RAN",
     };
     size_t number = (size_t)status;
     return number < sizeof names / sizeof names[0] ? names[number] : "no status";
@@ -638,9 +781,11 @@ end_step(aqs_object_t *object, seat_t *seat, aqs_step_t step, aqs_answer_t *answ
 static COLD aqs_status_t
 end_call(aqs_object_t *object, seat_t *seat, const aqs_call_t *call, aqs_answer_t *answer, int64_t owned) {
     tries_t tries = {0, 0};
+    bool handler_ran = false;
     while (is_made_again(object, seat, answer, &tries)) aqs_begin(&seat->pass, call, answer);
-    while (answer->kind == AQS_IS_WAITING) next_turn(object, seat, call, answer);
+    while (answer->kind == AQS_IS_WAITING) next_turn(object, seat, call, answer, &handler_ran);
     aqs_status_t status = end_turns(object, seat, answer, owned);
+    if (status == AQS_INTERRUPTED && handler_ran) return AQS_HANDLER_RAN;
     return status == AQS_WOULD_BLOCK ? AQS_TIMED_OUT : status;
 }
 
@@ -691,9 +836,39 @@ SHORT aqs_status_t step(aqs_object_t *object, uint8_t code, uint8_t mode, uint32
     return do_step(object, (aqs_step_t){.n = n, .code = code, .mode = mode}, owned, NULL);
 }
 
+/* A release of permits, or of a count, which any thread may make, and a signal handler too. One that has
+   interrupted its thread inside an object can't wait for that thread: it leaves a post. */
+static COLD aqs_status_t leave_post(aqs_object_t *object, uint32_t n) {
+    unsigned at = atomic_fetch_add_explicit(&self.posted, 1, memory_order_relaxed);
+    if (at < POSTS) {
+        self.posts[at] = (post_t){object, n};
+        return AQS_OK;
+    }
+    atomic_fetch_sub_explicit(&self.posted, 1, memory_order_relaxed);
+    return AQS_OUT_OF_MEMORY;
+}
+
+SHORT aqs_status_t give(aqs_object_t *object, uint32_t n) {
+    if (atomic_load_explicit(&self.is_inside, memory_order_relaxed)) return leave_post(object, n);
+    int kept = errno; /* what a handler interrupts may be about to read it */
+    aqs_status_t status = step(object, AQS_STEP_GIVE, AQS_MODE_SHARED, n, 0);
+    errno = kept;
+    return status;
+}
+
+/* Makes what handlers have left, last first. A handler that comes meanwhile makes its own, and these too. */
+static COLD void make_posts(void) {
+    unsigned count;
+    while ((count = atomic_load_explicit(&self.posted, memory_order_relaxed)) > 0) {
+        post_t post = self.posts[count - 1];
+        if (!atomic_compare_exchange_strong(&self.posted, &count, count - 1)) continue;
+        aqs_or_abort(give(post.object, post.n), "a release by a signal handler");
+    }
+}
+
 /* Opening and closing ------------------------------------------------------------------------------------ */
 
-enum { THREADS = AQS_THREADS, ENTRIES = 8192 };
+enum { THREADS = AQS_THREADS, ENTRIES = 1024 };
 
 static const uint8_t core_policies[] = {AQS_CORE_NONFAIR, AQS_CORE_FAIR, AQS_CORE_STRICT};
 
@@ -740,6 +915,7 @@ static aqs_status_t init_object(
     if (!options) options = &defaults;
     *object = (aqs_object_t){.number_ = number, .kind_ = kind, .policy_ = (uint8_t)options->policy};
     object->keeps_ = options->when_full == AQS_REFUSE;
+    object->heeds_handlers_ = options->heeds_handlers;
     return open_seats(object, header_of(kind, number, options));
 }
 
@@ -766,7 +942,8 @@ static void close_object(aqs_object_t *object) {
     tell_after(object);
     free(object->seats_);
     object->seats_ = NULL;
-    object->count_ = object->bound_ = 0;
+    object->count_ = 0;
+    memset(object->users_, 0, sizeof object->users_);
 }
 
 /* Opens an object of a type in memory of its own, and closes one. */
@@ -894,7 +1071,7 @@ aqs_status_t aqs_sem_tryacquire(aqs_sem_t *semaphore, uint32_t n) {
     return step(&semaphore->object_, AQS_STEP_TRY, S, n, 0);
 }
 aqs_status_t aqs_sem_release(aqs_sem_t *semaphore, uint32_t n) {
-    return step(&semaphore->object_, AQS_STEP_GIVE, S, n, 0);
+    return give(&semaphore->object_, n);
 }
 aqs_status_t aqs_sem_drain(aqs_sem_t *semaphore, uint32_t *n) {
     return do_step(&semaphore->object_, (aqs_step_t){.code = AQS_STEP_DRAIN}, 0, n);
@@ -910,7 +1087,7 @@ aqs_status_t aqs_latch_init(aqs_latch_t *latch, uint32_t count, const aqs_option
     return init_object(&latch->object_, AQS_KIND_LATCH, number_of(count), options);
 }
 void aqs_latch_close(aqs_latch_t *latch) { CLOSE(latch); }
-aqs_status_t aqs_latch_count_down(aqs_latch_t *latch) { return step(&latch->object_, AQS_STEP_GIVE, S, 1, 0); }
+aqs_status_t aqs_latch_count_down(aqs_latch_t *latch) { return give(&latch->object_, 1); }
 aqs_status_t aqs_latch_await(aqs_latch_t *latch) { return acquire(&latch->object_, S, 1, PLAIN, 0, 0); }
 aqs_status_t aqs_latch_await_interruptibly(aqs_latch_t *latch) {
     return acquire(&latch->object_, S, 1, INTERRUPTIBLE, 0, 0);

@@ -32,12 +32,30 @@
      whose effect another thread has seen may still be on its way out: a close waits for that. So a thread may
      close a lock as soon as it was the last to unlock it, a latch as soon as it has passed it, and a
      semaphore as soon as it has the last permit.
-   - No call is made from a signal handler, or from the forked child of a process with threads.
+   - No call is made from a signal handler, but for four (see below).
    - No thread is cancelled or killed in a call: the object would be busy for good.
 
    Times are in milliseconds from the call on, by CLOCK_MONOTONIC. A call may return later than that, but not
    earlier, not even by a part of a millisecond. With 0 it doesn't wait. There is no number for "without end":
    use the call without a time.
+
+   Forks. While a process forks, no thread changes an object. In the child the thread that forked is alone:
+   what others held stays held, and those that waited stay in line. So there it may use what it held at the
+   fork, which pthread_atfork serves for, and what nobody held, unless that is fair and somebody waited.
+
+   Signals. A handler may call aqs_sem_release and aqs_latch_count_down, as sem_post: if the object was
+   opened with AQS_TRIM and has had its first call, and the thread has called the library before. Then they
+   ask for no memory, and errno is as it was. If the handler has interrupted a call of the library, its
+   release may be made at the end of that call's turn: AQS_OK says only that it will be, and if it is refused
+   then, the program ends. AQS_OUT_OF_MEMORY: 16 such releases are still to be made. A handler may also call
+   aqs_thread_self and aqs_thread_interrupt, if the thread has called the library before.
+
+   Signals end no wait, unless an object is opened with heeds_handlers. Then a handler that runs while a
+   thread sleeps in an interruptible or timed call ends the call: AQS_HANDLER_RAN, unless the thread has got
+   what it asked for. It has left the queue, and owns the lock of a condition again. As with EINTR of sem_wait
+   on Linux, a handler that was set with SA_RESTART ends timed calls alone, and one that runs just before the
+   thread sleeps ends nothing. A handler that is to end the wait whenever it runs interrupts its own thread by
+   aqs_thread_interrupt(aqs_thread_self()): AQS_INTERRUPTED, at any object.
 
    Tools. ThreadSanitizer sees the order that calls make, whatever the library was compiled with. So does
    helgrind, if its header was there when the library was built: its messages about the library itself are
@@ -96,8 +114,10 @@ typedef enum {
     AQS_TOO_MANY_THREADS,  /* as many threads as the object has seats hold it or wait for it */
     AQS_NO_SPACE,          /* the buffer is too small */
     AQS_IO_ERROR,          /* the file couldn't be written */
-    AQS_MISUSE             /* the thread is already in a call of the object, a condition is used with two
+    AQS_MISUSE,            /* the thread is already in a call of the object, a condition is used with two
                               locks, or memory was damaged */
+    AQS_HANDLER_RAN        /* a signal handler ran while the thread waited. Each call that may return
+                              AQS_INTERRUPTED may return this, if its object heeds handlers */
 } aqs_status_t;
 
 /* Returns the name of a status, as "AQS_OK", or "no status". It is never NULL and lasts for good. */
@@ -116,11 +136,14 @@ typedef enum { AQS_TRIM, AQS_REFUSE } aqs_when_full_t;
 typedef struct {
     aqs_policy_t policy;       /* default AQS_NONFAIR. A latch ignores it */
     aqs_when_full_t when_full; /* default AQS_TRIM */
-    uint32_t history;          /* the most entries that are kept, at least 16. Default 8192 with AQS_TRIM, and
-                                  4294967295 with AQS_REFUSE. Memory is taken as entries come: 12 bytes each */
+    uint32_t history;          /* the most entries that are kept, at least 16. Default 1024 with AQS_TRIM, and
+                                  4294967295 with AQS_REFUSE. Memory is taken as entries come, for 1,024 at a
+                                  time: 12 bytes each. Each hold of a lock and each waiter keeps room for the
+                                  entries that end it */
     uint16_t threads;          /* its seats: how many threads can hold it or wait for it at a time, 1 to
                                   AQS_THREADS. Default AQS_THREADS. Each takes memory */
     uint8_t conditions;        /* of a lock or a read-write lock, 1 to 16. Default 1. Else 0 */
+    aqs_bool_t heeds_handlers; /* whether a signal handler ends waits (see above). By default it doesn't */
 } aqs_options_t;
 
 /* What an object is made of is its own, and may change with a version. It is written here so that an object
@@ -128,9 +151,10 @@ typedef struct {
 typedef struct aqs_object {
     struct aqs_seat *seats_;
     int32_t number_;
-    uint16_t count_, bound_;
+    uint16_t count_;
     uint8_t kind_, conditions_, policy_;
-    aqs_bool_t keeps_, is_ours_;
+    aqs_bool_t keeps_, heeds_handlers_, is_ours_;
+    uint16_t users_[AQS_CONDITIONS];
 } aqs_object_t;
 
 typedef struct aqs_lock {
@@ -150,6 +174,7 @@ typedef struct aqs_mutex {
 } aqs_mutex_t;
 typedef struct aqs_cond {
     aqs_lock_t *lock_;
+    struct aqs_ticket *first_, *last_;
     uint32_t waiters_;
     uint8_t number_;
 } aqs_cond_t;
@@ -159,13 +184,13 @@ typedef struct aqs_barrier aqs_barrier_t;
    AQS_OUT_OF_MEMORY if it can't, and the next call tries again. It has the default options, and
    AQS_CONDITIONS conditions if it has any. A lock and a mutex may also be set to bytes 0. A close frees what
    the object took, and it opens again at the next call. */
-#define AQS_OBJECT_INIT_(kind, number) {NULL, number, 0, 0, kind, 0, 0, 0, 0}
+#define AQS_OBJECT_INIT_(kind, number) {NULL, number, 0, kind, 0, 0, 0, 0, 0, {0}}
 #define AQS_LOCK_INIT {AQS_OBJECT_INIT_(0, 0)}
 #define AQS_RWLOCK_INIT {AQS_OBJECT_INIT_(1, 0)}
 #define AQS_SEM_INIT(permits) {AQS_OBJECT_INIT_(2, permits)}
 #define AQS_LATCH_INIT(count) {AQS_OBJECT_INIT_(3, count)}
 #define AQS_MUTEX_INIT {AQS_LOCK_INIT}
-#define AQS_COND_INIT {NULL, 0, 0}
+#define AQS_COND_INIT {NULL, NULL, NULL, 0, 0}
 
 /* Threads ------------------------------------------------------------------------------------------------ */
 
@@ -356,15 +381,18 @@ aqs_lock_t *aqs_mutex_as_lock(aqs_mutex_t *mutex);
 
 /* A condition that belongs to no lock until a thread waits: aqs_cond_t ready = AQS_COND_INIT; It needs no
    opening and no closing. While threads wait it has a number of their lock, and afterwards it may be used
-   with another lock. A lock has as many of these in use at a time as it was opened with conditions, at most
-   AQS_CONDITIONS. They take its numbers from the highest down: use numbers of the same lock only below
-   those.
+   with another lock. Any number of them may be in use at a time. If those of a lock are more than the
+   conditions that it was opened with, some share a number: a signal of one of these wakes all who wait by
+   the number, and those for whom it wasn't wait again, after the others. They take the numbers of the lock
+   from the highest down: use numbers of the same lock only below those.
 
    The caller owes that all who wait at a time wait with one lock, and that this lock lasts as long as calls
    of the condition.
 
-   The waits do and return what those of the lock do. Besides, AQS_NO_SUCH_CONDITION: all conditions of the
-   lock are in use. AQS_MISUSE: others wait with another lock. */
+   The waits do and return what those of the lock do. Besides, AQS_MISUSE: others wait with another lock. If a
+   signal is for a thread whose time is up, or that is interrupted, and that doesn't own the lock again yet,
+   its wait returns AQS_OK, and the interrupt stays pending. So it does after a signal handler, of which
+   nothing stays. */
 AQS_CHECKED aqs_status_t aqs_cond_wait(aqs_cond_t *condition, aqs_lock_t *lock);
 AQS_CHECKED aqs_status_t aqs_cond_wait_interruptibly(aqs_cond_t *condition, aqs_lock_t *lock);
 AQS_CHECKED aqs_status_t aqs_cond_timedwait(aqs_cond_t *condition, aqs_lock_t *lock, uint32_t milliseconds);

@@ -14,7 +14,8 @@
 // Locks, semaphores and latches without options may be static: they open at their first call, by constant
 // initialisation. One in use can't be moved, and so has no move.
 //
-// What can't be done throws aqs::error, which has the status. Timeouts, interrupts and tries return false.
+// What can't be done throws aqs::error, which has the status. Timeouts, interrupts and tries return false. So
+// do waits that a signal handler ended, of an object that was opened with handlers_end_waits().
 // With AQS_NO_EXCEPTIONS, or if the compiler makes no exceptions, what can't be done ends the program.
 //
 // A time may be of any length: one that is longer than a call of aqs.h takes is waited for in pieces.
@@ -64,6 +65,7 @@ public:
             case AQS_OUT_OF_RANGE: return std::errc::invalid_argument;
             case AQS_TOO_MANY_THREADS: return std::errc::resource_unavailable_try_again;
             case AQS_IO_ERROR: return std::errc::io_error;
+            case AQS_HANDLER_RAN: return std::errc::interrupted;
             default: return std::error_condition(status, *this);
         }
     }
@@ -93,6 +95,7 @@ struct options : aqs_options_t {
     options &most_entries(std::uint32_t entries) { history = entries; return *this; }
     options &most_threads(std::uint16_t number) { threads = number; return *this; }
     options &has_conditions(std::uint8_t number) { conditions = number; return *this; }
+    options &handlers_end_waits() { heeds_handlers = true; return *this; }
 };
 
 namespace detail {
@@ -108,6 +111,7 @@ inline void check(aqs_status_t status) {
 // Whether it has what it asked for; false where it may end without.
 inline bool check_taken(aqs_status_t status) {
     if (status == AQS_TIMED_OUT || status == AQS_INTERRUPTED || status == AQS_WOULD_BLOCK) return false;
+    if (status == AQS_HANDLER_RAN) return false;
     check(status);
     return true;
 }

@@ -8,7 +8,8 @@
      or an atomic that one thread releases and the other acquires then orders its calls.
    - Pointers are aligned and not null, and what they point to is nobody else's during the call.
    - The memory of an answer or of a contention has 0 or 1 in each field of type bool, also before the call.
-   - No call is made from a signal handler, nor from the forked child of a process with threads.
+   - No call is made from a signal handler that has interrupted a call of this library, nor from the forked
+     child of a process that had a thread in one.
    - malloc, realloc and free come from one allocator, whose blocks are aligned to 16 bytes.
    Everything else is tested: a number out of range has an answer, and changes nothing. */
 #ifndef AQS_CORE_H

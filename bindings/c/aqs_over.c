@@ -6,6 +6,7 @@
 #include <stdatomic.h>
 #include <stdbool.h>
 #include <stdlib.h>
+#include <time.h>
 
 /* A mutex ------------------------------------------------------------------------------------------------ */
 
@@ -83,88 +84,166 @@ aqs_lock_t *aqs_mutex_as_lock(aqs_mutex_t *mutex) { return &mutex->lock_; }
 
 /* A condition as an object ------------------------------------------------------------------------------- */
 
-/* `lock_` is the lock with which threads wait, or NULL. The rest of a condition, and `bound_` of the lock,
-   which says which numbers are in use, are read and changed by the owner of that lock. */
+/* `lock_` is the lock with which threads wait, or NULL. The rest of a condition, and `users_` of the lock,
+   which says how many conditions have each of its numbers, are read and changed by the owner of that lock.
+
+   Each wait has a ticket, and a signal marks the tickets that it is for. The tickets that no signal is for
+   have the order of the lock's own queue of the number. If a number has several conditions, a signal wakes
+   all who wait by it. Those whose tickets have no mark wait again, after the others. */
+typedef struct aqs_ticket {
+    struct aqs_ticket *next;
+    bool is_marked;
+} ticket_t;
 
 static aqs_lock_t *lock_of(const aqs_cond_t *condition) {
     return __atomic_load_n(&condition->lock_, __ATOMIC_RELAXED);
 }
 
-/* The highest number that is not in use, or AQS_CONDITIONS. */
-static uint8_t free_number(const aqs_object_t *object) {
-    for (uint8_t number = object->conditions_; number-- > 0;) {
-        if (!(object->bound_ >> number & 1)) return number;
+static void append(aqs_cond_t *condition, ticket_t *ticket) {
+    *ticket = (ticket_t){NULL, false};
+    if (condition->last_) condition->last_->next = ticket;
+    else condition->first_ = ticket;
+    condition->last_ = ticket;
+}
+
+static void take_out(aqs_cond_t *condition, const ticket_t *ticket) {
+    ticket_t *before = NULL, *it = condition->first_;
+    for (; it != ticket; it = it->next) before = it;
+    if (before) before->next = it->next;
+    else condition->first_ = it->next;
+    if (condition->last_ == it) condition->last_ = before;
+}
+
+static void move_to_the_end(aqs_cond_t *condition, ticket_t *ticket) {
+    take_out(condition, ticket);
+    append(condition, ticket);
+}
+
+/* The number that the fewest conditions have, the highest of those. */
+static uint8_t number_for_one_more(const aqs_object_t *object) {
+    uint8_t best = (uint8_t)(object->conditions_ - 1);
+    for (uint8_t number = best; number-- > 0;) {
+        if (object->users_[number] < object->users_[best]) best = number;
     }
-    return AQS_CONDITIONS;
+    return best;
 }
 
 /* The owner of the lock is about to wait. */
 static aqs_status_t bind_to(aqs_cond_t *condition, aqs_lock_t *lock) {
     aqs_lock_t *other = NULL;
-    uint8_t number = free_number(&lock->object_);
     if (lock_of(condition) == lock) return AQS_OK;
-    if (number == AQS_CONDITIONS) return AQS_NO_SUCH_CONDITION;
     if (!__atomic_compare_exchange_n(
             &condition->lock_, &other, lock, false, __ATOMIC_ACQUIRE, __ATOMIC_RELAXED))
         return AQS_MISUSE;
-    condition->number_ = number;
-    lock->object_.bound_ |= (uint16_t)(1u << number);
+    condition->number_ = number_for_one_more(&lock->object_);
+    lock->object_.users_[condition->number_]++;
     return AQS_OK;
 }
 
 /* The owner of the lock was the last that waited. */
 static void unbind(aqs_cond_t *condition, aqs_lock_t *lock) {
-    lock->object_.bound_ &= (uint16_t)~(1u << condition->number_);
+    lock->object_.users_[condition->number_]--;
     __atomic_store_n(&condition->lock_, NULL, __ATOMIC_RELEASE);
 }
 
-static aqs_status_t begin_wait(aqs_cond_t *condition, aqs_lock_t *lock) {
-    if (!aqs_lock_is_mine(lock)) return AQS_NOT_OWNER;
-    aqs_status_t status = bind_to(condition, lock);
-    if (status == AQS_OK) condition->waiters_++;
-    return status;
+/* How a thread waits, and with a time also until when. */
+typedef struct {
+    enum { PLAIN, INTERRUPTIBLE, TIMED } how;
+    struct timespec until;
+} limits_t;
+
+static limits_t limits_of_time(uint32_t milliseconds) {
+    limits_t limits = {.how = TIMED};
+    clock_gettime(CLOCK_MONOTONIC, &limits.until);
+    limits.until.tv_sec += (time_t)(milliseconds / 1000);
+    limits.until.tv_nsec += (long)(milliseconds % 1000) * 1000000;
+    if (limits.until.tv_nsec >= 1000000000) limits.until.tv_sec++, limits.until.tv_nsec -= 1000000000;
+    return limits;
 }
 
-/* However the wait ended, the thread owns the lock again. */
-static aqs_status_t end_wait(aqs_cond_t *condition, aqs_lock_t *lock, aqs_status_t status) {
+/* What is left of a time, rounded up. */
+static uint32_t milliseconds_until(const struct timespec *until) {
+    struct timespec now;
+    clock_gettime(CLOCK_MONOTONIC, &now);
+    int64_t left = (int64_t)(until->tv_sec - now.tv_sec) * 1000000000 + (until->tv_nsec - now.tv_nsec);
+    return left <= 0 ? 0 : (uint32_t)((left + 999999) / 1000000);
+}
+
+static aqs_status_t wait_by_number(aqs_lock_t *lock, uint8_t number, const limits_t *limits) {
+    switch (limits->how) {
+        case PLAIN: return aqs_lock_wait(lock, number);
+        case INTERRUPTIBLE: return aqs_lock_wait_interruptibly(lock, number);
+        default: return aqs_lock_timedwait(lock, number, milliseconds_until(&limits->until));
+    }
+}
+
+/* Waits until the ticket has a mark, or the wait ends otherwise. However that was, the thread owns the lock
+   again. A mark counts, whatever the time was and who interrupted: then the interrupt stays pending. */
+static aqs_status_t wait_for_mark(aqs_cond_t *condition, aqs_lock_t *lock, const limits_t *limits) {
+    ticket_t ticket;
+    aqs_status_t status;
+    append(condition, &ticket);
+    while ((status = wait_by_number(lock, condition->number_, limits)) == AQS_OK && !ticket.is_marked)
+        move_to_the_end(condition, &ticket);
+    if (!ticket.is_marked) {
+        take_out(condition, &ticket);
+        return status;
+    }
+    if (status == AQS_INTERRUPTED) aqs_or_abort(aqs_thread_interrupt(aqs_thread_self()), "aqs_cond_wait");
+    return AQS_OK;
+}
+
+static aqs_status_t wait_on(aqs_cond_t *condition, aqs_lock_t *lock, limits_t limits) {
+    if (!aqs_lock_is_mine(lock)) return AQS_NOT_OWNER;
+    aqs_status_t status = bind_to(condition, lock);
+    if (status != AQS_OK) return status;
+    condition->waiters_++;
+    status = wait_for_mark(condition, lock, &limits);
     if (--condition->waiters_ == 0) unbind(condition, lock);
     return status;
 }
 
 aqs_status_t aqs_cond_wait(aqs_cond_t *condition, aqs_lock_t *lock) {
-    aqs_status_t status = begin_wait(condition, lock);
-    if (status != AQS_OK) return status;
-    return end_wait(condition, lock, aqs_lock_wait(lock, condition->number_));
+    return wait_on(condition, lock, (limits_t){.how = PLAIN});
 }
 
 aqs_status_t aqs_cond_wait_interruptibly(aqs_cond_t *condition, aqs_lock_t *lock) {
-    aqs_status_t status = begin_wait(condition, lock);
-    if (status != AQS_OK) return status;
-    return end_wait(condition, lock, aqs_lock_wait_interruptibly(lock, condition->number_));
+    return wait_on(condition, lock, (limits_t){.how = INTERRUPTIBLE});
 }
 
 aqs_status_t aqs_cond_timedwait(aqs_cond_t *condition, aqs_lock_t *lock, uint32_t milliseconds) {
-    aqs_status_t status = begin_wait(condition, lock);
-    if (status != AQS_OK) return status;
-    return end_wait(condition, lock, aqs_lock_timedwait(lock, condition->number_, milliseconds));
+    return wait_on(condition, lock, limits_of_time(milliseconds));
 }
 
-/* Signals by a call of the lock, which the thread owns or acquires. Before it does, the last may have left.
-   */
-static aqs_status_t signal_by(aqs_status_t (*call)(aqs_lock_t *, uint8_t), aqs_cond_t *condition) {
+/* Marks the first ticket, or all, and wakes who has them. The thread owns the lock. */
+static aqs_status_t signal_marked(aqs_cond_t *condition, aqs_lock_t *lock, bool is_for_all) {
+    bool is_shared = lock->object_.users_[condition->number_] > 1;
+    if (!condition->first_) return AQS_OK;
+    aqs_status_t status = is_for_all || is_shared ? aqs_lock_signal_all(lock, condition->number_)
+                                                  : aqs_lock_signal(lock, condition->number_);
+    if (status != AQS_OK) return status;
+    do {
+        condition->first_->is_marked = true;
+        take_out(condition, condition->first_);
+    } while (is_for_all && condition->first_);
+    return AQS_OK;
+}
+
+/* The thread owns the lock, or acquires it. Before it does, the last may have left. */
+static aqs_status_t signal_by(aqs_cond_t *condition, bool is_for_all) {
     aqs_lock_t *lock = lock_of(condition);
     if (!lock) return AQS_OK;
-    if (aqs_lock_is_mine(lock)) return call(lock, condition->number_);
+    if (aqs_lock_is_mine(lock)) return signal_marked(condition, lock, is_for_all);
     aqs_status_t status = aqs_lock_lock(lock);
     if (status != AQS_OK) return status;
-    if (lock_of(condition) == lock) status = call(lock, condition->number_);
+    if (lock_of(condition) == lock) status = signal_marked(condition, lock, is_for_all);
     aqs_or_abort(aqs_lock_unlock(lock), "aqs_cond_signal");
     return status;
 }
 
-aqs_status_t aqs_cond_signal(aqs_cond_t *condition) { return signal_by(aqs_lock_signal, condition); }
+aqs_status_t aqs_cond_signal(aqs_cond_t *condition) { return signal_by(condition, false); }
 
-aqs_status_t aqs_cond_signal_all(aqs_cond_t *condition) { return signal_by(aqs_lock_signal_all, condition); }
+aqs_status_t aqs_cond_signal_all(aqs_cond_t *condition) { return signal_by(condition, true); }
 
 /* A barrier ---------------------------------------------------------------------------------------------- */
 

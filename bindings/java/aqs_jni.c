@@ -13,6 +13,7 @@ _Static_assert(
         AQS_TOO_MANY_HOLDS == 5 && AQS_TOO_MANY_PERMITS == 6 && AQS_HOLDS_READ == 7 && AQS_BAD_AMOUNT == 9 &&
         AQS_OUT_OF_MEMORY == 11 && AQS_OUT_OF_RANGE == 12,
     "the statuses are those of Native.java");
+_Static_assert(AQS_NONFAIR == 0 && AQS_FAIR == 1 && AQS_STRICT == 2, "the policies are those of AqsPolicy.java");
 
 #define NATIVE(result, name) JNIEXPORT result JNICALL Java_aqs_Native_##name
 

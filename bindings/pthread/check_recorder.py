@@ -91,15 +91,20 @@ def check_rare_cases(tests):
     tests.count("a fault isn't written to a file of the program", told[1] == "0 bytes\n", str(told))
 
 
-def check_folded(tests):
-    """Histories that keep few entries have a base, or begin anew, and are legal."""
-    folder = tests.histories("record-folded")
-    told = ran([RECORD, "-o", folder, "-k", "64", "--", PROGRAM, "40", "60"])
-    tests.count("a recorded program that keeps few entries", told[0] == 0, str(told))
-    tests.audit("few entries", f"{folder}/*")
+def longest_kept(tests, keeps):
+    """How many lines the longest history has of a program that keeps so many entries of each object."""
+    folder = tests.histories(f"record-keeps-{keeps}")
+    told = ran([RECORD, "-o", folder, "-k", keeps, "--", PROGRAM, "40", "60"])
+    tests.count(f"a recorded program that keeps {keeps} entries", told[0] == 0, str(told))
+    tests.audit(f"{keeps} entries", f"{folder}/*")
     texts = [pathlib.Path(file).read_text() for file in glob.glob(f"{folder}/*/*.history")]
-    longest = max((text.count("\n") for text in texts), default=0)
-    tests.count("they are no longer than they may be", 0 < longest < 6000, str(longest))
+    return max((text.count("\n") for text in texts), default=0)
+
+
+def check_folded(tests):
+    """Histories that keep few entries have a base, or begin anew, and are legal. More than C can count are not few."""
+    few, many = longest_kept(tests, "64"), longest_kept(tests, str(2**32))
+    tests.count("they are no longer than they may be", 0 < few < 6000 < many, f"{few} {many}")
 
 
 def waiting(folder, judged):

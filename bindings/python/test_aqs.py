@@ -26,6 +26,7 @@ HEADER = HERE.parent / "c" / "aqs.h"
 NUMBERS = {
     "uint8_t": ctypes.c_uint8, "uint32_t": ctypes.c_uint32, "int32_t": ctypes.c_int32,
     "size_t": ctypes.c_size_t, "aqs_thread_t": ctypes.c_uint32, "aqs_status_t": ctypes.c_int,
+    "aqs_policy_t": ctypes.c_uint,
     "bool": ctypes.c_bool, "aqs_bool_t": ctypes.c_bool, "void": None,
 }
 KINDS = (aqs.RLock, aqs.Lock, aqs.Semaphore, aqs.BoundedSemaphore)
@@ -253,6 +254,19 @@ class Objects(Tests):
                 self.assertEqual((len(given), len(refused)), (taken, 160 - taken))
                 self.assertEqual(permits.available(), taken)
 
+    def test_a_release_that_is_refused_may_be_made_again(self):
+        for kind in (aqs.Lock, aqs.BoundedSemaphore):
+            with self.subTest(kind):
+                permits = kind(keep_history=True, most_entries=16)
+                permits.acquire()
+                with self.assertRaises(aqs.HistoryFull):
+                    for _ in range(20):
+                        permits.acquire(False)
+                self.assertRaises(aqs.HistoryFull, permits.release)
+                self.assertEqual(permits.trim(), 16)
+                permits.release()
+                self.assertEqual(permits.available(), 1)
+
     def test_latch(self):
         latch = aqs.CountDownLatch(2, keep_history=True)
         threads = run_all(2, lambda _number: latch.wait())
@@ -284,6 +298,17 @@ class Objects(Tests):
                         self.assertEqual(in_other(lambda: self.counts(thing, side)), (True, waiting, waiting))
                 join_all(threads)
                 self.assertEqual(self.counts(thing, side), (False, 0, 0))
+
+    def test_a_lock_counts_the_holds_of_a_thread(self):
+        both = aqs.RWLock()
+        for lock in (aqs.RLock(), both.read, both.write):
+            with self.subTest(lock):
+                self.assertEqual(lock.holds(), 0)
+                with lock, lock:
+                    self.assertEqual((lock.holds(), in_other(lock.holds)), (2, 0))
+                self.assertEqual(lock.holds(), 0)
+        with both.write, both.read:
+            self.assertEqual((both.write.holds(), both.read.holds()), (1, 1))
 
     def test_a_lock_counts_those_on_its_conditions(self):
         both = aqs.RWLock()
@@ -319,6 +344,12 @@ class Objects(Tests):
         barrier.wait()
         join_all(threads)
         self.assertEqual([(thing.queue_length(), thing.waiters()) for thing in things], [(0, 0)] * 5)
+
+    def test_each_object_knows_its_policy(self):
+        for policy in aqs.Policy:
+            things = (aqs.RLock, aqs.Lock, aqs.RWLock, aqs.Semaphore, aqs.BoundedSemaphore, aqs.Event)
+            self.assertEqual([thing(policy=policy).policy() for thing in things], [policy] * len(things))
+        self.assertEqual([aqs.RLock().policy(), aqs.CountDownLatch(1).policy()], [aqs.Policy.NONFAIR] * 2)
 
     def test_questions_take_a_seat_and_record_nothing(self):
         lock = aqs.RLock(threads=1, keep_history=True, most_entries=16)

@@ -7,13 +7,16 @@ _aqs() {
         return
     fi
     case ${COMP_WORDS[1]} in
-        replay) options="--history" ;;
-        explain) options="--at" ;;
-        draw) options="--page --from --to" ;;
+        replay) options="--history --output" ;;
+        audit) options="--json --output" ;;
+        explain) options="--at --json --output" ;;
+        summary) options="--json --output" ;;
+        draw) options="--page --from --to --output" ;;
+        run) options="--timeout --object --dir --output" ;;
         manual) COMPREPLY=($(compgen -W "replay audit explain summary draw run" -- "$word")); return ;;
         about) return ;;
     esac
-    case $before in --at|--from|--to) return ;; esac
+    case $before in --at|--from|--object|--timeout|--to) return ;; esac
     case $word in
         -*) COMPREPLY=($(compgen -W "$options" -- "$word")) ;;
         *) mapfile -t COMPREPLY < <(compgen -f -- "$word") ;;

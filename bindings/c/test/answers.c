@@ -283,9 +283,9 @@ static const struct {
     aqs_options_t options;
     aqs_header_t wanted; /* of a lock */
 } headers[] = {
-    {{0}, {.cap = 8192, .seats = AQS_THREADS, .conditions = 1, .policy = AQS_CORE_NONFAIR}},
-    {{.policy = AQS_FAIR}, {.cap = 8192, .seats = AQS_THREADS, .conditions = 1, .policy = AQS_CORE_FAIR}},
-    {{.policy = AQS_STRICT}, {.cap = 8192, .seats = AQS_THREADS, .conditions = 1, .policy = AQS_CORE_STRICT}},
+    {{0}, {.cap = 1024, .seats = AQS_THREADS, .conditions = 1, .policy = AQS_CORE_NONFAIR}},
+    {{.policy = AQS_FAIR}, {.cap = 1024, .seats = AQS_THREADS, .conditions = 1, .policy = AQS_CORE_FAIR}},
+    {{.policy = AQS_STRICT}, {.cap = 1024, .seats = AQS_THREADS, .conditions = 1, .policy = AQS_CORE_STRICT}},
     {{.when_full = AQS_REFUSE},
      {.cap = UINT32_MAX, .seats = AQS_THREADS, .conditions = 1, .policy = AQS_CORE_NONFAIR}},
     {{.history = 15}, {.cap = 15, .seats = AQS_THREADS, .conditions = 1, .policy = AQS_CORE_NONFAIR}},
@@ -294,13 +294,13 @@ static const struct {
      {.cap = UINT32_MAX, .seats = AQS_THREADS, .conditions = 1, .policy = AQS_CORE_NONFAIR}},
     {{.when_full = AQS_REFUSE, .history = 70000},
      {.cap = 70000, .seats = AQS_THREADS, .conditions = 1, .policy = AQS_CORE_NONFAIR}},
-    {{.threads = 1}, {.cap = 8192, .seats = 1, .conditions = 1, .policy = AQS_CORE_NONFAIR}},
-    {{.threads = 256}, {.cap = 8192, .seats = 256, .conditions = 1, .policy = AQS_CORE_NONFAIR}},
-    {{.threads = 257}, {.cap = 8192, .seats = 257, .conditions = 1, .policy = AQS_CORE_NONFAIR}},
-    {{.conditions = 16}, {.cap = 8192, .seats = AQS_THREADS, .conditions = 16, .policy = AQS_CORE_NONFAIR}},
-    {{.conditions = 17}, {.cap = 8192, .seats = AQS_THREADS, .conditions = 17, .policy = AQS_CORE_NONFAIR}},
+    {{.threads = 1}, {.cap = 1024, .seats = 1, .conditions = 1, .policy = AQS_CORE_NONFAIR}},
+    {{.threads = 256}, {.cap = 1024, .seats = 256, .conditions = 1, .policy = AQS_CORE_NONFAIR}},
+    {{.threads = 257}, {.cap = 1024, .seats = 257, .conditions = 1, .policy = AQS_CORE_NONFAIR}},
+    {{.conditions = 16}, {.cap = 1024, .seats = AQS_THREADS, .conditions = 16, .policy = AQS_CORE_NONFAIR}},
+    {{.conditions = 17}, {.cap = 1024, .seats = AQS_THREADS, .conditions = 17, .policy = AQS_CORE_NONFAIR}},
     {{.policy = 3},
-     {.cap = 8192, .seats = AQS_THREADS, .conditions = 1, .policy = UINT8_MAX, .kind = UINT8_MAX}},
+     {.cap = 1024, .seats = AQS_THREADS, .conditions = 1, .policy = UINT8_MAX, .kind = UINT8_MAX}},
 };
 
 static void is_header(size_t row, uint8_t kind, int32_t number) {

@@ -6,6 +6,7 @@
 #include "aqs_core.h"
 
 #include <pthread.h>
+#include <signal.h>
 #include <stdatomic.h>
 
 void __real_aqs_step_now(aqs_pass_t *pass, aqs_step_t step, aqs_answer_t *answer);
@@ -27,9 +28,18 @@ static void begin_slowly(void) {
     if (is_slow) atomic_store(&is_under_way, true);
 }
 
+/* A thread whose next turn a signal interrupts. The handler leaves a post, which is made as the call leaves its
+   object: some while later, in which another thread closes that object. */
+static _Thread_local enum { NO_POST, IS_INTERRUPTED, MAKES_A_POST } post;
+
 void __wrap_aqs_step_now(aqs_pass_t *pass, aqs_step_t step, aqs_answer_t *answer) {
     begin_slowly();
+    if (post == MAKES_A_POST) usleep(20000);
     __real_aqs_step_now(pass, step, answer);
+    if (post == IS_INTERRUPTED) {
+        CHECK(raise(SIGUSR1) == 0);
+        post = MAKES_A_POST;
+    }
     end_slowly(pass);
 }
 
@@ -167,6 +177,43 @@ static void one_waiter(void) {
     CHECK(pthread_join(thread, NULL) == 0);
 }
 
+/* A thread opens a latch for one that waits there, and leaves it. Before it wakes that one, its time is up, it
+   passes, and closes the latch. */
+
+static aqs_sem_t *of_handler;
+
+static void on_signal(int number) {
+    (void)number;
+    IS(aqs_sem_release(of_handler, 1), AQS_OK);
+}
+
+static void *open_for_one(void *none) {
+    aqs_object_t *of = aqs_latch_object(object);
+    for (uint32_t count = 0; count == 0; usleep(10)) IS(aqs_object_queue_length(of, &count), AQS_OK);
+    post = IS_INTERRUPTED;
+    IS(aqs_latch_count_down(object), AQS_OK);
+    CHECK(post == MAKES_A_POST);
+    return none;
+}
+
+static void before_it_is_woken(void) {
+    struct sigaction action = {.sa_handler = on_signal};
+    aqs_latch_t *latch;
+    pthread_t thread;
+    aqs_status_t status;
+    CHECK(sigaction(SIGUSR1, &action, NULL) == 0);
+    IS(aqs_sem_open(&of_handler, 0, &options), AQS_OK);
+    IS(aqs_latch_open(&latch, 1, &options), AQS_OK);
+    object = latch;
+    CHECK(pthread_create(&thread, NULL, open_for_one, NULL) == 0);
+    while ((status = aqs_latch_timedawait(latch, 5)) == AQS_TIMED_OUT) continue;
+    IS(status, AQS_OK);
+    aqs_latch_close(latch);
+    CHECK(pthread_join(thread, NULL) == 0);
+    IS(aqs_sem_tryacquire(of_handler, 1), AQS_OK);
+    aqs_sem_close(of_handler);
+}
+
 static void round_of_all(void) {
     one_latch(false);
     one_latch(true);
@@ -180,6 +227,7 @@ int main(void) {
     alarm(100);
     is_slow_round = true;
     for (int i = 0; i < 5; i++) round_of_all();
+    for (int i = 0; i < 5; i++) before_it_is_woken();
     is_slow_round = false;
     for (int i = 0; i < 300; i++) round_of_all();
     puts("closes: good");

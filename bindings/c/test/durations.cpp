@@ -136,6 +136,16 @@ static int early(Call call) {
     return found;
 }
 
+// A clock that shows half of the time that passes.
+struct slow_clock {
+    typedef steady_clock::duration duration;
+    typedef duration::rep rep;
+    typedef duration::period period;
+    typedef std::chrono::time_point<slow_clock> time_point;
+    static constexpr bool is_steady = true;
+    static time_point now() { return time_point(steady_clock::now().time_since_epoch() / 2); }
+};
+
 static void never_early() {
     aqs::semaphore permits(0);
     aqs::mutex mutex, own;
@@ -159,10 +169,12 @@ static void never_early() {
         });
         typedef system_clock::time_point date_t;
         found += early<system_clock>([&](date_t moment) { return mutex.try_lock_until(moment); });
+        typedef slow_clock::time_point late_t;
+        found += early<slow_clock>([&](late_t moment) { return permits.try_acquire_until(moment); });
     }).join();
     mutex.unlock();
     shared.unlock();
-    if (found) std::fprintf(stderr, "%d of 240 calls were early\n", found);
+    if (found) std::fprintf(stderr, "%d of 270 calls were early\n", found);
     CHECK(found == 0);
 }
 

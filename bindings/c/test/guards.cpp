@@ -4,6 +4,7 @@
 #include "check.h"
 
 #include <atomic>
+#include <csignal>
 #include <fstream>
 #include <queue>
 #include <shared_mutex>
@@ -325,6 +326,44 @@ static void condition_objects(const std::string &name) {
     keep(name, mutex.history());
 }
 
+// Waits that a signal handler ends, which return false. Signals are sent until the waits have ended: one that
+// comes before the sleep ends nothing.
+static std::atomic<bool> is_over;
+
+static void handle_until_over(std::thread &thread) {
+    while (!is_over) {
+        CHECK(pthread_kill(thread.native_handle(), SIGUSR1) == 0);
+        std::this_thread::sleep_for(1ms);
+    }
+    thread.join();
+}
+
+static void handlers() {
+    struct sigaction action = {};
+    action.sa_handler = [](int) {};
+    CHECK(sigaction(SIGUSR1, &action, nullptr) == 0);
+    const aqs::options how = aqs::options().handlers_end_waits();
+    aqs::semaphore permits(0, how);
+    aqs::latch latch(1, how);
+    aqs::mutex mutex(how);
+    aqs::condition_variable never;
+    is_over = false;
+    std::thread thread([&] {
+        CHECK(!permits.acquire_interruptibly());
+        CHECK(!permits.try_acquire_for(1h));
+        CHECK(!latch.wait_for(1h));
+        std::unique_lock guard(mutex);
+        CHECK(!never.wait_interruptibly(guard));
+        CHECK(!never.wait_for(guard, 1h, [] { return false; }));
+        CHECK(!mutex.condition().wait_interruptibly(guard));
+        CHECK(mutex.is_mine() && !aqs_thread_interrupted());
+        is_over = true;
+    });
+    handle_until_over(thread);
+    permits.release();
+    CHECK(permits.available() == 1);
+}
+
 // What std::errc calls the same.
 static void codes() {
     const struct {
@@ -344,6 +383,7 @@ static void codes() {
         {AQS_OUT_OF_RANGE, std::errc::invalid_argument},
         {AQS_TOO_MANY_THREADS, std::errc::resource_unavailable_try_again},
         {AQS_IO_ERROR, std::errc::io_error},
+        {AQS_HANDLER_RAN, std::errc::interrupted},
     };
     for (const auto &it : of) CHECK(aqs::error(it.status).code() == it.code);
 }
@@ -408,5 +448,6 @@ int main(int count, char **words) {
     condition_objects<aqs::plain_mutex>("guards-plain-conditions");
     errors();
     codes();
+    handlers();
     std::puts("guards: good");
 }

@@ -63,7 +63,7 @@ static void buffers(void) {
         CHECK(memcmp(buffer + written, before + written, sizeof buffer - written) == 0);
     }
     const char *wanted =
-        "aqs-history 1 semaphore nonfair seats 256 permits 4 cap 8192\n0 0 got s 3\nend 1 1\n";
+        "aqs-history 1 semaphore nonfair seats 256 permits 4 cap 1024\n0 0 got s 3\nend 1 1\n";
     CHECK(whole == strlen(wanted) && memcmp(buffer, wanted, whole) == 0);
     aqs_sem_close(semaphore);
 }

@@ -90,6 +90,30 @@ static void folds(void) {
     aqs_lock_close(lock);
 }
 
+/* Objects with the default options ask for no memory after their first calls, however long they are used. */
+static void default_options(void) {
+    static aqs_lock_t lock = AQS_LOCK_INIT;
+    static aqs_rwlock_t rwlock = AQS_RWLOCK_INIT;
+    static aqs_sem_t semaphore = AQS_SEM_INIT(5);
+    aqs_cond_t condition = AQS_COND_INIT;
+    long before = held, then = LONG_MAX;
+    for (int i = 0; i < 20000; i++) {
+        IS(aqs_lock_lock(&lock), AQS_OK);
+        IS(aqs_lock_timedwait(&lock, 0, 0), AQS_TIMED_OUT);
+        IS(aqs_cond_timedwait(&condition, &lock, 0), AQS_TIMED_OUT);
+        IS(aqs_lock_unlock(&lock), AQS_OK);
+        IS(aqs_rwlock_rdlock(&rwlock), AQS_OK);
+        IS(aqs_rwlock_rdunlock(&rwlock), AQS_OK);
+        IS(aqs_sem_acquire(&semaphore, 1), AQS_OK);
+        IS(aqs_sem_timedacquire(&semaphore, 5, 0), AQS_TIMED_OUT);
+        IS(aqs_sem_release(&semaphore, 1), AQS_OK);
+        if (i == 0) then = asked;
+        CHECK(asked == then);
+    }
+    aqs_lock_close(&lock), aqs_rwlock_close(&rwlock), aqs_sem_close(&semaphore);
+    CHECK(held == before);
+}
+
 /* A history that is written without memory leaves no block behind. */
 static void histories(void) {
     aqs_sem_t *semaphore;
@@ -117,6 +141,7 @@ int main(void) {
     opens(open_latch, close_latch);
     unlocks();
     folds();
+    default_options();
     histories();
     CHECK(held == 0);
     puts("memory: good");

@@ -6,6 +6,7 @@
      1 timedlock 20 ..      thread 1 makes the call, and sleeps in it
      1 = OK                 the call of thread 1 ends with this status
      1 waits                thread 1 still sleeps in its call
+     0 handle 1 = OK        a signal handler, which does nothing, has run in thread 1
      [8: 0 lock = OK; ..]   these lines 8 times
    A call that times out took its time at least. At the end no thread is in a call or has a pending interrupt,
    and the history is the one that is written. Threads have the numbers from 0. The main thread has none. */
@@ -21,6 +22,7 @@
 #include <fcntl.h>
 #include <pthread.h>
 #include <semaphore.h>
+#include <signal.h>
 #include <string.h>
 #include <sys/syscall.h>
 #include <time.h>
@@ -103,6 +105,10 @@ static aqs_status_t interrupted(int64_t *n) {
     *n = aqs_thread_interrupted();
     return AQS_OK;
 }
+static aqs_status_t handle(uint32_t thread, void (*handler)(int), int flags);
+static void do_nothing(int);
+static void interrupt_self(int);
+static void release_one(int);
 
 /* Each call: on what, by which word, which of its numbers is a time, and the call. */
 #define CALLS(X)                                                                     \
@@ -182,7 +188,11 @@ static aqs_status_t interrupted(int64_t *n) {
     X(ANY, text, 0, put_text(n))                                                     \
     X(ANY, self, 0, (*n = aqs_thread_self(), AQS_OK))                                \
     X(ANY, interrupt, 0, aqs_thread_interrupt((aqs_thread_t)a))                      \
-    X(ANY, interrupted, 0, interrupted(n))
+    X(ANY, interrupted, 0, interrupted(n))                                           \
+    X(ANY, handle, 0, handle(a, do_nothing, 0))                                      \
+    X(ANY, handle_restarting, 0, handle(a, do_nothing, SA_RESTART))                  \
+    X(ANY, handle_interrupting, 0, handle(a, interrupt_self, 0))                     \
+    X(SEM, handle_releasing, 0, handle(a, release_one, 0))
 
 typedef enum { LOCK, RW, SEM, LATCH, MUTEX, ANY } kind_t;
 
@@ -315,6 +325,32 @@ static bool ends_or_sleeps(const player_t *it, int milliseconds) {
     }
 }
 
+/* Signal handlers, and how often one has run. */
+static atomic_int handled;
+
+static void do_nothing(int number) {
+    (void)number;
+    atomic_fetch_add(&handled, 1);
+}
+static void interrupt_self(int number) {
+    IS(aqs_thread_interrupt(aqs_thread_self()), AQS_OK);
+    do_nothing(number);
+}
+static void release_one(int number) {
+    IS(aqs_sem_release(semaphore, 1), AQS_OK);
+    do_nothing(number);
+}
+
+/* Runs a signal handler in the thread of a player, and waits until that is over. */
+static aqs_status_t handle(uint32_t thread, void (*handler)(int), int flags) {
+    struct sigaction action = {.sa_handler = handler, .sa_flags = flags};
+    int before = atomic_load(&handled);
+    CHECK(sigaction(SIGUSR1, &action, NULL) == 0);
+    CHECK(pthread_kill(players[thread].thread, SIGUSR1) == 0);
+    while (atomic_load(&handled) == before) usleep(20);
+    return AQS_OK;
+}
+
 static bool ends(const player_t *it, int milliseconds) {
     int64_t until = nanoseconds(CLOCK_MONOTONIC) + milliseconds * INT64_C(1000000);
     while (atomic_load(&it->in_call)) {
@@ -371,7 +407,7 @@ static void play_words(kind_t kind, char **words, int count) {
         uint32_t b = numbers > 1 ? (uint32_t)strtoul(words[3], NULL, 10) : 0;
         ask(it, call_of(kind, words[1]), a, b);
         if (strcmp(last, "..") == 0) {
-            if (ends_or_sleeps(it, LIMIT)) FAIL("it is %s", aqs_status_name(it->status));
+            if (ends_or_sleeps(it, 10 * LIMIT)) FAIL("it is %s", aqs_status_name(it->status));
             return;
         }
     }
@@ -423,14 +459,15 @@ static void play_for(kind_t kind, int thread, const char *lines) {
 
 /* Objects ---------------------------------------------------------------------------------------------- */
 
-/* Reads what an object part says, and gives its number of permits or its count. "trims" behind it folds a
-   full history. */
+/* Reads what an object part says, and gives its number of permits or its count. "trims" after it folds a full
+   history, and with "heeds" the object heeds signal handlers. */
 static aqs_options_t options_of(char *words, int64_t *number) {
     aqs_options_t options = {.policy = AQS_NONFAIR, .when_full = AQS_REFUSE};
     for (char *word = strtok(words, " "); (word = strtok(NULL, " "));) {
         if (strcmp(word, "fair") == 0) options.policy = AQS_FAIR;
         else if (strcmp(word, "strict") == 0) options.policy = AQS_STRICT;
         else if (strcmp(word, "trims") == 0) options.when_full = AQS_TRIM;
+        else if (strcmp(word, "heeds") == 0) options.heeds_handlers = true;
         else if (strcmp(word, "nonfair") != 0) {
             long value = strtol(strtok(NULL, " "), NULL, 10);
             if (strcmp(word, "seats") == 0) options.threads = (uint16_t)value;
@@ -502,9 +539,10 @@ static void close_it(kind_t kind) {
 /* Writes the history text of entries that have "; " between two. */
 static void write_wanted(char *to, size_t size, const char *part, const char *entries) {
     int count = 0, calls = 0;
-    const char *trims = strstr(part, " trims"), *name = *part == 'm' ? "lock" : "";
+    const char *more = strstr(part, " trims"), *name = *part == 'm' ? "lock" : "";
+    if (!more) more = strstr(part, " heeds");
     part += *name ? strlen("mutex") : 0;
-    int part_length = (int)(trims ? (size_t)(trims - part) : strlen(part));
+    int part_length = (int)(more ? (size_t)(more - part) : strlen(part));
     size_t at = (size_t)snprintf(to, size, "aqs-history 1 %s%.*s\n", name, part_length, part);
     while (*entries) {
         char word[20] = "";

@@ -137,7 +137,7 @@ static const play_t plays[] = {
      "0 await 0 = NOT_OWNER; 0 await_interruptibly 0 = NOT_OWNER; 0 timedawait 0 1 = NOT_OWNER; "
      "0 notify 0 = OK; "
      "0 notify_all 0 = OK; 1 lock = OK; 1 lock = OK; 1 await 0 ..; 2 lock = OK; 2 await 1 ..; 0 lock = OK; "
-     "0 await 2 = NO_SUCH_CONDITION; 0 timedawait 2 1 = NO_SUCH_CONDITION; 0 holds = 1; 0 notify 2 = OK; "
+     "0 holds = 1; 0 notify 2 = OK; "
      "0 notify 1 = OK; 0 unlock = OK; 2 = OK; 2 unlock = OK; 1 waits; 3 lock = OK; "
      "3 timedawait 3 2 = TIMED_OUT; "
      "3 holds = 1; 3 unlock = OK; 0 notify 0 = OK; 1 = OK; 1 holds = 2; 1 unlock = OK; 1 unlock = OK",
@@ -148,7 +148,7 @@ static const play_t plays[] = {
     {"all who wait on it", "lock nonfair seats 8 conditions 1 cap 64",
      "1 lock = OK; 1 await 5 ..; 2 lock = OK; 2 timedawait 5 20000 ..; 3 lock = OK; "
      "3 await_interruptibly 5 ..; "
-     "4 lock = OK; 4 await 6 = NO_SUCH_CONDITION; 4 unlock = OK; 0 interrupt 3 = OK; 3 = INTERRUPTED; "
+     "4 lock = OK; 4 timedawait 6 1 = TIMED_OUT; 4 unlock = OK; 0 interrupt 3 = OK; 3 = INTERRUPTED; "
      "3 unlock = OK; 0 notify_all 6 = OK; 1 waits; 0 notify_all 5 = OK; 1 = OK; 1 notify 5 = OK; "
      "1 unlock = OK; 2 = OK; "
      "2 unlock = OK; 0 notify 5 = OK; 4 lock = OK; 4 timedawait 6 1 = TIMED_OUT; 4 unlock = OK", NULL},
@@ -158,6 +158,41 @@ static const play_t plays[] = {
      "0 notify 1 = OK; 3 = OK; 3 unlock = OK", NULL},
     {"it is free once it was left", "lock nonfair seats 3 conditions 16 cap 400",
      "[20: 1 lock = OK; 1 timedawait 0 0 = TIMED_OUT; 1 timedawait 1 0 = TIMED_OUT; 1 unlock = OK]", NULL},
+    {"two that share a number", "lock fair seats 6 conditions 1 cap 64",
+     "1 lock = OK; 1 await 0 ..; 2 lock = OK; 2 await 1 ..; 3 lock = OK; 3 lock = OK; 3 await 0 ..; "
+     "0 notify 1 = OK; 2 = OK; 2 holds = 1; 2 unlock = OK; 1 waits; 3 waits; 0 notify 1 = OK; "
+     "0 notify 0 = OK; 1 = OK; 1 unlock = OK; 3 waits; 0 notify 0 = OK; 3 = OK; 3 holds = 2; 3 unlock = OK; "
+     "3 unlock = OK; 0 notify 0 = OK",
+     "1 got x 1; 1 await 0 1; 2 got x 1; 2 await 0 1; 3 got x 1; 3 got x 1; 3 await 0 2; 0 got x 1; "
+     "0 signalall 0 3; 0 gave x 1; 1 back 0 1 signalled; 1 await 0 1; 2 back 0 1 signalled; 2 gave x 1; "
+     "3 back 0 2 signalled; 3 await 0 2; 0 got x 1; 0 signal 0 1; 0 gave x 1; 1 back 0 1 signalled; "
+     "1 gave x 1; 0 got x 1; 0 signal 0 1; 0 gave x 1; 3 back 0 2 signalled; 3 gave x 1; 3 gave x 1"},
+    {"all of one of two that share", "lock fair seats 6 conditions 1 cap 64",
+     "1 lock = OK; 1 await 0 ..; 2 lock = OK; 2 await 1 ..; 3 lock = OK; 3 await 1 ..; 0 notify_all 1 = OK; "
+     "2 = OK; 2 unlock = OK; 3 = OK; 3 unlock = OK; 1 waits; 0 notify_all 0 = OK; 1 = OK; 1 unlock = OK",
+     NULL},
+    {"one of two on a condition that shares", "lock fair seats 6 conditions 1 cap 64",
+     "1 lock = OK; 1 await 0 ..; 2 lock = OK; 2 await 1 ..; 3 lock = OK; 3 await 1 ..; 0 notify 1 = OK; "
+     "2 = OK; 2 unlock = OK; 3 waits; 1 waits; 0 notify 1 = OK; 3 = OK; 3 unlock = OK; 1 waits; "
+     "0 notify 0 = OK; 1 = OK; 1 unlock = OK", NULL},
+    {"who is woken in place of another waits after those that came since",
+     "lock fair seats 6 conditions 1 cap 64",
+     "1 lock = OK; 1 await 0 ..; 2 lock = OK; 2 await 1 ..; 3 lock = OK; 4 lock ..; 3 notify 1 = OK; "
+     "3 unlock = OK; 4 = OK; 4 await 0 ..; 2 = OK; 2 unlock = OK; 1 waits; 0 notify 0 = OK; 4 = OK; "
+     "4 unlock = OK; 1 waits; 0 notify 0 = OK; 1 = OK; 1 unlock = OK", NULL},
+    {"a time of one that shares", "lock fair seats 6 conditions 1 cap 400",
+     "2 lock = OK; 2 await 1 ..; 1 lock = OK; 1 timedawait 0 1500 ..; "
+     "[4: 0 notify 1 = OK; 2 = OK; 2 await 1 ..; 1 waits]; 1 = TIMED_OUT; 1 unlock = OK; "
+     "0 notify_all 1 = OK; 2 = OK; 2 unlock = OK", NULL},
+    {"an interrupt of one that shares", "lock fair seats 6 conditions 1 cap 64",
+     "2 lock = OK; 2 await 1 ..; 1 lock = OK; 1 await_interruptibly 0 ..; 0 notify 1 = OK; 2 = OK; "
+     "2 unlock = OK; 1 waits; 0 interrupt 1 = OK; 1 = INTERRUPTED; 1 unlock = OK", NULL},
+    {"a signal for one that an interrupt has woken", "lock fair seats 6 conditions 1 cap 64",
+     "1 lock = OK; 1 await_interruptibly 0 ..; 0 lock = OK; 0 interrupt 1 = OK; 1 waits; 0 notify 0 = OK; "
+     "0 unlock = OK; 1 = OK; 1 interrupted = 1; 1 unlock = OK", NULL},
+    {"a signal for one whose time is up", "lock fair seats 6 conditions 1 cap 64",
+     "1 lock = OK; 1 timedawait 0 1000 ..; 0 lock = OK; [350: 1 waits]; 0 notify 0 = OK; 0 unlock = OK; "
+     "1 = OK; 1 unlock = OK", NULL},
     {"of a mutex", "mutex fair seats 3 conditions 1 cap 64",
      "0 await 7 = NOT_OWNER; 0 lock = OK; 0 timedawait 7 1 = TIMED_OUT; 0 is_mine = 1; 0 await 7 ..; "
      "1 lock = OK; "
@@ -171,23 +206,25 @@ static const play_t plays[] = {
 
 enum { CONDITIONS = 16 };
 
-/* A lock has 16 conditions in use, and no more. */
+/* A lock has 16 conditions in use, each with a number of its own. The next one shares a number. */
 static void all_conditions(void) {
     char line[100];
-    play_name = "16 conditions in use";
+    play_name = "17 conditions in use";
     kind_t kind = open_part("lock fair seats 20 conditions 16 cap 500");
-    for (int i = 0; i < CONDITIONS; i++) {
-        snprintf(line, sizeof line, "%d lock = OK; %d await %d ..", i, i, i);
+    for (int i = 0; i <= CONDITIONS; i++) {
+        snprintf(line, sizeof line, "%d lock = OK; %d await %d ..; 17 waiters = %d", i, i, i, i + 1);
+        play_lines(kind, line);
+        for (int number = 0; number < CONDITIONS; number++) {
+            int users = (i >= CONDITIONS - 1 - number) + (i >= 2 * CONDITIONS - 1 - number);
+            CHECK(lock->object_.users_[number] == users);
+        }
+    }
+    for (int i = CONDITIONS; i >= 0; i--) {
+        snprintf(line, sizeof line, "%d waits; 17 notify %d = OK; %d = OK; %d unlock = OK", i, i, i, i);
         play_lines(kind, line);
     }
-    play_lines(kind, "17 lock = OK; 17 await 16 = NO_SUCH_CONDITION; 17 notify_all 3 = OK; 17 unlock = OK; "
-                     "3 = OK; 3 unlock = OK; 17 lock = OK; 17 timedawait 16 0 = TIMED_OUT; 17 unlock = OK");
-    for (int i = 0; i < CONDITIONS; i++) {
-        snprintf(line, sizeof line, "17 notify %d = OK; %d = OK; %d unlock = OK", i, i, i);
-        if (i != 3) play_lines(kind, line);
-    }
     close_it(kind);
-    for (int i = 0; i < 20; i++) CHECK(!conds[i].lock_ && conds[i].waiters_ == 0);
+    for (int i = 0; i < 20; i++) CHECK(!conds[i].lock_ && !conds[i].first_ && conds[i].waiters_ == 0);
 }
 
 /* One that others wait on with another lock. */
@@ -204,6 +241,31 @@ static void two_locks(void) {
     IS(aqs_cond_timedwait(&conds[0], &other, 1), AQS_TIMED_OUT);
     IS(aqs_lock_unlock(&other), AQS_OK);
     aqs_lock_close(&other);
+    close_it(kind);
+}
+
+static aqs_lock_t second = AQS_LOCK_INIT;
+
+static void *wait_with_the_second(void *condition) {
+    IS(aqs_lock_lock(&second), AQS_OK);
+    IS(aqs_cond_timedwait(condition, &second, 100), AQS_TIMED_OUT);
+    IS(aqs_lock_unlock(&second), AQS_OK);
+    return NULL;
+}
+
+/* A signal waits for the lock of a condition, whose last waiter leaves meanwhile. Then another thread waits
+   on it with another lock: that thread isn't meant. */
+static void at_another_lock_meanwhile(void) {
+    pthread_t thread;
+    play_name = "a condition that goes to another lock";
+    kind_t kind = open_part("lock fair seats 4 conditions 1 cap 64");
+    play_lines(kind, "1 lock = OK; 1 await_interruptibly 0 ..; 0 lock = OK; 0 interrupt 1 = OK; 1 waits; "
+                     "2 notify 0 ..; 0 unlock = OK; 1 = INTERRUPTED");
+    CHECK(pthread_create(&thread, NULL, wait_with_the_second, &conds[0]) == 0);
+    for (uint32_t count = 0; count == 0; usleep(50)) IS(aqs_object_waiters(&second.object_, &count), AQS_OK);
+    play_lines(kind, "1 unlock = OK; 2 = OK");
+    CHECK(pthread_join(thread, NULL) == 0);
+    aqs_lock_close(&second);
     close_it(kind);
 }
 
@@ -315,7 +377,8 @@ static void more_than_remembered(void) {
     run(read_all, locks); /* two threads that keep their numbers, which are one after the other */
     run(read_all, others);
     run(hold_many, locks);
-    snprintf(wanted, sizeof wanted, "aqs-history 1 rw nonfair seats 2 conditions 1 cap 8192\n"
+    run(hold_many, others); /* here it has the other seat */
+    snprintf(wanted, sizeof wanted, "aqs-history 1 rw nonfair seats 2 conditions 1 cap 1024\n"
              "0 1 got s 1\n1 0 got s 1\n2 0 trygot s 1\n3 0 gave s 1\n4 0 gave s 1\n"
              "5 0 refused s 1 NotOwner\nend 6 6\n");
     for (int i = 0; i < LOCKS; i++) {
@@ -385,11 +448,11 @@ static void without_an_opening(void) {
         IS(aqs_sem_getvalue(&static_semaphore, &permits), AQS_OK);
         IS(aqs_latch_getcount(&static_latch, &left_), AQS_OK);
         CHECK(permits == 2 && left_ == 0);
-        is_text(aqs_lock_object(&static_lock), "lock nonfair seats 256 conditions 16 cap 8192\n");
-        is_text(aqs_mutex_object(&static_mutex), "lock nonfair seats 256 conditions 16 cap 8192\n");
-        is_text(aqs_rwlock_object(&static_rwlock), "rw nonfair seats 256 conditions 16 cap 8192\n");
-        is_text(aqs_sem_object(&static_semaphore), "semaphore nonfair seats 256 permits -1 cap 8192\n");
-        is_text(aqs_latch_object(&static_latch), "latch seats 256 count 3 cap 8192\n");
+        is_text(aqs_lock_object(&static_lock), "lock nonfair seats 256 conditions 16 cap 1024\n");
+        is_text(aqs_mutex_object(&static_mutex), "lock nonfair seats 256 conditions 16 cap 1024\n");
+        is_text(aqs_rwlock_object(&static_rwlock), "rw nonfair seats 256 conditions 16 cap 1024\n");
+        is_text(aqs_sem_object(&static_semaphore), "semaphore nonfair seats 256 permits -1 cap 1024\n");
+        is_text(aqs_latch_object(&static_latch), "latch seats 256 count 3 cap 1024\n");
         aqs_lock_close(&static_lock), aqs_mutex_close(&static_mutex), aqs_rwlock_close(&static_rwlock);
         aqs_sem_close(&static_semaphore), aqs_latch_close(&static_latch);
     }
@@ -428,6 +491,7 @@ int main(void) {
     PLAY_ALL(plays);
     all_conditions();
     two_locks();
+    at_another_lock_meanwhile();
     one_after_the_other();
     many_alive();
     more_than_remembered();

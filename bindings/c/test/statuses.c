@@ -200,9 +200,10 @@ static void names_of_statuses(void) {
                                          [AQS_TOO_MANY_THREADS] = "AQS_TOO_MANY_THREADS",
                                          [AQS_NO_SPACE] = "AQS_NO_SPACE",
                                          [AQS_IO_ERROR] = "AQS_IO_ERROR",
-                                         [AQS_MISUSE] = "AQS_MISUSE"};
+                                         [AQS_MISUSE] = "AQS_MISUSE",
+                                         [AQS_HANDLER_RAN] = "AQS_HANDLER_RAN"};
     for (int i = -2; i < 300; i++) {
-        bool is_one = 0 <= i && i <= AQS_MISUSE;
+        bool is_one = 0 <= i && i <= AQS_HANDLER_RAN;
         CHECK(strcmp(aqs_status_name((aqs_status_t)i), is_one ? wanted[i] : "no status") == 0);
     }
 }

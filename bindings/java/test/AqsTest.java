@@ -4,6 +4,7 @@ import aqs.AqsException;
 import aqs.AqsLock;
 import aqs.AqsObject;
 import aqs.AqsOptions;
+import aqs.AqsPolicy;
 import aqs.AqsReadWriteLock;
 import aqs.AqsSemaphore;
 import java.nio.charset.StandardCharsets;
@@ -435,9 +436,14 @@ final class AqsTest {
         refused(() -> new AqsSemaphore(1, new AqsOptions().conditions(1)));
         refused(() -> new AqsCountDownLatch(-1));
         refused(() -> new AqsCyclicBarrier(0));
+        try (AqsReadWriteLock fair = new AqsReadWriteLock(new AqsOptions().fair())) {
+            check(fair.isFair());
+            same(fair.policy(), AqsPolicy.FAIR);
+        }
         AqsLock lock = new AqsLock(new AqsOptions().strict());
         Condition met = lock.newCondition();
         check(lock.isFair());
+        same(lock.policy(), AqsPolicy.STRICT);
         lock.close();
         lock.close();
         check(lock.toString().endsWith("[Closed]"));
@@ -449,6 +455,7 @@ final class AqsTest {
         throwing(IllegalStateException.class, lock::hasQueuedThreads);
         try (AqsSemaphore full = new AqsSemaphore(0, new AqsOptions().keepHistory().mostEntries(16))) {
             check(!full.isFair());
+            same(full.policy(), AqsPolicy.NONFAIR);
             full.release(100);
             try {
                 for (int i = 0; i < 16; i++) {

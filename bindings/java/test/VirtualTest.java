@@ -20,7 +20,7 @@ import java.util.concurrent.locks.Condition;
 final class VirtualTest {
     /** Calls that only tell what the object was made with. */
     private static final Set<String> ALLOWED = new HashSet<>(Arrays.asList(
-        "toString", "isFair", "readLock", "writeLock", "getParties"));
+        "toString", "isFair", "policy", "readLock", "writeLock", "getParties"));
 
     private int refused;
 

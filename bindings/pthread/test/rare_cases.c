@@ -154,9 +154,55 @@ static void is_asked_to_write_often(void) {
     struct itimerspec often = {{0, 100000}, {0, 100000}}, never = {0};
     timer_t timer;
     CHECK(timer_create(CLOCK_MONOTONIC, &event, &timer) == 0 && timer_settime(timer, 0, &often, NULL) == 0);
+    errno = 0;
     for (clock_t until = clock() + CLOCKS_PER_SEC / 10; clock() < until;) use_mutex();
-    CHECK(timer_settime(timer, 0, &never, NULL) == 0);
+    CHECK(errno == 0 && timer_settime(timer, 0, &never, NULL) == 0);
     printf("done\n");
+}
+
+static sem_t nothing_comes;
+
+/* A wait, and how it ends: by the error's name, or "0". */
+static void wait_so(const char *call) {
+    struct timespec late = after(CLOCK_REALTIME, 30000);
+    int error = 0;
+    if (strcmp(call, "sem_wait") == 0) error = sem_wait(&nothing_comes) ? errno : 0;
+    if (strcmp(call, "sem_timedwait") == 0) error = sem_timedwait(&nothing_comes, &late) ? errno : 0;
+    if (strcmp(call, "mutex_timedlock") == 0) error = pthread_mutex_timedlock(&mutex, &late);
+    printf(" %s %s;", call, strerrorname_np(error));
+    if (strcmp(call, "mutex_timedlock") == 0) CHECK(pthread_mutex_unlock(&mutex) == 0);
+}
+
+static void *wait_in_thread(void *call) {
+    wait_so(call);
+    is_done = 1;
+    return NULL;
+}
+
+/* Handlers that do nothing run in a thread that waits. What they don't end gets what it waits for. */
+static void handle_while_it_waits(char *call, int flags) {
+    struct sigaction action = {.sa_handler = do_nothing, .sa_flags = flags};
+    CHECK(sigaction(SIGUSR1, &action, NULL) == 0 && pthread_mutex_lock(&mutex) == 0);
+    is_done = 0;
+    pthread_t thread = started(wait_in_thread, call);
+    for (int i = 0; i < 20 && !is_done; i++) {
+        usleep(10000);
+        CHECK(pthread_kill(thread, SIGUSR1) == 0);
+    }
+    CHECK(pthread_mutex_unlock(&mutex) == 0);
+    if (!is_done) CHECK(sem_post(&nothing_comes) == 0);
+    join(thread);
+    while (sem_trywait(&nothing_comes) == 0) continue;
+}
+
+static void handlers_run_while_it_waits(void) {
+    static char *const calls[] = {"sem_wait", "sem_timedwait", "mutex_timedlock"};
+    CHECK(sem_init(&nothing_comes, 0, 0) == 0);
+    for (int i = 0; i < 3; i++) handle_while_it_waits(calls[i], 0);
+    printf(" and with SA_RESTART");
+    for (int i = 0; i < 3; i++) handle_while_it_waits(calls[i], SA_RESTART);
+    puts("");
+    CHECK(sem_destroy(&nothing_comes) == 0);
 }
 
 /* Mutexes that glibc keeps ------------------------------------------------------------------------------- */
@@ -334,6 +380,7 @@ static const struct {
     CASE(handler_posts_often),
     CASE(handlers_fork),
     CASE(is_asked_to_write_often),
+    CASE(handlers_run_while_it_waits),
     CASE(wait_returns_the_errors_of_its_mutex),
     CASE(has_locks_of_other_kinds),
     CASE(trylock_beside_signals),

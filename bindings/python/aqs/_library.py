@@ -35,7 +35,7 @@ class Options(ctypes.Structure):
 
     _fields_ = [
         ("policy", ctypes.c_uint), ("when_full", ctypes.c_uint), ("history", ctypes.c_uint32),
-        ("threads", ctypes.c_uint16), ("conditions", ctypes.c_uint8),
+        ("threads", ctypes.c_uint16), ("conditions", ctypes.c_uint8), ("heeds_handlers", ctypes.c_bool),
     ]
 
 
@@ -92,6 +92,7 @@ def _declared(library):
         _declare(library, name, [ctypes.c_void_p, *more])
     for name in ("aqs_object_queue_length", "aqs_object_waiters"):
         _declare(library, name, [ctypes.c_void_p, ctypes.POINTER(ctypes.c_uint32)])
+    _declare(library, "aqs_object_policy", [ctypes.c_void_p], ctypes.c_uint)
     length = ctypes.POINTER(ctypes.c_size_t)
     _declare(library, "aqs_history_text", [ctypes.c_void_p, ctypes.c_char_p, ctypes.c_size_t, length])
     _declare(library, "aqs_history_trim", [ctypes.c_void_p, ctypes.POINTER(ctypes.c_uint64)])

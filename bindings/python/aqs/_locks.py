@@ -67,6 +67,10 @@ class Side:
         """Whether any thread holds it. Another thread may change that before the caller reads it."""
         raise NotImplementedError
 
+    def holds(self) -> int:
+        """How often the calling thread holds it."""
+        return self._recursion_count()
+
     def _recursion_count(self) -> int:
         raise NotImplementedError
 

@@ -76,6 +76,10 @@ class Opened:
                 return buffer.raw[: length.value].decode()
             size = length.value + length.value // 8
 
+    def policy(self) -> Policy:
+        handle = self.handle
+        return Policy(library.aqs_object_policy(self.function("object")(handle)))
+
     def count(self, call: Any, kind: Any = ctypes.c_uint32) -> int:
         """The number, of this type of C, that a call of any object puts into its place."""
         count, handle = kind(), self.handle
@@ -95,6 +99,10 @@ class Recorded:
     def trim(self) -> int:
         """Forgets the recorded entries, and returns how many."""
         return self._opened.count(library.aqs_history_trim, ctypes.c_uint64)
+
+    def policy(self) -> Policy:
+        """The policy that it was opened with."""
+        return self._opened.policy()
 
     def queue_length(self) -> int:
         """How many threads are in its queue: those that wait for the lock, for permits or for the latch. Others

@@ -4,11 +4,13 @@ use clap::error::ErrorKind;
 use clap::{Arg, ArgAction, ArgMatches, Command, Error};
 use driver::choice::Choice;
 use driver::form::Form;
+use driver::notation::Notation;
 use history::number::number_of;
 use manual::page::Page;
+use script::limits::MOST_MILLISECONDS;
 use std::alloc::{AllocError, Global};
 use std::convert::AsStr;
-use tasks::fault::Fault;
+use tasks::fault::{Fault, RunOption};
 use tasks::task::{Job, Task};
 
 /// What a command line asks for.
@@ -17,6 +19,21 @@ pub struct Asked {
     pub job: Job,
     /// The file to read, or none for standard input.
     pub file: Option<String>,
+    /// The file to write, or none for standard output.
+    pub output: Option<String>,
+    /// What else is asked of a run, if its command line has such options.
+    pub options: Option<RunOptions>,
+}
+
+/// What else is asked of a run.
+#[derive(Debug, Drop)]
+pub struct RunOptions {
+    /// After how many milliseconds the program says how the threads stand, and ends.
+    pub timeout: Option<u32>,
+    /// The object whose history is written in place of the run text.
+    pub object: Option<String>,
+    /// The folder in which the history of each object is left.
+    pub dir: Option<String>,
 }
 
 /// Returns the program's fault for a parser's error.
@@ -53,18 +70,25 @@ fn option<'a>(alloc: Global, name: &'a str, action: ArgAction) -> Arg<'a> {
     Arg::new(alloc, name).long(name).action(action)
 }
 
-/// Returns a command that reads a text: `NAME [FILE]`.
+/// Returns a command that reads a text and writes another: `NAME [-o FILE] [FILE]`.
 fn reader<'a>(alloc: Global, name: &'a str) -> Result<Command<'a>, AllocError> {
-    Command::new(alloc, name).arg(Arg::new(alloc, "file"))
+    let reader = Command::new(alloc, name).arg(Arg::new(alloc, "file"))?;
+    reader.arg(option(alloc, "output", ArgAction::Set).short('o'))
 }
 
-/// Returns `replay [--history] [FILE]`.
+/// Returns a reader that may write a JSON object: `NAME [--json] [-o FILE] [FILE]`.
+fn teller<'a>(alloc: Global, name: &'a str) -> Result<Command<'a>, AllocError> {
+    let teller = reader(alloc, name)?;
+    teller.arg(option(alloc, "json", ArgAction::SetTrue))
+}
+
+/// Returns `replay [--history] [-o FILE] [FILE]`.
 fn replay<'a>(alloc: Global) -> Result<Command<'a>, AllocError> {
     let replay = reader(alloc, "replay")?;
     replay.arg(option(alloc, "history", ArgAction::SetTrue))
 }
 
-/// Returns `draw [--page] [--from NUMBER] [--to NUMBER] [FILE]`.
+/// Returns `draw [--page] [--from NUMBER] [--to NUMBER] [-o FILE] [FILE]`.
 fn draw<'a>(alloc: Global) -> Result<Command<'a>, AllocError> {
     let draw = reader(alloc, "draw")?;
     let draw = draw.arg(option(alloc, "page", ArgAction::SetTrue))?;
@@ -72,10 +96,18 @@ fn draw<'a>(alloc: Global) -> Result<Command<'a>, AllocError> {
     draw.arg(option(alloc, "to", ArgAction::Set))
 }
 
-/// Returns `explain [--at NUMBER] [FILE]`.
+/// Returns `explain [--at NUMBER] [--json] [-o FILE] [FILE]`.
 fn explain<'a>(alloc: Global) -> Result<Command<'a>, AllocError> {
-    let explain = reader(alloc, "explain")?;
+    let explain = teller(alloc, "explain")?;
     explain.arg(option(alloc, "at", ArgAction::Set))
+}
+
+/// Returns `run [--timeout MILLISECONDS] [--object NAME] [--dir FOLDER] [-o FILE] [FILE]`.
+fn run<'a>(alloc: Global) -> Result<Command<'a>, AllocError> {
+    let run = reader(alloc, "run")?;
+    let run = run.arg(option(alloc, "timeout", ArgAction::Set))?;
+    let run = run.arg(option(alloc, "object", ArgAction::Set))?;
+    run.arg(option(alloc, "dir", ArgAction::Set))
 }
 
 /// Returns `manual [COMMAND]`.
@@ -108,13 +140,22 @@ fn with<'a>(
 /// Returns the program with all its commands.
 fn program<'a>(alloc: Global) -> Result<Command<'a>, AllocError> {
     let program = with(Command::new(alloc, "aqs"), replay(alloc))?;
-    let program = with(program, reader(alloc, "audit"))?;
-    let program = with(program, reader(alloc, "run"))?;
+    let program = with(program, teller(alloc, "audit"))?;
+    let program = with(program, run(alloc))?;
     let program = with(program, draw(alloc))?;
     let program = with(program, explain(alloc))?;
-    let program = with(program, reader(alloc, "summary"))?;
+    let program = with(program, teller(alloc, "summary"))?;
     let program = with(program, pages(alloc))?;
     with(program, Ok(Command::new(alloc, "about")))
+}
+
+/// Returns how an answer is to be written.
+fn notation_in(options: &ArgMatches<'_>) -> Notation {
+    if options.get_flag("json") {
+        Notation::Json
+    } else {
+        Notation::Lines
+    }
 }
 
 /// Returns what a command with these options is to do.
@@ -123,24 +164,64 @@ fn job_of(name: &str, options: &ArgMatches<'_>) -> Result<Job, Fault> {
         "run" => Job::Run,
         "manual" => Job::Tell(page_in(options)?),
         "about" => Job::Tell(Page::About),
-        "audit" => Job::Answer(Task::Audit),
+        "audit" => Job::Answer(Task::Audit(notation_in(options))),
         "draw" if options.get_flag("page") => Job::Answer(Task::Page(choice_in(options)?)),
         "draw" => Job::Answer(Task::Draw(choice_in(options)?)),
-        "explain" => Job::Explain(number_in(options, "at", Fault::BadAt)?),
-        "summary" => Job::Answer(Task::Summary),
+        "explain" => Job::Explain(
+            number_in(options, "at", Fault::BadAt)?,
+            notation_in(options),
+        ),
+        "summary" => Job::Answer(Task::Summary(notation_in(options))),
         _ if options.get_flag("history") => Job::Answer(Task::Replay(Form::History)),
         _ => Job::Answer(Task::Replay(Form::Replay)),
     })
 }
 
-/// Returns the file that a command names, if it names one.
-fn file_in(alloc: Global, options: &ArgMatches<'_>) -> Result<Option<String>, Fault> {
-    match options.get_str("file") {
+/// Returns the file that a command names by an argument, if it names one.
+fn file_in(
+    alloc: Global,
+    options: &ArgMatches<'_>,
+    argument: &str,
+) -> Result<Option<String>, Fault> {
+    match options.get_str(argument) {
         None => Ok(None),
-        // The parser lets it through after `--`.
+        // The parser lets it through after `--`, `--output=` and `--dir=`.
         Some(file) if file.starts_with('-') => Err(Fault::Usage),
         Some(file) => Ok(Some(String::from_str(alloc, file)?)),
     }
+}
+
+/// Returns the milliseconds after which a run is late: 1 to the greatest number of a script.
+fn timeout_in(options: &ArgMatches<'_>) -> Result<Option<u32>, Fault> {
+    let bad = Fault::BadRunOption(RunOption::Timeout);
+    match number_in(options, "timeout", bad)? {
+        None => Ok(None),
+        Some(number) if 1 <= number && number <= MOST_MILLISECONDS => Ok(Some(number as u32)),
+        Some(_) => Err(bad),
+    }
+}
+
+/// Returns the name of the object that a run is asked for.
+fn object_in(alloc: Global, options: &ArgMatches<'_>) -> Result<Option<String>, Fault> {
+    match options.get_str("object") {
+        None => Ok(None),
+        Some(name) => Ok(Some(String::from_str(alloc, name)?)),
+    }
+}
+
+/// Returns what else a run is asked for.
+fn options_in(alloc: Global, options: &ArgMatches<'_>) -> Result<Option<RunOptions>, Fault> {
+    let timeout = timeout_in(options)?;
+    let object = object_in(alloc, options)?;
+    let dir = file_in(alloc, options, "dir")?;
+    if timeout.is_none() && object.is_none() && dir.is_none() {
+        return Ok(None);
+    }
+    Ok(Some(RunOptions {
+        timeout,
+        object,
+        dir,
+    }))
 }
 
 /// Returns what the parsed words ask for. Without a command, standard input is replayed.
@@ -149,14 +230,28 @@ fn asked_by(alloc: Global, words: &ArgMatches<'_>) -> Result<Asked, Fault> {
         return Ok(Asked {
             job: Job::Answer(Task::Replay(Form::Replay)),
             file: None,
+            output: None,
+            options: None,
         });
     };
     let job = job_of(name, options)?;
-    let file = match job {
-        Job::Tell(_) => None,
-        Job::Answer(_) | Job::Explain(_) | Job::Run => file_in(alloc, options)?,
+    let (file, output) = match job {
+        Job::Tell(_) => (None, None),
+        Job::Answer(_) | Job::Explain(_, _) | Job::Run => (
+            file_in(alloc, options, "file")?,
+            file_in(alloc, options, "output")?,
+        ),
     };
-    Ok(Asked { job, file })
+    let options = match job {
+        Job::Run => options_in(alloc, options)?,
+        Job::Answer(_) | Job::Explain(_, _) | Job::Tell(_) => None,
+    };
+    Ok(Asked {
+        job,
+        file,
+        output,
+        options,
+    })
 }
 
 /// Returns what the words of a command line ask for. The first word is the program's name.

@@ -9,9 +9,12 @@
 //! isn't legal, or the one of `--at`, with the same status. Of any other text it says where it is wrong, of a
 //! file that can't be read why, with status 1. `aqs summary [FILE]` sums a history up, seat by seat, with the
 //! status of its verdict. `aqs run [FILE]` reads a script and runs its threads. It writes the history of
-//! each of its objects, with the audit's lines on it. `aqs manual` and `aqs about` write pages. Without any
-//! words the program replays. A fault is printed on standard error, in one
-//! line. Nothing has been written then, unless writing itself failed.
+//! each of its objects, with the audit's lines on it; with `--object` the history of one object alone. `--dir`
+//! leaves the histories in a folder too, and with `--timeout` it says how the threads stand if they have not
+//! ended in time, with status 1. `aqs manual` and `aqs about` write pages. Without any words the program
+//! replays. With `--json` an audit, an explanation or a summary is one JSON object. With `-o FILE` what a command
+//! writes goes to a file. A fault is printed on standard error, in one line. Nothing has been written then, unless
+//! writing itself failed.
 #![tactic(auto)]
 
 ghost use Rattle.std.specs.Prelude.{◌≡◌, ◌↔◌, false, IsErrOf, IsTrue};
@@ -19,30 +22,40 @@ ghost use Rattle.streams.specs.declared.stream_fault.StreamFault.TheVariants.{Wr
 ghost use Rattle.tasks.specs.declared.fault.Fault.TheVariants.{Stream};
 
 mod arguments;
+mod folder;
 mod input;
+mod output;
 
-use crate::arguments::{Asked, arguments};
+use crate::arguments::{Asked, RunOptions, arguments};
+use crate::folder::Left;
 use crate::input::{Input, Origin};
+use crate::output::{Output, close, open};
+use driver::notation::Notation;
+use run_text::write_history;
+use script::Script;
 use std::convert::AsStr;
 use std::env;
 use std::fs::File;
 use std::io::{self, Read, Write};
 use std::process::ExitCode;
 use std::rt::{Env, Files};
-use std::sync::Wait;
+use std::sync::{Arc, Wait};
 use std::thread::Threads;
 use std::time::Clock;
 use streams::device::Device;
 use streams::sink::Sink;
 use streams::stream_fault::StreamFault;
 use streams::until_end::UntilEnd;
+use tasks::as_json::{explain_as_json, tell_unread_as_json};
 use tasks::ending::status_of_end;
 use tasks::explain::{explain, tell_unread};
-use tasks::fault::Fault;
+use tasks::fault::{Fault, RunOption};
 use tasks::perform::perform;
-use tasks::run_script::run_script;
+use tasks::ran::Ran;
+use tasks::run_script::{run_script, script_of};
 use tasks::task::Job;
 use tasks::tell::tell;
+use tasks::timed::{Timed, run_within, tell_late};
 
 /// Does a job, with the text from a reader.
 fn finish<R: AllocGlobal + Threads + Wait + Clock + Sync, I: Read + Drop, W: Sink>(
@@ -57,7 +70,8 @@ fn finish<R: AllocGlobal + Threads + Wait + Clock + Sync, I: Read + Drop, W: Sin
     let mut reader = UntilEnd::new(Device::new(input));
     match job {
         Job::Answer(task) => perform(rt.alloc(), &mut reader, writer, task),
-        Job::Explain(at) => explain(rt.alloc(), &mut reader, writer, at),
+        Job::Explain(at, Notation::Lines) => explain(rt.alloc(), &mut reader, writer, at),
+        Job::Explain(at, Notation::Json) => explain_as_json(rt.alloc(), &mut reader, writer, at),
         Job::Run => run_script(rt, &mut reader, writer),
         Job::Tell(page) => tell(writer, page),
     }
@@ -73,50 +87,131 @@ fn unread<R: AllocGlobal, W: Sink>(
 ) -> Result<u8, Fault>
     requires { W.failed writer.old ≡ false }
 {
-    match job {
-        Job::Explain(_) => {
-            let reason = format!(in rt.alloc(); "{reason}")?;
-            tell_unread(
-                rt.alloc(),
-                writer,
-                file.unwrap_or("standard input"),
-                &reason,
-            )
-        }
-        _ => Err(Fault::Stream(StreamFault::ReadFailed)),
+    let Job::Explain(_, notation) = job else {
+        return Err(Fault::Stream(StreamFault::ReadFailed));
+    };
+    let reason = format!(in rt.alloc(); "{reason}")?;
+    let name = file.unwrap_or("standard input");
+    match notation {
+        Notation::Lines => tell_unread(rt.alloc(), writer, name, &reason),
+        Notation::Json => tell_unread_as_json(rt.alloc(), writer, name, &reason),
     }
 }
 
-/// Does what the words ask for, with the text of a file or else of standard input.
+/// Returns the place of the object that is asked for.
+fn place_in(script: &Script, object: Option<&str>) -> Result<Option<usize>, Fault> {
+    match object {
+        None => Ok(None),
+        Some(name) => match script.objects().get_index_of(name) {
+            Some(place) => Ok(Some(place)),
+            None => Err(Fault::BadRunOption(RunOption::Object)),
+        },
+    }
+}
+
+/// Writes the history of the object at a place, or else the run text.
+fn write_ran<R: AllocGlobal, W: Sink>(
+    rt: &R,
+    ran: Ran,
+    place: Option<usize>,
+    writer: &mut W,
+) -> Result<u8, Fault>
+    requires { W.failed writer.old ≡ false }
+{
+    match place {
+        None => ran.write(rt.alloc(), writer),
+        Some(place) => match ran.object(place) {
+            Some((_, part)) => {
+                write_history(rt.alloc(), part, writer)?;
+                Ok(0)
+            }
+            None => Err(Fault::BadRunOption(RunOption::Object)),
+        },
+    }
+}
+
+/// Runs the threads of a script to their ends, or for a limited time.
+fn timed<R: AllocGlobal + Threads + Wait + Clock + Sync + Send + Copy + 'static>(
+    rt: &R,
+    script: Arc<Script>,
+    timeout: Option<u32>,
+) -> Result<Timed, Fault> {
+    match timeout {
+        None => Ok(Timed::Ended(Ran::of(rt, script)?)),
+        Some(milliseconds) => run_within(rt, script, milliseconds),
+    }
+}
+
+/// Runs the threads of a script, and does what its options ask for.
+fn run_with<
+    R: Files + AllocGlobal + Threads + Wait + Clock + Sync + Send + Copy + 'static,
+    I: Read + Drop,
+    W: Sink,
+>(rt: &R, options: &RunOptions, input: I, writer: &mut W, left: &mut Left) -> Result<u8, Fault>
+    requires { W.failed writer.old ≡ false }
+{
+    let mut reader = UntilEnd::new(Device::new(input));
+    let Ok(script) = Arc::new(rt.alloc(), script_of(rt.alloc(), &mut reader)?) else {
+        return Err(Fault::Memory);
+    };
+    let place = place_in(&*script, options.object.as_ref().map(|name| name.as_str()))?;
+    if let Some(folder) = &options.dir {
+        left.choose(rt, folder.as_str(), &*script)?;
+    }
+    let ran = match timed(rt, script, options.timeout)? {
+        Timed::Ended(ran) => ran,
+        Timed::Late(text) => return tell_late(writer, &text),
+    };
+    left.write(rt, &ran)?;
+    write_ran(rt, ran, place, writer)
+}
+
+/// Does a job, with the text of a file or else of standard input.
+fn answer<
+    R: Files + AllocGlobal + Threads + Wait + Clock + Sync + Send + Copy + 'static,
+    I: Read + Drop,
+    O: Write + Drop,
+>(rt: &R, asked: &Asked, given: I, output: O, left: &mut Left) -> Result<u8, Fault> {
+    let job = asked.job;
+    let file = asked.file.as_ref().map(|name| name.as_str());
+    let mut writer = Device::new(output);
+    let origin = match file {
+        None => Origin::Given(given),
+        Some(name) => match File::open(rt, name) {
+            Ok(file) => Origin::Named(file),
+            Err(error) => return unread(rt, job, file, &error, &mut writer),
+        },
+    };
+    let mut input = Input::new(origin);
+    if let Some(options) = &asked.options {
+        return run_with(rt, options, &mut input, &mut writer, left);
+    }
+    let done = finish(rt, job, &mut input, &mut writer);
+    match (done, input.failure()) {
+        (Err(Fault::Stream(StreamFault::ReadFailed)), Some(error)) => {
+            unread(rt, job, file, error, &mut writer)
+        }
+        (done, _) => done,
+    }
+}
+
+/// Does what the words ask for.
 fn run<
-    R: Files + AllocGlobal + Threads + Wait + Clock + Sync,
+    R: Files + AllocGlobal + Threads + Wait + Clock + Sync + Send + Copy + 'static,
     S: AsStr,
     I: Read + Drop,
     O: Write + Drop,
 >(rt: &R, words: &[S], given: I, output: O) -> Result<u8, Fault> {
-    let Asked { job, file } = arguments(rt.alloc(), words)?;
-    let mut writer = Device::new(output);
-    let origin = match &file {
-        None => Origin::Given(given),
-        Some(name) => match File::open(rt, name.as_str()) {
-            Ok(file) => Origin::Named(file),
-            Err(error) => return unread(rt, job, Some(name.as_str()), &error, &mut writer),
-        },
-    };
-    let mut input = Input::new(origin);
-    let done = finish(rt, job, &mut input, &mut writer);
-    match (done, input.failure()) {
-        (Err(Fault::Stream(StreamFault::ReadFailed)), Some(error)) => {
-            unread(
-                rt,
-                job,
-                file.as_ref().map(|name| name.as_str()),
-                error,
-                &mut writer,
-            )
-        }
-        (done, _) => done,
+    let asked = arguments(rt.alloc(), words)?;
+    let named = asked.output.as_ref().map(|name| name.as_str());
+    let mut output: Output<O, R::File> = open(rt, output, named)?;
+    let mut left = Left::new(rt.alloc());
+    let done = answer(rt, &asked, given, &mut output, &mut left);
+    let done = close(rt, output, done);
+    if done.is_err() {
+        left.remove(rt);
     }
+    done
 }
 
 /// Returns the words of the command line.

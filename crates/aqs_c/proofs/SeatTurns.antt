@@ -111,10 +111,10 @@ stands_later old new (Some w) was shows seat later mine stands =
       subst (λ (i : ℕ). WaitsAs new.seen i stands.0) (sym seat) here,
     )
 
-pub stands_looked : (old new : Shown) (waiting : Option Waiting) → IsSound old → IsSound new → IsLook old new →
+pub stands_looked : (old new : Shown) (waiting : Option Waiting) → IsSound old → IsLook old new →
     StandsBy waiting old → StandsBy waiting new
-stands_looked old new waiting was shows look stands =
-    stands_later old new waiting was shows look.seat look.begins look.mine stands
+stands_looked old new waiting was look stands =
+    stands_later old new waiting was look.shows look.seat look.begins look.mine stands
 
 pub stands_trimmed : (old new : Shown) (waiting : Option Waiting) (r : Result ℕ Fault) → IsSound old →
     IsSound new → IsSame old new → IsTrim old r new → StandsBy waiting old → StandsBy waiting new
@@ -123,12 +123,12 @@ stands_trimmed old new waiting r was shows same trim stands =
 
 -- A seat stays one whose pass looked or folded, or found the object busy.
 pub seat_read : {A : Type 0} (lock : LockId) (old new : Shown) (waiting : Option Waiting) (r : Option A) →
-    IsSound old → IsSound new → IfNone r (new ≡ old) → IfSome r (λ _. IsLook old new) →
+    IsSound old → IfNone r (new ≡ old) → IfSome r (λ _. IsLook old new) →
     IsSeat lock old waiting → IsSeat lock new waiting
-seat_read lock old new waiting None was shows busy looked seat =
+seat_read lock old new waiting None was busy looked seat =
     subst (λ (p : Shown). IsSeat lock p waiting) (sym busy) seat
-seat_read lock old new waiting (Some a) was shows busy looked seat =
-    (looked.lock ∙ seat.0, stands_looked old new waiting was shows looked seat.1)
+seat_read lock old new waiting (Some a) was busy looked seat =
+    (looked.lock ∙ seat.0, stands_looked old new waiting was looked seat.1)
 
 pub seat_trimmed : (lock : LockId) (old new : Shown) (waiting : Option Waiting) (r : Option (Result ℕ Fault)) →
     IsSound old → IsSound new → IsSame old new → MatchOption r (new ≡ old) (λ count. IsTrim old count new) →

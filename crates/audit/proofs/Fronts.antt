@@ -51,12 +51,12 @@ pub has_seat : (s : Start) (h : List Entry) (l : Ledger) (i : ℕ) → LedgerSta
 has_seat s h l i st seat room = record { start = s; front = h; stand = st; seat = seat; room = room }
 
 -- one more entry, behind those that were followed
-front_more : (h : List Entry) (e : Entry) (n : ℕ) → n ≤ length h → front n (e ∷ h) ≡ front n h
+pub front_more : (h : List Entry) (e : Entry) (n : ℕ) → n ≤ length h → front n (e ∷ h) ≡ front n h
 front_more h e n le =
     let one : length (e ∷ h) - n ≡ suc (length h - n) = omega (arith, le) in
     ap (λ i. drop i (e ∷ h)) one
 
-front_same : (h : List Entry) → front (length h) h ≡ h
+pub front_same : (h : List Entry) → front (length h) h ≡ h
 front_same h = front_all h (length h) (omega arith)
 
 -- it is the first that isn't legal

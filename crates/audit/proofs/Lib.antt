@@ -10,3 +10,4 @@ pub mod Making
 pub mod Fronts
 pub mod SameEntries
 pub mod Adding
+pub mod AtOnce

@@ -33,8 +33,8 @@ impl Ledger {
         }
     }
 
-    /// Returns whether any step of the entry's seat makes the entry.
-    pub(crate) fn admits(&self, entry: Entry) -> bool
+    /// Returns whether any step of the entry's seat makes the entry. It changes nothing.
+    pub fn admits(&self, entry: Entry) -> bool
         requires { HasSeat self.now entry.seat }
         ensures { (s : Start) (h : List Entry) → LedgerStand s h self.now → IsTrue result ↔ IsNext s h entry }
     {

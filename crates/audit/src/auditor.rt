@@ -72,6 +72,21 @@ impl Auditor {
         ensures { (s : Start) (h : List Entry) → HasJudged s h self.old →
             entry.seat < s.header.seats → HasJudged s (entry ∷ h) self.new }
     {
+        if self.wrong.is_none() && self.ledger.admits_at_once(entry) {
+            self.ledger.follow(entry);
+            self.count += 1;
+        } else {
+            self.follow_in_full(entry);
+        }
+    }
+
+    /// As `follow`, for any entry.
+    #[inline(never)]
+    fn follow_in_full(&mut self, entry: Entry)
+        requires { CanFollow self.old entry }
+        ensures { (s : Start) (h : List Entry) → HasJudged s h self.old →
+            entry.seat < s.header.seats → HasJudged s (entry ∷ h) self.new }
+    {
         match self.wrong {
             Some(_) => {}
             None => if self.ledger.admits(entry) {

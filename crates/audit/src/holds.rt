@@ -68,6 +68,7 @@ impl Holds {
     }
 
     /// Updates the tables for one more entry of one of the seats.
+    #[inline(always)]
     pub(crate) fn note(&mut self, object: Object, entry: Entry)
         requires seat { entry.seat < length self.old.exclusive.items
             × (entry.seat < length self.old.shared.items) }
@@ -109,6 +110,7 @@ fn owner_of(seats: &[SeatBase]) -> Option<u16>
 }
 
 /// Returns the owner after this seat has `has` exclusive holds.
+#[inline(always)]
 fn owner_after(owner: Option<u16>, seat: u16, has: u128) -> Option<u16>
     ensures { result ≡ owner_after owner seat has }
 {

@@ -15,6 +15,7 @@
 #![tactic(auto)]
 
 mod admit;
+mod at_once;
 pub mod auditor;
 mod candidates;
 mod holds;

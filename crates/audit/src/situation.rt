@@ -23,12 +23,14 @@ const MAX_HOLDS: u128 = MOST_HOLDS as u128;
 const MAX_READ_WRITE_HOLDS: u128 = MOST_READ_WRITE_HOLDS as u128;
 
 impl Ledger {
+    #[inline(always)]
     fn owns(&self, seat: u16) -> bool
         ensures { result ≡ is_seat self.now.holds.owner seat }
     {
         self.holds.owner == Some(seat)
     }
 
+    #[inline(always)]
     fn is_free_for(&self, seat: u16) -> bool
         ensures { result ≡ is_none_or self.now.holds.owner seat }
     {
@@ -36,6 +38,7 @@ impl Ledger {
     }
 
     /// Returns whether the queue never holds this call back.
+    #[inline(always)]
     fn is_reentrant(&self, seat: u16, mode: Mode) -> bool
         requires { seat < length self.now.holds.shared.items }
         ensures { (s : Start) (h : List Entry) → LedgerStand s h self.now →
@@ -52,6 +55,7 @@ impl Ledger {
     }
 
     /// Returns whether the queue holds back a new call that isn't reentrant.
+    #[inline(always)]
     fn line_blocks(&self, mode: Mode) -> bool
         ensures { (s : Start) (h : List Entry) → LedgerStand s h self.now →
             result ≡ line_blocks s.header.object mode (first_mode s h) }
@@ -84,10 +88,12 @@ impl ObjectState for Ledger {
         self.header.object.is_strict()
     }
 
+    #[inline(always)]
     fn is_held_back(&self, seat: u16, mode: Mode) -> bool {
         !self.is_reentrant(seat, mode) && self.line_blocks(mode)
     }
 
+    #[inline(always)]
     fn is_at_limit(&self, seat: u16, mode: Mode) -> bool {
         match (self.header.object, mode) {
             (Object::Lock(_), Mode::X) => self.holds.exclusive[seat as usize] == MAX_HOLDS,
@@ -99,6 +105,7 @@ impl ObjectState for Ledger {
         }
     }
 
+    #[inline(always)]
     fn could_take(&self, seat: u16, mode: Mode, n: u32) -> bool {
         match (self.header.object, mode) {
             (Object::Lock(_), Mode::X) => {
@@ -119,6 +126,7 @@ impl ObjectState for Ledger {
         }
     }
 
+    #[inline(always)]
     fn held(&self, seat: u16, mode: Mode) -> u128 {
         match mode {
             Mode::X => self.holds.exclusive[seat as usize],
@@ -143,14 +151,17 @@ impl ObjectState for Ledger {
         self.waiting.line.live_len()
     }
 
+    #[inline(always)]
     fn first(&self) -> Option<Arrival> {
         self.waiting.line.first()
     }
 
+    #[inline(always)]
     fn place_of(&self, seat: u16) -> Option<Arrival> {
         self.waiting.line.arrival_of(seat)
     }
 
+    #[inline(always)]
     fn sleeps(&self, seat: u16) -> bool {
         self.waiting.asleep.sleeper_of(seat).is_some()
     }

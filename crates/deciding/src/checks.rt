@@ -13,6 +13,7 @@ use history::step::Step;
 
 /// Returns the fault of a step that the object doesn't have. The mode is checked first, then the condition,
 /// then the amount.
+#[inline(always)]
 pub fn refused_as(header: &Header, step: Step) -> Option<Fault>
     ensures { result ≡ refused_as header.now step }
 {
@@ -28,6 +29,7 @@ pub fn refused_as(header: &Header, step: Step) -> Option<Fault>
 }
 
 /// Returns whether a step is for a waiter.
+#[inline(always)]
 pub fn waits(step: Step) -> bool
     ensures { result ≡ waits step }
 {
@@ -36,24 +38,28 @@ pub fn waits(step: Step) -> bool
 
 /// Returns whether the object is a lock or a read-write lock: it has an owner and conditions, and keeps room
 /// for each hold.
+#[inline(always)]
 pub fn is_lock(object: Object) -> bool
     ensures { result ≡ is_lock object }
 {
     matches!(object, Object::Lock(_) | Object::ReadWrite(_))
 }
 
+#[inline(always)]
 fn is_semaphore(object: Object) -> bool
     ensures { result ≡ is_semaphore object }
 {
     matches!(object, Object::Semaphore(_, _))
 }
 
+#[inline(always)]
 fn is_latch(object: Object) -> bool
     ensures { result ≡ is_latch object }
 {
     matches!(object, Object::Latch(_))
 }
 
+#[inline(always)]
 fn lacks_mode(object: Object, mode: Mode) -> bool
     ensures { result ≡ lacks_mode object mode }
 {
@@ -64,6 +70,7 @@ fn lacks_mode(object: Object, mode: Mode) -> bool
     }
 }
 
+#[inline(always)]
 fn is_wrong_mode(object: Object, step: Step) -> bool
     ensures { result ≡ is_wrong_mode object step }
 {
@@ -79,6 +86,7 @@ fn is_wrong_mode(object: Object, step: Step) -> bool
     }
 }
 
+#[inline(always)]
 fn is_no_condition(header: &Header, step: Step) -> bool
     ensures { result ≡ is_no_condition header.now step }
 {
@@ -90,6 +98,7 @@ fn is_no_condition(header: &Header, step: Step) -> bool
     }
 }
 
+#[inline(always)]
 fn is_bad_amount(object: Object, step: Step) -> bool
     ensures { result ≡ is_bad_amount object step }
 {
@@ -103,6 +112,7 @@ fn is_bad_amount(object: Object, step: Step) -> bool
     }
 }
 
+#[inline(always)]
 fn is_bad_number(object: Object, n: u32) -> bool
     ensures { result ≡ is_bad_number object n }
 {

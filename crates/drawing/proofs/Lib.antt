@@ -3,6 +3,7 @@ mod TablesFollow
 mod StandingOnBase
 mod StretchesFollow
 mod MarksFollow
+mod AskersFollow
 mod TracksSeated
 mod TrackPlaces
 mod Unmoved

@@ -4,6 +4,7 @@ use Rattle.deciding.specs.Amounts.{AreAmounts}
 use Rattle.history.specs.declared.entry.Entry.{Entry}
 use Rattle.history.specs.Start.{Start}
 use Rattle.drawing.specs.declared.drawing.Drawing.{Drawing}
+use Rattle.drawing.specs.Askers.{AreAsking}
 use Rattle.drawing.specs.Bars.{ended}
 use Rattle.drawing.specs.Curve.{curve}
 use Rattle.drawing.specs.Marks.{marks}
@@ -16,10 +17,11 @@ pub record HasDrawn (s : Start) (from : ℕ) (h : List Entry) (d : Drawing) : Ty
   pub begins : d.from ≡ from
   pub count : d.count ≡ length h
   pub standing : AreStanding s h d.standings
+  pub asking : AreAsking s h d.askers
   pub numbers : AreAmounts s h d.amounts
   pub under_way : d.stretches.items ≡ stretches s from h
   pub ended : d.bars.items ≡ ended s from h
-  pub marked : d.marks.items ≡ marks from h
+  pub marked : d.marks.items ≡ marks s from h
   pub points : d.curve.items ≡ curve s from h
 
 -- one that has taken some entries, after which one more of one of the seats may come

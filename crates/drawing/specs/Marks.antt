@@ -1,10 +1,12 @@
 -- The entries that are marked.
-use Rattle.std.specs.Prelude.{ℕ, nat_lt, if◌then◌else◌, List, [], ◌∷◌, ◌++◌, length, Option, Some, None}
+use Rattle.std.specs.Prelude.{ℕ, Bool, true, false, nat_lt, if◌then◌else◌, List, [], ◌∷◌, ◌++◌, length, Option, Some, None}
 use Rattle.history.specs.declared.entry.Entry.{Entry}
 use Rattle.history.specs.declared.entry.End.{End}
 use Rattle.history.specs.declared.entry.End.TheVariants as end
 use Rattle.history.specs.declared.entry.Word.{Word}
 use Rattle.history.specs.declared.entry.Word.TheVariants as word
+use Rattle.history.specs.Start.{Start}
+use Rattle.drawing.specs.Barging.{barges}
 use Rattle.drawing.specs.declared.mark.Mark.{Mark}
 use Rattle.drawing.specs.declared.mark.Sign.{Sign}
 use Rattle.drawing.specs.declared.mark.Sign.TheVariants as sign
@@ -30,13 +32,20 @@ sign_of word.Left e = given_up e
 sign_of word.Lapse e = given_up e
 sign_of _ e = None
 
+-- what a mark shows of an entry: that it barges, or what its word and end say
+abbrev pub sign_at : Bool → Word → End → Option Sign
+sign_at true w e = Some sign.Barged
+sign_at false w e = sign_of w e
+
 -- the mark of the entry of a number, if it has one
 abbrev pub mark_of : ℕ → ℕ → Option Sign → List Mark
 mark_of number i None = []
 mark_of number i (Some s) = record { number = number; seat = i; sign = s } ∷ []
 
 -- the marks of the entries from a number on, in their order
-abbrev pub marks : ℕ → List Entry → List Mark
-marks from [] = []
-marks from (e ∷ h) =
-    marks from h ++ (if nat_lt (length h) from then [] else mark_of (length h) e.seat (sign_of e.word e.end))
+abbrev pub marks : Start → ℕ → List Entry → List Mark
+marks s from [] = []
+marks s from (e ∷ h) =
+    marks s from h
+    ++ (if nat_lt (length h) from then []
+    else mark_of (length h) e.seat (sign_at (barges s e h) e.word e.end))

@@ -2,3 +2,4 @@
 pub mod Tables
 pub mod Stretches
 pub mod Places
+pub mod Askers

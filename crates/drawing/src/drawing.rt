@@ -7,6 +7,7 @@ ghost use Rattle.history.specs.Base.{based};
 ghost use Rattle.history.specs.GoodBase.{IsGood};
 ghost use Rattle.history.specs.Start.{Start, opening};
 ghost use Rattle.history.specs.declared.entry.Entry.{Entry};
+ghost use Rattle.drawing.specs.Askers.{AreAsking};
 ghost use Rattle.drawing.specs.Bars.{bars};
 ghost use Rattle.drawing.specs.Curve.{curve};
 ghost use Rattle.drawing.specs.Drawing.{CanDraw, HasDrawn, IsDrawing};
@@ -14,7 +15,9 @@ ghost use Rattle.drawing.specs.Marks.{marks};
 ghost use Rattle.drawing.specs.Standings.{AreStanding};
 
 use crate::amounts::put_point;
+use crate::askers::Askers;
 use crate::bar::{Bar, Stretch};
+use crate::barging::barges;
 use crate::mark::{Mark, put_mark};
 use crate::places::put_places;
 use crate::standings::Standings;
@@ -43,6 +46,7 @@ pub struct Drawing {
     pub(crate) from: u64,
     pub(crate) count: u64,
     pub(crate) standings: Standings,
+    pub(crate) askers: Askers,
     pub(crate) amounts: Amounts,
     pub(crate) stretches: Vec<Stretch>,
     pub(crate) bars: Vec<Bar>,
@@ -58,7 +62,15 @@ impl Drawing {
         ensures { IfOk result (HasDrawn (opening header) from []) }
     {
         let standings = Standings::open(alloc, header.seats)?;
-        begin(alloc, header, from, standings, Amounts::open(header.object))
+        let askers = Askers::open(alloc, header.seats)?;
+        begin(
+            alloc,
+            header,
+            from,
+            standings,
+            askers,
+            Amounts::open(header.object),
+        )
     }
 
     /// Returns a drawing of an object that begins on a base, from the entry of a number on.
@@ -68,8 +80,9 @@ impl Drawing {
         ensures { IfOk result (HasDrawn (based base.now) from []) }
     {
         let standings = Standings::open_on(alloc, base)?;
+        let askers = Askers::open_on(alloc, base)?;
         let amounts = Amounts::open_on(base, sum(&standings.shared));
-        begin(alloc, base.header, from, standings, amounts)
+        begin(alloc, base.header, from, standings, askers, amounts)
     }
 
     /// Takes one more entry of one of the seats, legal or not. After an error nothing more can be drawn.
@@ -83,9 +96,11 @@ impl Drawing {
             conditions,
             ..
         } = self.header;
+        let is_barging = barges(&self.askers, &self.standings, object, entry);
         put_places(&mut self.places, &self.standings, conditions, entry)?;
         self.standings.note(object, entry)?;
         self.amounts.note(entry);
+        self.askers.note_queued(entry);
         let number = self.count;
         self.count += 1;
         if number < self.from {
@@ -99,7 +114,7 @@ impl Drawing {
             &self.standings,
             number,
         )?;
-        put_mark(&mut self.marks, number, entry)?;
+        put_mark(&mut self.marks, number, is_barging, entry)?;
         put_point(&self.amounts, object, &mut self.curve)?;
         Ok(())
     }
@@ -110,7 +125,7 @@ impl Drawing {
         ensures bars { IfOk result (λ drawn. (s : Start) (from : ℕ) (h : List Entry) →
             HasDrawn s from h self → drawn.bars.items ≡ bars s from h) }
         ensures marks { IfOk result (λ drawn. (s : Start) (from : ℕ) (h : List Entry) →
-            HasDrawn s from h self → drawn.marks.items ≡ marks from h) }
+            HasDrawn s from h self → drawn.marks.items ≡ marks s from h) }
         ensures curve { IfOk result (λ drawn. (s : Start) (from : ℕ) (h : List Entry) →
             HasDrawn s from h self → drawn.curve.items ≡ curve s from h) }
     {
@@ -130,10 +145,11 @@ fn begin(
     header: Header,
     from: u64,
     standings: Standings,
+    askers: Askers,
     amounts: Amounts,
 ) -> Result<Drawing, AllocError>
     ensures { IfOk result (λ drawing. (s : Start) → s.header ≡ header → AreStanding s [] standings →
-        AreAmounts s [] amounts → HasDrawn s from [] drawing) }
+        AreAsking s [] askers → AreAmounts s [] amounts → HasDrawn s from [] drawing) }
 {
     let stretches = begin_all(alloc, header, from)?;
     Ok(Drawing {
@@ -141,6 +157,7 @@ fn begin(
         from,
         count: 0,
         standings,
+        askers,
         amounts,
         stretches,
         bars: Vec::new(alloc),

@@ -32,7 +32,8 @@ pub fn drawn_of(
     requires few { length entries.now < 2 ^ 32 }
     ensures bars { IfOk result (λ drawn. drawn.bars.items
         ≡ bars (based (or_opening header (option_copied base.entry))) from (reverse entries.now)) }
-    ensures marks { IfOk result (λ drawn. drawn.marks.items ≡ marks from (reverse entries.now)) }
+    ensures marks { IfOk result (λ drawn. drawn.marks.items
+        ≡ marks (based (or_opening header (option_copied base.entry))) from (reverse entries.now)) }
     ensures curve { IfOk result (λ drawn. drawn.curve.items
         ≡ curve (based (or_opening header (option_copied base.entry))) from (reverse entries.now)) }
 {

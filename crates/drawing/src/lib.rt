@@ -9,7 +9,9 @@
 #![tactic(auto)]
 
 mod amounts;
+mod askers;
 pub mod bar;
+mod barging;
 pub mod drawing;
 pub mod drawn_entries;
 pub mod kind;

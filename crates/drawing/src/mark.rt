@@ -1,7 +1,7 @@
-//! Marks of entries that end a wait, and of entries that change no holds, or not those of their seat alone.
+//! Marks of entries that end a wait or pass one, and of entries that change no holds, or not those of their seat alone.
 
 ghost use Rattle.std.specs.Prelude.{◌≡◌, ◌++◌, OnOk};
-ghost use Rattle.drawing.specs.Marks.{given_up, mark_of, sign_of};
+ghost use Rattle.drawing.specs.Marks.{given_up, mark_of, sign_at, sign_of};
 
 use history::entry::{End, Entry, Word};
 use std::alloc::AllocError;
@@ -21,6 +21,8 @@ pub enum Sign {
     TimedOut,
     /// A wait in the queue or on a condition ended by an interrupt.
     Interrupted,
+    /// An acquire took at once while another seat waited in the queue for a first acquire.
+    Barged,
 }
 
 /// An entry's mark: the number of the entry, its seat, and what is shown.
@@ -32,11 +34,16 @@ pub struct Mark {
 }
 
 /// Adds the mark of the entry of a number, if it has one.
-pub(crate) fn put_mark(marks: &mut Vec<Mark>, number: u64, entry: Entry) -> Result<(), AllocError>
+pub(crate) fn put_mark(
+    marks: &mut Vec<Mark>,
+    number: u64,
+    barges: bool,
+    entry: Entry,
+) -> Result<(), AllocError>
     ensures { OnOk result (marks.new.items
-        ≡ marks.old.items ++ mark_of number entry.seat (sign_of entry.word entry.end)) }
+        ≡ marks.old.items ++ mark_of number entry.seat (sign_at barges entry.word entry.end)) }
 {
-    match sign_of(entry.word, entry.end) {
+    match sign_at(barges, entry.word, entry.end) {
         None => {}
         Some(sign) => {
             marks.push(Mark {
@@ -47,6 +54,17 @@ pub(crate) fn put_mark(marks: &mut Vec<Mark>, number: u64, entry: Entry) -> Resu
         }
     }
     Ok(())
+}
+
+/// Returns what a mark shows of an entry: that it barges, or what its word and end say.
+fn sign_at(barges: bool, word: Word, end: End) -> Option<Sign>
+    ensures { result ≡ sign_at barges word end }
+{
+    if barges {
+        Some(Sign::Barged)
+    } else {
+        sign_of(word, end)
+    }
 }
 
 /// Returns what a mark shows of a wait that was given up, by how it ended.

@@ -3,6 +3,7 @@
 ghost use Rattle.std.specs.Prelude.{◌≡◌, ℕ, ◌+◌, ◌<◌, ◌≤◌, ◌^◌, ◌||◌, ◌∷◌, [], List, IfOk, OnOk, false, length, map, replicate, slice_index, slice_index_or};
 ghost use Rattle.std.specs.List.{AllByRecursion};
 ghost use Rattle.history.specs.Base.{based, each_below};
+ghost use Rattle.history.specs.Counts.{held};
 ghost use Rattle.history.specs.GoodBase.{IsGood};
 ghost use Rattle.history.specs.Line.{place_of};
 ghost use Rattle.history.specs.Marks.{is_placed};
@@ -90,6 +91,17 @@ impl Standings {
         ensures { result.now ≡ woken entry.word entry.n (slice_index_or self.now.asleep.items entry.at []) }
     {
         self.asleep[entry.at as usize].woken(entry)
+    }
+
+    /// Returns how many holds a seat has in a mode.
+    pub(crate) fn held(&self, seat: u16, mode: Mode) -> u128
+        requires { (s : Start) × (h : List Entry) × AreStanding s h self.now × (seat < s.header.seats) }
+        ensures { (s : Start) (h : List Entry) → AreStanding s h self.now → result ≡ held s h seat mode }
+    {
+        match mode {
+            Mode::X => self.exclusive[seat as usize],
+            Mode::S => self.shared[seat as usize],
+        }
     }
 
     /// Returns the level of a seat and a kind.

@@ -1,5 +1,5 @@
 -- What a stream leaves that doesn't answer its text.
-use Rattle.std.proofs.Common.{◌≡◌, inl, inr, ◌⊎◌, ℕ, List, [], Option, Result, Ok, Err, IfSome, refl, sym, ◌∙◌, subst}
+use Rattle.std.proofs.Common.{◌≡◌, inl, inr, ◌⊎◌, ℕ, List, [], Option, Result, Ok, Err, IfSome, refl, sym, subst}
 use Rattle.std.proofs.KnownBytes.{Keeps-refl}
 use Rattle.std.specs.Prelude.{OnOk}
 use Rattle.std.specs.Result.{IfErr}

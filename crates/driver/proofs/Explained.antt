@@ -1,7 +1,7 @@
 -- The place in a history that is explained, and the entries before it.
-use Rattle.std.proofs.Common.{◌≡◌, ℕ, zero, suc, ◌+◌, ◌-◌, ◌<◌, ◌≤◌, ◌^◌, true, ltb-true, arith, List, [], ◌∷◌, ◌++◌, length, take, drop, reverse, get_or, Option, None, Some, Result, Ok, Err, IfSome, refl, ap, ◌∙◌, sym, subst, lit<}
+use Rattle.std.proofs.Common.{◌≡◌, ℕ, zero, suc, ◌+◌, ◌-◌, ◌<◌, ◌≤◌, ◌^◌, true, ltb-true, arith, List, [], ◌∷◌, ◌++◌, length, take, drop, reverse, Option, None, Some, Result, Ok, Err, IfSome, refl, ap, ◌∙◌, sym, subst, lit<}
 use Rattle.std.specs.List.{All, AllByRecursion, slice_get}
-use Rattle.std.specs.Prelude.{Bool, IfOk, IsSomeAnd, if◌then◌else◌, min}
+use Rattle.std.specs.Prelude.{Bool, IfOk, IsSomeAnd, if◌then◌else◌}
 use Rattle.std.proofs.lemmas.List.{drop_at, get_or-take, length-drop, length-reverse, length-take, reverse-append, reverse-reverse, take-append-drop, take-take}
 use Rattle.std.proofs.lemmas.Option.{get_or_from_slice_get, slice_get_within}
 use Rattle.audit.specs.declared.verdict.Judgement.{Judgement}

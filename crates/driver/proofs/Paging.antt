@@ -1,7 +1,7 @@
 -- The entries that a page shows, and the state before them.
 use Rattle.std.proofs.Common.{◌≡◌, ℕ, zero, suc, ◌<◌, ◌≤◌, arith, List, [], ◌∷◌, ◌++◌, length, take, drop, reverse, refl, ap, ◌∙◌, sym, subst}
 use Rattle.std.specs.List.{All}
-use Rattle.std.proofs.lemmas.List.{length-reverse, length-take, reverse-append, reverse-reverse, take-append-drop}
+use Rattle.std.proofs.lemmas.List.{length-take, reverse-append, reverse-reverse, take-append-drop}
 use Rattle.audit.specs.declared.verdict.Judgement.{Judgement}
 use Rattle.audit.specs.declared.verdict.Judgement.TheVariants.{Legal, NotLegal}
 use Rattle.audit.specs.declared.verdict.Verdict.{Verdict}

@@ -11,7 +11,8 @@ use Rattle.drawing.specs.declared.bar.Bar.{Bar}
 use Rattle.drawing.specs.declared.mark.Sign.{Sign}
 use Rattle.drawing.specs.Bars.{bars}
 use Rattle.drawing.specs.IsBar.{IsBar}
-use Rattle.drawing.specs.Marks.{mark_of, marks, sign_of}
+use Rattle.drawing.specs.Barging.{barges}
+use Rattle.drawing.specs.Marks.{mark_of, marks, sign_at}
 use Rattle.history.specs.declared.entry.Entry.{Entry}
 use Rattle.history.specs.Base.{Base}
 use Rattle.history.specs.Start.{Start}
@@ -42,11 +43,11 @@ early_by true n i sign lt = All-nil IsEarly
 early_by false n i sign lt = one_early n i sign lt
 
 -- nor are its marks after it
-pub all_early : (from : ℕ) (h : List Entry) → length h < 2 ^ 32 → All IsEarly (marks from h)
-all_early from [] few = All-nil IsEarly
-all_early from (e ∷ h) few =
-    All-append IsEarly (marks from h) _ (all_early from h (omega (arith, few)))
-    (early_by (nat_lt (length h) from) (length h) e.seat (sign_of e.word e.end) (omega (arith, few)))
+pub all_early : (s : Start) (from : ℕ) (h : List Entry) → length h < 2 ^ 32 → All IsEarly (marks s from h)
+all_early s from [] few = All-nil IsEarly
+all_early s from (e ∷ h) few =
+    All-append IsEarly (marks s from h) _ (all_early s from h (omega (arith, few)))
+    (early_by (nat_lt (length h) from) (length h) e.seat (sign_at (barges s e h) e.word e.end) (omega (arith, few)))
 
 -- the front that is legal is no longer than the entries
 pub front_short : (verdict : Verdict) (entries : List Entry) → length entries < 2 ^ 32 →

@@ -18,3 +18,9 @@ pub lines : (p o q r s t a b c d e : List ℕ) → p ≡ a → o ≡ p ++ b → 
     t ≡ s ++ 10 ∷ [] → t ≡ a ++ b ++ c ++ d ++ (e ++ 10 ∷ [])
 lines p o q r s t a b c d e first second third fourth fifth sixth =
     sixth ∙ rw (fifth, fourth, third, second, first) (append_assoc (a ++ b ++ c ++ d) e (10 ∷ []))
+
+-- pieces, of which the first is written to nothing
+pub pieces : (n o p q r s t a b c d e f : List ℕ) → n ≡ [] → o ≡ n ++ a → p ≡ o ++ b → q ≡ p ++ c →
+    r ≡ q ++ d → s ≡ r ++ e → t ≡ s ++ f → t ≡ a ++ b ++ c ++ d ++ e ++ f
+pieces n o p q r s t a b c d e f none first second third fourth fifth sixth =
+    sixth ∙ rw (fifth, fourth, third, second, first, none) (simp append_assoc)

@@ -8,7 +8,9 @@ use Rattle.history.specs.Base.{Base, based}
 use Rattle.history.specs.Legal.{IsLegal}
 use Rattle.history_text.specs.HistoryText.{IsHistoryText, history_form}
 use Rattle.streams.specs.declared.stream_fault.StreamFault.{StreamFault}
+use Rattle.driver.specs.AuditJson.{audit_in}
 use Rattle.driver.specs.AuditText.{audit_text}
+use Rattle.driver.specs.declared.notation.Notation.{Notation}
 use Rattle.streams.specs.Streams.{IsReadOut, Streams}
 
 -- the history is legal from its base on, or this is its first illegal entry, counted from the base
@@ -33,6 +35,11 @@ Audited = IsToldOf audit_text
 -- what an audit leaves
 abbrev pub Audits : Option (List ℕ) → Option (List ℕ) → Option (List ℕ) → Result Verdict StreamFault → Type 0
 Audits = Streams history_form Audited
+
+-- what an audit in a notation leaves
+abbrev pub AuditsIn : Notation → Option (List ℕ) → Option (List ℕ) → Option (List ℕ) → Result Verdict StreamFault →
+    Type 0
+AuditsIn notation = Streams history_form (IsToldOf (audit_in notation))
 
 -- how far an audit reads
 abbrev pub HistoryReadOut : Option (List ℕ) → Result Verdict StreamFault → Option (List ℕ) → Type 0

@@ -39,7 +39,7 @@ pictured b choice count verdict drawn =
       is_cut = is_cut choice count;
       wrong = wrong_of b.entries verdict;
       bars = bars (based b) (first_of choice b.entries) (reverse drawn);
-      marks = marks (first_of choice b.entries) (reverse drawn);
+      marks = marks (based b) (first_of choice b.entries) (reverse drawn);
       curve = curve (based b) (first_of choice b.entries) (reverse drawn);
     }
 

@@ -1,10 +1,10 @@
 -- What explains an entry of a history text.
-use Rattle.std.specs.Prelude.{ℕ, ◌+◌, ◌-◌, Bool, true, false, if◌then◌else◌, min, nat_lt, List, [], Option, Some, None, Result, length, reverse, take}
+use Rattle.std.specs.Prelude.{ℕ, ◌+◌, ◌-◌, Bool, true, if◌then◌else◌, min, nat_lt, List, [], Option, Some, None, Result, length, reverse, take}
 use Rattle.std.specs.List.{slice_get}
 use Rattle.audit.specs.declared.verdict.Verdict.{Verdict}
 use Rattle.audit.specs.declared.verdict.Verdict.TheVariants.{Legal, NotLegal}
 use Rattle.deciding.specs.Balance.{balance}
-use Rattle.explain_text.specs.Document.{FoundView, ToldView, explained, unfolded_text}
+use Rattle.explain_text.specs.Document.{FoundView, explained, unfolded_text}
 use Rattle.explaining.specs.declared.explanation.Standing.{Standing}
 use Rattle.explaining.specs.declared.naming.Naming.TheVariants.{NobodyWaits}
 use Rattle.explaining.specs.Naming.{naming_of}

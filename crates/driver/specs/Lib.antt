@@ -1,4 +1,5 @@
 pub mod Answers
+pub mod AuditJson
 pub mod AuditStream
 pub mod AuditText
 pub mod BaseReader

@@ -1,22 +1,5 @@
 -- Reading a text from a source, one item at a time.
-use Rattle.std.specs.Prelude.{
-  ◌+◌,
-  ◌≤◌,
-  ℕ,
-  List,
-  [],
-  ◌∷◌,
-  ◌++◌,
-  length,
-  Option,
-  Some,
-  None,
-  Result,
-  Ok,
-  Err,
-  IfSome,
-  IsSomeAnd,
-}
+use Rattle.std.specs.Prelude.{◌≤◌, ℕ, List, [], ◌∷◌, ◌++◌, length, Option, Some, None, Result, Ok, Err, IfSome, IsSomeAnd}
 use Rattle.std.specs.Io.KnownBytes.{Keeps, prepend_known}
 use Rattle.line_text.specs.Form.{Form}
 use Rattle.line_text.specs.Reading.{IsText, IsReading}

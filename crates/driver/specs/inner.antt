@@ -6,5 +6,6 @@ pub mod Judged
 pub mod Logged
 pub mod ReplayStream
 pub mod StepReader
+pub mod Summed
 pub mod TextReader
 pub mod VerdictText

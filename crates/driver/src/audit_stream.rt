@@ -1,20 +1,28 @@
 //! From a history text to an audit text.
 
-ghost use Rattle.std.specs.Prelude.{◌≡◌, ◌↔◌, false, IsTrue, IfErr, IfOk, IsErrOf, OnOk};
+ghost use Rattle.std.specs.Prelude.{◌≡◌, ◌+◌, ◌<◌, ◌^◌, ◌↔◌, List, false, length, IsTrue, IfErr, IfOk, IsErrOf, OnOk};
 ghost use Rattle.std.specs.Io.KnownBytes.{IsAtEnd};
-ghost use Rattle.driver.specs.AuditStream.{Audits};
+ghost use Rattle.audit.specs.Verdict.{IsJudgement, verdict_of};
+ghost use Rattle.driver.specs.AuditJson.{audit_in};
+ghost use Rattle.driver.specs.AuditStream.{Audits, AuditsIn};
 ghost use Rattle.driver.specs.inner.VerdictText.{IsVerdictText};
-ghost use Rattle.driver.specs.AuditText.{audit_text};
+ghost use Rattle.driver.specs.AuditText.{before_wrong};
 ghost use Rattle.driver.specs.TextReader.{IsFaultOf};
+ghost use Rattle.history.specs.declared.entry.Entry.{Entry};
+ghost use Rattle.history.specs.Base.{Base, based};
+ghost use Rattle.history.specs.Legal.{calls as history_calls};
 ghost use Rattle.history_text.specs.HistoryText.{history_form};
 ghost use Rattle.streams.specs.Streams.{IsReadNoFurther, IsReadOut};
 
+use crate::audit_json::audit_json;
 use crate::audit_text::audit_text;
 use crate::history_reader::HistoryReader;
 use crate::judged::judged_of;
+use crate::notation::Notation;
 use crate::verdict_text::{VerdictText, write_verdict};
-use audit::verdict::Verdict;
-use std::alloc::Global;
+use audit::verdict::{Judgement, Verdict};
+use history::header::Object;
+use std::alloc::{AllocError, Global};
 use streams::sink::Sink;
 use streams::source::Source;
 use streams::stream_fault::StreamFault;
@@ -39,14 +47,57 @@ pub fn audit_stream<R: Source, W: Sink>(
     ensures read { IsErrOf result StreamFault.ReadFailed ↔ IsTrue (R.failed reader.new) }
     ensures write { IsErrOf result StreamFault.WriteFailed ↔ IsTrue (W.failed writer.new) }
 {
-    let outcome = audit_of(alloc, reader);
+    audit_stream_in(alloc, reader, writer, Notation::Lines)
+}
+
+/// As [`audit_stream`], in a notation.
+pub fn audit_stream_in<R: Source, W: Sink>(
+    alloc: Global,
+    reader: &mut R,
+    writer: &mut W,
+    notation: Notation,
+) -> Result<Verdict, StreamFault>
+    requires reader { R.failed reader.old ≡ false }
+    requires writer { W.failed writer.old ≡ false }
+    ensures audits { AuditsIn notation (R.left reader.old) (W.held writer.old) (W.held writer.new) result }
+    ensures end { IsReadOut history_form (R.left reader.old) result (R.left reader.new) }
+    ensures read { IsErrOf result StreamFault.ReadFailed ↔ IsTrue (R.failed reader.new) }
+    ensures write { IsErrOf result StreamFault.WriteFailed ↔ IsTrue (W.failed writer.new) }
+{
+    let outcome = audit_of(alloc, reader, notation);
     write_verdict(reader, writer, outcome)
 }
 
-/// Returns the audit text of the history text that a source has.
-fn audit_of<R: Source>(alloc: Global, reader: &mut R) -> Result<VerdictText, StreamFault>
+/// Returns the audit in a notation, as [`audit_text`] does.
+fn audit_in(
+    alloc: Global,
+    notation: Notation,
+    object: Object,
+    folded: u64,
+    entries: u64,
+    calls: u64,
+    judgement: &Judgement,
+) -> Result<Vec<u8>, AllocError>
+    requires { folded + before_wrong (verdict_of judgement.now) < 2 ^ 64 }
+    ensures { (b : Base) (h : List Entry) → b.header.object ≡ object → folded ≡ b.entries →
+        entries ≡ b.entries + length h → calls ≡ history_calls (based b) h →
+        IsJudgement (based b) h judgement.now →
+        IfOk result (λ text. text.items ≡ audit_in notation b h (verdict_of judgement.now)) }
+{
+    match notation {
+        Notation::Lines => audit_text(alloc, object, folded, entries, calls, judgement),
+        Notation::Json => audit_json(alloc, object, folded, entries, calls, judgement),
+    }
+}
+
+/// Returns the audit of the history text that a source has.
+fn audit_of<R: Source>(
+    alloc: Global,
+    reader: &mut R,
+    notation: Notation,
+) -> Result<VerdictText, StreamFault>
     requires { R.failed reader.old ≡ false }
-    ensures ok { IfOk result (IsVerdictText audit_text (R.left reader.old)) }
+    ensures ok { IfOk result (IsVerdictText (audit_in notation) (R.left reader.old)) }
     ensures err { IfErr result (IsFaultOf history_form (R.left reader.old) (R.left reader.new)) }
     ensures memory { OnOk result (IsReadNoFurther history_form (R.left reader.old) (R.left reader.new)) }
     ensures ended { OnOk result (IsAtEnd (R.left reader.new)) }
@@ -55,8 +106,9 @@ fn audit_of<R: Source>(alloc: Global, reader: &mut R) -> Result<VerdictText, Str
     let mut entries = HistoryReader::open(alloc, reader)?;
     let judged = judged_of(alloc, &mut entries, reader, 0)?;
     let folded = entries.folded();
-    let text = audit_text(
+    let text = audit_in(
         alloc,
+        notation,
         entries.header().object,
         folded,
         folded + entries.count(),

@@ -127,7 +127,7 @@ fn put_count(out: &mut Vec<u8>, totals: &Totals) -> Result<(), AllocError>
 
 /// Appends a name and a number, with a minus sign if it is negative. On an error only the first bytes may
 /// have been appended.
-fn put_total(out: &mut Vec<u8>, name: &[u8], total: &i128) -> Result<(), AllocError>
+pub(crate) fn put_total(out: &mut Vec<u8>, name: &[u8], total: &i128) -> Result<(), AllocError>
     ensures { OnOk result (out.new.items ≡ out.old.items ++ name.now ++ signed_decimal total.now) }
 {
     let mut buffer = Buffer::new();

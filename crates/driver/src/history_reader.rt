@@ -23,9 +23,9 @@ use crate::end_of::end_of;
 use history::base::Base;
 use history::entry::Entry;
 use history::header::Header;
-use history::number::Numbering;
 use history_text::next_entry::{head_of, next_entry};
 use history_text::place::{Head, Place};
+use history_text::spelt_number::SpeltNumber;
 use line_text::fault::TextFault;
 use std::alloc::Global;
 use std::marker::Model;
@@ -40,7 +40,7 @@ pub struct HistoryReader {
     header: Header,
     base: Option<Base>,
     place: Place,
-    numbering: Numbering,
+    spelt: SpeltNumber,
     window: Window,
 }
 
@@ -91,7 +91,7 @@ impl HistoryReader {
             header: head.header,
             base,
             place,
-            numbering: Numbering::new(),
+            spelt: SpeltNumber::new(),
             window,
         })
     }
@@ -123,7 +123,7 @@ impl HistoryReader {
             header: _,
             base,
             place: _,
-            numbering: _,
+            spelt: _,
             window: _,
         } = self;
         base
@@ -188,7 +188,7 @@ impl HistoryReader {
         let Some((entry, left)) = next_entry(
             self.window.bytes(),
             &self.header,
-            &mut self.numbering,
+            &mut self.spelt,
             self.place,
         )?
         else {
@@ -224,7 +224,7 @@ impl HistoryReader {
         match next_entry(
             self.window.bytes(),
             &self.header,
-            &mut self.numbering,
+            &mut self.spelt,
             self.place,
         ) {
             Ok(Some((entry, left))) => {

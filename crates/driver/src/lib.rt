@@ -9,6 +9,7 @@
 
 mod answer_line;
 pub mod answers;
+pub mod audit_json;
 pub mod audit_stream;
 pub mod audit_text;
 mod base_reader;
@@ -21,10 +22,12 @@ pub mod history_reader;
 mod judged;
 pub mod limits;
 pub mod line_writer;
+pub mod notation;
 pub mod page_stream;
 pub mod remark;
 pub mod replay;
 pub mod replay_stream;
 pub mod step_reader;
 pub mod summary_stream;
+mod summed;
 mod verdict_text;

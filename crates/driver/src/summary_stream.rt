@@ -1,36 +1,40 @@
 //! From a history text to the summary of the history.
 
-ghost use Rattle.std.specs.Prelude.{◌≡◌, ◌<◌, ◌^◌, ◌↔◌, IsTrue, IfErr, IfOk};
-ghost use Rattle.std.specs.Prelude.{IsErrOf, OnOk, false, length, reverse};
+ghost use Rattle.std.specs.Prelude.{◌≡◌, ◌≤◌, ◌<◌, ◌^◌, ◌↔◌, IsTrue, IfErr, IfOk, IsErrOf, List, OnOk, false};
 ghost use Rattle.std.specs.Io.KnownBytes.{IsAtEnd};
-ghost use Rattle.history.specs.Header.{IsInRange};
-ghost use Rattle.history.specs.Point.{CanFold};
+ghost use Rattle.history.specs.Start.{Start};
+ghost use Rattle.history.specs.declared.entry.Entry.{Entry};
+ghost use Rattle.history.specs.declared.limits.TheConstants.{MOST_FOLDED};
 ghost use Rattle.driver.specs.inner.VerdictText.{IsVerdictText};
 ghost use Rattle.driver.specs.AuditText.{before_wrong};
-ghost use Rattle.driver.specs.SummaryStream.{Summarises, summarised_text, text_on};
+ghost use Rattle.driver.specs.DrawStream.{wrong_of};
+ghost use Rattle.driver.specs.SummaryStream.{Summarises, SummarisesIn, summarised_in, summary_in};
 ghost use Rattle.driver.specs.TextReader.{IsFaultOf};
 ghost use Rattle.history_text.specs.HistoryText.{history_form};
 ghost use Rattle.streams.specs.Streams.{IsReadNoFurther, IsReadOut};
+ghost use Rattle.summing.specs.Judging.{HasJudged, IsJudging, legal_front};
+ghost use Rattle.summing.specs.Summary.{summary};
+ghost use Rattle.summing.specs.Summing.{summary_of};
 
 use crate::draw_stream::wrong_of;
-use crate::explain_stream::{base_of, front, legal_count};
 use crate::history_reader::HistoryReader;
-use crate::judged::judged_of;
+use crate::notation::Notation;
+use crate::summed::summed_of;
 use crate::verdict_text::{VerdictText, write_verdict};
 use audit::verdict::Verdict;
-use history::base::Base;
-use history::entry::Entry;
 use std::alloc::{AllocError, Global};
 use streams::sink::Sink;
 use streams::source::Source;
 use streams::stream_fault::StreamFault;
 use summary_text::document::summary_text;
-use summing::summed::summed;
+use summary_text::json::summary_json;
+use summing::judging::JudgingSumming;
+use summing::summary::Summary;
 
 /// Reads a history text, judges the history from its base on, and writes its summary. Returns the verdict as
 /// well. A history that isn't legal is summed up to its first illegal entry.
 ///
-/// All entries are kept. As in [`audit_stream`](crate::audit_stream::audit_stream) all is read, and all memory
+/// It keeps no entry. As in [`audit_stream`](crate::audit_stream::audit_stream) all is read, and all memory
 /// reserved, before anything is written.
 pub fn summary_stream<R: Source, W: Sink>(
     alloc: Global,
@@ -44,45 +48,81 @@ pub fn summary_stream<R: Source, W: Sink>(
     ensures read { IsErrOf result StreamFault.ReadFailed ↔ IsTrue (R.failed reader.new) }
     ensures write { IsErrOf result StreamFault.WriteFailed ↔ IsTrue (W.failed writer.new) }
 {
-    let outcome = summed_up(alloc, reader);
+    summary_stream_in(alloc, reader, writer, Notation::Lines)
+}
+
+/// As [`summary_stream`], in a notation.
+pub fn summary_stream_in<R: Source, W: Sink>(
+    alloc: Global,
+    reader: &mut R,
+    writer: &mut W,
+    notation: Notation,
+) -> Result<Verdict, StreamFault>
+    requires reader { R.failed reader.old ≡ false }
+    requires writer { W.failed writer.old ≡ false }
+    ensures summarises { SummarisesIn notation (R.left reader.old) (W.held writer.old) (W.held writer.new) result }
+    ensures end { IsReadOut history_form (R.left reader.old) result (R.left reader.new) }
+    ensures read { IsErrOf result StreamFault.ReadFailed ↔ IsTrue (R.failed reader.new) }
+    ensures write { IsErrOf result StreamFault.WriteFailed ↔ IsTrue (W.failed writer.new) }
+{
+    let outcome = summed_up(alloc, reader, notation);
     write_verdict(reader, writer, outcome)
 }
 
 /// Returns the summary of the history text that a source has.
-fn summed_up<R: Source>(alloc: Global, reader: &mut R) -> Result<VerdictText, StreamFault>
+fn summed_up<R: Source>(
+    alloc: Global,
+    reader: &mut R,
+    notation: Notation,
+) -> Result<VerdictText, StreamFault>
     requires { R.failed reader.old ≡ false }
-    ensures ok { IfOk result (IsVerdictText summarised_text (R.left reader.old)) }
+    ensures ok { IfOk result (IsVerdictText (summarised_in notation) (R.left reader.old)) }
     ensures err { IfErr result (IsFaultOf history_form (R.left reader.old) (R.left reader.new)) }
     ensures memory { OnOk result (IsReadNoFurther history_form (R.left reader.old) (R.left reader.new)) }
     ensures ended { OnOk result (IsAtEnd (R.left reader.new)) }
     ensures failing { IsErrOf result StreamFault.ReadFailed ↔ IsTrue (R.failed reader.new) }
 {
     let mut entries = HistoryReader::open(alloc, reader)?;
-    let judged = judged_of(alloc, &mut entries, reader, u64::MAX)?;
-    let verdict = judged.judgement.verdict();
-    let legal = legal_count(verdict, entries.count());
-    let base = base_of(alloc, entries)?;
-    let text = text_on(alloc, &base, verdict, front(&judged.entries, legal))?;
+    let summing = summed_of(alloc, &mut entries, reader)?;
+    let verdict = summing.verdict();
+    let text = text_on(alloc, notation, entries.folded(), verdict, summing)?;
     Ok(VerdictText { verdict, text })
 }
 
-/// Returns the text about legal entries, the oldest first, of a history with this verdict.
+/// Returns a summary in a notation, as [`summary_text`] does.
+fn summary_in(
+    alloc: Global,
+    notation: Notation,
+    folded: u64,
+    wrong: Option<u64>,
+    summary: &Summary,
+) -> Result<Vec<u8>, AllocError>
+    ensures { IfOk result (λ text. text.items ≡ summary_in notation folded wrong (summary_of summary.now)) }
+{
+    match notation {
+        Notation::Lines => summary_text(alloc, folded, wrong, summary),
+        Notation::Json => summary_json(alloc, folded, wrong, summary),
+    }
+}
+
+/// Returns the text of a summary, of a history with this verdict after `folded` entries.
 fn text_on(
     alloc: Global,
-    base: &Base,
+    notation: Notation,
+    folded: u64,
     verdict: Verdict,
-    entries: &[Entry],
+    summing: JudgingSumming,
 ) -> Result<Vec<u8>, AllocError>
-    requires range { IsInRange base.now.header }
-    requires can { CanFold base.now (reverse entries.now) }
-    requires few { length entries.now < 2 ^ 32 }
+    requires folded { folded ≤ MOST_FOLDED }
     requires wrong { before_wrong verdict < 2 ^ 32 }
-    ensures { IfOk result (λ text. text.items ≡ text_on base.now verdict (reverse entries.now)) }
+    requires judging { IsJudging summing }
+    ensures { IfOk result (λ text. (s : Start) (h : List Entry) → HasJudged s h summing →
+        text.items
+        ≡ summary_in notation folded (wrong_of folded verdict) (summary s (legal_front summing.wrong h))) }
 {
-    let folded = base.entries as u64;
     let wrong = wrong_of(folded, verdict);
-    match summed(alloc, base, entries) {
+    match summing.finish(alloc) {
         Err(_) => Err(AllocError),
-        Ok(summary) => summary_text(alloc, folded, wrong, &summary),
+        Ok(summary) => summary_in(alloc, notation, folded, wrong, &summary),
     }
 }

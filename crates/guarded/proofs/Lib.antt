@@ -1,4 +1,5 @@
 pub mod Stowing
+pub mod Waits
 pub mod Calling
 pub mod Readers
 pub mod Shelving

@@ -1,9 +1,8 @@
 -- What is known of a pass that has the lock, or has it not.
 use Rattle.std.specs.Prelude.{◌≡◌, ◌<◌, ◌≤◌, ℕ, Bool, true, false, Result, Ok, Err}
 use Rattle.history.specs.declared.fault.Fault.{Fault}
-use Rattle.word_lock.specs.Point.{Before}
-use Rattle.monitor.specs.Shown.{Shown, IsSound}
-use Rattle.monitor.specs.Stepping.{IsSame}
+use Rattle.monitor.specs.Calling.{CanCall, Called}
+use Rattle.monitor.specs.Shown.{Shown}
 use Rattle.monitor.specs.declared.room.WhenFull.{WhenFull}
 use Rattle.monitor_fronts.specs.Holding.{holds}
 use Rattle.guarded.specs.declared.try_lock.TryLockFault.{TryLockFault}
@@ -12,6 +11,11 @@ use Rattle.guarded.specs.Asking.{CallReturns}
 use Rattle.guarded.specs.Full.{Call}
 use Rattle.guarded.specs.declared.slot.Slot.{Slot}
 use Rattle.guarded.specs.Stowed.{IsFull, MutexView}
+
+-- A pass of the lock that doesn't hold it, with a place to park for each seat.
+pub record CanLock (m : MutexView) (seats : ℕ) (p : Shown) : Type 0 where
+  pub can : CanCall m.lock seats p
+  pub free : holds p ≡ 0
 
 -- A pass of the lock that holds it, with the value, and with a place to park for each seat.
 pub record Guards {T : Type 0} (m : MutexView) (seats : ℕ) (p : Shown) (value : Slot T) : Type 0 where
@@ -23,9 +27,7 @@ pub record Guards {T : Type 0} (m : MutexView) (seats : ℕ) (p : Shown) (value 
 -- a call that got the lock, and the value with it
 pub record Locked {T : Type 0} (w : WhenFull) (call : Call) (old : Shown) (value : Slot T) (new : Shown) :
     Type 0 where
-  pub same : IsSame old new
-  pub begins : Before old.seen new.seen
-  pub shows : IsSound new
+  pub called : Called old new
   pub replied : CallReturns w call old new (Ok true)
   pub once : holds new ≡ 1
   pub there : IsFull value
@@ -33,9 +35,7 @@ pub record Locked {T : Type 0} (w : WhenFull) (call : Call) (old : Shown) (value
 -- a call that didn't get it, and what is returned
 pub record NotLocked (w : WhenFull) (call : Call) (old : Shown) (returned : Result Bool Fault) (new : Shown) :
     Type 0 where
-  pub same : IsSame old new
-  pub begins : Before old.seen new.seen
-  pub shows : IsSound new
+  pub called : Called old new
   pub replied : CallReturns w call old new returned
   pub free : holds new ≡ 0
 

@@ -1,16 +1,52 @@
 -- Waits that a predicate ends.
-use Rattle.std.specs.Prelude.{◌≤◌, ℕ, Err}
+use Rattle.std.specs.Prelude.{◌≡◌, ◌≤◌, ◌<◌, ◌-◌, ◌^◌, min, ℕ, suc, zero, Bool, true, Result, Ok, Err}
 use Rattle.history.specs.declared.fault.Fault.{Fault}
 use Rattle.monitor.specs.Acquire.{moment_after}
 use Rattle.monitor.specs.Shown.{Shown}
+use Rattle.monitor.specs.declared.how.How.TheVariants.{Timed}
 use Rattle.monitor.specs.declared.room.WhenFull.{WhenFull}
 use Rattle.permit.specs.Deed.{Deed, showed}
-use Rattle.guarded.specs.Asking.{CallReturns}
-use Rattle.guarded.specs.Full.{Call}
+use Rattle.guarded.specs.declared.slot.Slot.{Slot}
+use Rattle.guarded.specs.Asking.{CallReturns, awaits}
+use Rattle.guarded.specs.Reading.{Sees}
 
--- such a call, which was made last, returned this fault
-abbrev pub LastFailed : WhenFull → Call → Shown → Fault → Type 0
-LastFailed w call new fault = (front : Shown) × CallReturns w call front new (Err fault)
+-- what an owner has: its pass, and the value
+pub record Owner (T : Type 0) : Type 0 where
+  pub pass : Shown
+  pub slot : Slot T
+
+abbrev pub owner : {T : Type 0} → Shown → Slot T → Owner T
+owner pass slot = record { pass = pass; slot = slot }
+
+-- a wait of an owner, and what it returned
+abbrev pub AWait : Type 0 → Type 1
+AWait T = Owner T → Owner T → Result Bool Fault → Type 0
+
+-- a wait by such a call, which began while the predicate was true of the value
+pub record WaitsWhile {T : Type 0} (says : T → Bool → Type 0) (call : Shown → Shown → Result Bool Fault → Type 0)
+    (old new : Owner T) (returned : Result Bool Fault) : Type 0 where
+  pub sees : Sees says old.slot true
+  pub waits : call old.pass new.pass returned
+
+-- so many waits one after another, none of which failed
+abbrev pub WaitedTimes : {T : Type 0} → AWait T → ℕ → Owner T → Owner T → Type 0
+WaitedTimes wait zero old new = new ≡ old
+WaitedTimes {T} wait (suc count) old new =
+    (front : Owner T) × (signalled : Bool) × WaitedTimes wait count old front × wait front new (Ok signalled)
+
+-- waits one after another, or none; none of them failed
+abbrev pub Waited : {T : Type 0} → AWait T → Owner T → Owner T → Type 0
+Waited wait old new = (count : ℕ) × WaitedTimes wait count old new
+
+-- after such waits, one failed
+abbrev pub WaitFailed : {T : Type 0} → AWait T → Owner T → Owner T → Fault → Type 0
+WaitFailed {T} wait old new fault = (front : Owner T) × Waited wait old front × wait front new (Err fault)
+
+-- an await that an interrupt ends, with the time that was left until this moment when the clock showed another
+abbrev pub AwaitsUntil : (Deed → Type 0) → WhenFull → ℕ → ℕ → Shown → Shown → Result Bool Fault → Type 0
+AwaitsUntil did w condition end old new returned =
+    (moment : ℕ) × did (showed moment) × (moment < end)
+    × CallReturns w (awaits did condition (Timed (min (end - moment) (2 ^ 32 - 1)))) old new returned
 
 -- the clock showed a moment, and then one that comes so many milliseconds after it
 abbrev pub TimeWasUp : (Deed → Type 0) → ℕ → Type 0

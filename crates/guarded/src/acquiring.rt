@@ -1,14 +1,12 @@
 //! How items are acquired from a pool, and released into it.
-ghost use Rattle.std.specs.Prelude.{◌≡◌, ◌<◌, ◌≤◌, ◌^◌, ◌∷◌, [], IfErr, IfOk, IfSome, length};
-ghost use Rattle.monitor.specs.Shown.{IsSound};
-ghost use Rattle.monitor.specs.Stepping.{IsSame};
+ghost use Rattle.std.specs.Prelude.{◌≡◌, ◌<◌, ◌^◌, ◌∷◌, [], IfErr, IfOk, IfSome, length};
+ghost use Rattle.monitor.specs.Calling.{CanCall, Called};
 ghost use Rattle.monitor.specs.declared.how.How.TheVariants.{Interruptible, Plain, Timed};
 ghost use Rattle.guarded.specs.Asking.{CallReturns, yes_if_some};
 ghost use Rattle.monitor_fronts.specs.Holding.{with_yes};
 ghost use Rattle.monitor_fronts.specs.Permits.{DrainsFree};
 ghost use Rattle.guarded.specs.Pooling.{DrainReturns, IsReleased, drains, fetches, gives_back, how_many};
 ghost use Rattle.guarded.specs.Pooling.{tries_fetch, without_items};
-ghost use Rattle.word_lock.specs.Point.{Before};
 
 use crate::asking::PoolCall;
 use crate::pool::Pool;
@@ -36,11 +34,8 @@ impl<T: Drop> Pool<T> {
         pass: &mut Pass,
         n: u32,
     ) -> Result<LinkedList<T>, Fault>
-        requires is_of { pass.old.lock ≡ self.now.lock }
-        requires places { self.now.lock.header.seats ≤ P.seats parking.now }
-        ensures same { IsSame pass.old pass.new }
-        ensures begins { Before pass.old.seen pass.new.seen }
-        ensures shows { IsSound pass.new }
+        requires can { CanCall self.now.lock (P.seats parking.now) pass.old }
+        ensures called { Called pass.old pass.new }
         ensures items { IfOk result (λ items. length items ≡ n) }
         ensures returned { CallReturns self.now.when_full (fetches (P.did parking.now) n Interruptible)
             pass.old pass.new (with_yes result) }
@@ -57,11 +52,8 @@ impl<T: Drop> Pool<T> {
         pass: &mut Pass,
         n: u32,
     ) -> Result<LinkedList<T>, Fault>
-        requires is_of { pass.old.lock ≡ self.now.lock }
-        requires places { self.now.lock.header.seats ≤ P.seats parking.now }
-        ensures same { IsSame pass.old pass.new }
-        ensures begins { Before pass.old.seen pass.new.seen }
-        ensures shows { IsSound pass.new }
+        requires can { CanCall self.now.lock (P.seats parking.now) pass.old }
+        ensures called { Called pass.old pass.new }
         ensures items { IfOk result (λ items. length items ≡ n) }
         ensures returned { CallReturns self.now.when_full (fetches (P.did parking.now) n Plain) pass.old pass.new
             (with_yes result) }
@@ -78,11 +70,8 @@ impl<T: Drop> Pool<T> {
         pass: &mut Pass,
         n: u32,
     ) -> Result<Option<LinkedList<T>>, Fault>
-        requires is_of { pass.old.lock ≡ self.now.lock }
-        requires places { self.now.lock.header.seats ≤ P.seats parking.now }
-        ensures same { IsSame pass.old pass.new }
-        ensures begins { Before pass.old.seen pass.new.seen }
-        ensures shows { IsSound pass.new }
+        requires can { CanCall self.now.lock (P.seats parking.now) pass.old }
+        ensures called { Called pass.old pass.new }
         ensures items { IfOk result (λ got. IfSome got (λ items. length items ≡ n)) }
         ensures returned { CallReturns self.now.when_full (tries_fetch (P.did parking.now) n) pass.old pass.new
             (yes_if_some result) }
@@ -101,11 +90,8 @@ impl<T: Drop> Pool<T> {
         n: u32,
         ms: u32,
     ) -> Result<Option<LinkedList<T>>, Fault>
-        requires is_of { pass.old.lock ≡ self.now.lock }
-        requires places { self.now.lock.header.seats ≤ P.seats parking.now }
-        ensures same { IsSame pass.old pass.new }
-        ensures begins { Before pass.old.seen pass.new.seen }
-        ensures shows { IsSound pass.new }
+        requires can { CanCall self.now.lock (P.seats parking.now) pass.old }
+        ensures called { Called pass.old pass.new }
         ensures items { IfOk result (λ got. IfSome got (λ items. length items ≡ n)) }
         ensures returned { CallReturns self.now.when_full (fetches (P.did parking.now) n (Timed ms)) pass.old pass.new
             (yes_if_some result) }
@@ -121,11 +107,8 @@ impl<T: Drop> Pool<T> {
         parking: &P,
         pass: &mut Pass,
     ) -> Result<LinkedList<T>, Fault>
-        requires is_of { pass.old.lock ≡ self.now.lock }
-        requires places { self.now.lock.header.seats ≤ P.seats parking.now }
-        ensures same { IsSame pass.old pass.new }
-        ensures begins { Before pass.old.seen pass.new.seen }
-        ensures shows { IsSound pass.new }
+        requires can { CanCall self.now.lock (P.seats parking.now) pass.old }
+        ensures called { Called pass.old pass.new }
         ensures returned { DrainReturns self.now.when_full (drains (P.did parking.now)) pass.old pass.new
             (how_many result) }
         ensures all { DrainsFree pass.old (how_many result) pass.new }
@@ -135,7 +118,7 @@ impl<T: Drop> Pool<T> {
         };
         let reply = self
             .monitor
-            .enter_when_full(rt, parking, pass, &mut shelf, Step::Drain, self.when_full);
+            .enter(rt, parking, pass, &mut shelf, Step::Drain, self.when_full);
         match number(reply) {
             Ok(_) => {
                 let Shelf { items } = shelf;
@@ -158,12 +141,9 @@ impl<T: Drop> Pool<T> {
         pass: &mut Pass,
         items: LinkedList<T>,
     ) -> Result<(), (LinkedList<T>, Fault)>
-        requires is_of { pass.old.lock ≡ self.now.lock }
-        requires places { self.now.lock.header.seats ≤ P.seats parking.now }
+        requires can { CanCall self.now.lock (P.seats parking.now) pass.old }
         requires few { length items < 2 ^ 32 }
-        ensures same { IsSame pass.old pass.new }
-        ensures begins { Before pass.old.seen pass.new.seen }
-        ensures shows { IsSound pass.new }
+        ensures called { Called pass.old pass.new }
         ensures back { IfErr result (λ e. e.0 ≡ items) }
         ensures returned { CallReturns self.now.when_full (gives_back (P.did parking.now) (length items))
             pass.old pass.new (without_items result) }
@@ -194,11 +174,8 @@ impl<T: Drop> Pool<T> {
         parking: &P,
         pass: &mut Pass,
     ) -> Result<T, Fault>
-        requires is_of { pass.old.lock ≡ self.now.lock }
-        requires places { self.now.lock.header.seats ≤ P.seats parking.now }
-        ensures same { IsSame pass.old pass.new }
-        ensures begins { Before pass.old.seen pass.new.seen }
-        ensures shows { IsSound pass.new }
+        requires can { CanCall self.now.lock (P.seats parking.now) pass.old }
+        ensures called { Called pass.old pass.new }
         ensures returned { CallReturns self.now.when_full (fetches (P.did parking.now) 1 Interruptible)
             pass.old pass.new (with_yes result) }
     {
@@ -215,11 +192,8 @@ impl<T: Drop> Pool<T> {
         parking: &P,
         pass: &mut Pass,
     ) -> Result<Option<T>, Fault>
-        requires is_of { pass.old.lock ≡ self.now.lock }
-        requires places { self.now.lock.header.seats ≤ P.seats parking.now }
-        ensures same { IsSame pass.old pass.new }
-        ensures begins { Before pass.old.seen pass.new.seen }
-        ensures shows { IsSound pass.new }
+        requires can { CanCall self.now.lock (P.seats parking.now) pass.old }
+        ensures called { Called pass.old pass.new }
         ensures returned { CallReturns self.now.when_full (tries_fetch (P.did parking.now) 1) pass.old pass.new
             (yes_if_some result) }
     {
@@ -238,11 +212,8 @@ impl<T: Drop> Pool<T> {
         pass: &mut Pass,
         ms: u32,
     ) -> Result<Option<T>, Fault>
-        requires is_of { pass.old.lock ≡ self.now.lock }
-        requires places { self.now.lock.header.seats ≤ P.seats parking.now }
-        ensures same { IsSame pass.old pass.new }
-        ensures begins { Before pass.old.seen pass.new.seen }
-        ensures shows { IsSound pass.new }
+        requires can { CanCall self.now.lock (P.seats parking.now) pass.old }
+        ensures called { Called pass.old pass.new }
         ensures returned { CallReturns self.now.when_full (fetches (P.did parking.now) 1 (Timed ms)) pass.old pass.new
             (yes_if_some result) }
     {
@@ -262,11 +233,8 @@ impl<T: Drop> Pool<T> {
         pass: &mut Pass,
         item: T,
     ) -> Result<(), (T, Fault)>
-        requires is_of { pass.old.lock ≡ self.now.lock }
-        requires places { self.now.lock.header.seats ≤ P.seats parking.now }
-        ensures same { IsSame pass.old pass.new }
-        ensures begins { Before pass.old.seen pass.new.seen }
-        ensures shows { IsSound pass.new }
+        requires can { CanCall self.now.lock (P.seats parking.now) pass.old }
+        ensures called { Called pass.old pass.new }
         ensures back { IfErr result (λ e. e.0 ≡ item) }
         ensures returned { IsReleased self.now.when_full (gives_back (P.did parking.now) 1) pass.old
             pass.new result }
@@ -286,12 +254,9 @@ impl<T: Drop> Pool<T> {
         pass: &mut Pass,
         items: LinkedList<T>,
     ) -> Result<(), (T, Fault)>
-        requires is_of { pass.old.lock ≡ self.now.lock }
-        requires places { self.now.lock.header.seats ≤ P.seats parking.now }
+        requires can { CanCall self.now.lock (P.seats parking.now) pass.old }
         requires one { length items ≡ 1 }
-        ensures same { IsSame pass.old pass.new }
-        ensures begins { Before pass.old.seen pass.new.seen }
-        ensures shows { IsSound pass.new }
+        ensures called { Called pass.old pass.new }
         ensures back { IfErr result (λ e. items ≡ e.0 ∷ []) }
         ensures returned { CallReturns self.now.when_full (gives_back (P.did parking.now) 1) pass.old pass.new
             (without_items result) }

@@ -4,8 +4,8 @@ ghost use Rattle.std.specs.Borrow.{sem};
 ghost use Rattle.std.specs.Fn.{FnReturnsAt};
 ghost use Rattle.history.specs.declared.entry.Mode.TheVariants.{X};
 ghost use Rattle.history.specs.declared.step.Step.TheVariants.{Give};
+ghost use Rattle.monitor.specs.Calling.{Called};
 ghost use Rattle.monitor.specs.Acquire.{moment_after};
-ghost use Rattle.monitor.specs.Shown.{IsSound};
 ghost use Rattle.monitor.specs.Stepping.{IsSame};
 ghost use Rattle.monitor.specs.declared.how.How.TheVariants.{Plain, Interruptible, Timed};
 ghost use Rattle.monitor_fronts.specs.Holding.{gained, holds};
@@ -13,7 +13,8 @@ ghost use Rattle.guarded.specs.Asking.{IsRecorded, CallReturns, CallReturnsDone,
 ghost use Rattle.guarded.specs.Guarding.{Guards};
 ghost use Rattle.guarded.specs.Reading.{Sees};
 ghost use Rattle.guarded.specs.Stowed.{IsFull};
-ghost use Rattle.guarded.specs.Waiting.{LastFailed, TimeWasUp};
+ghost use Rattle.guarded.specs.Waiting.{AwaitsUntil, TimeWasUp, WaitFailed, Waited, WaitsWhile, owner};
+ghost use Rattle.permit.specs.Deed.{showed};
 ghost use Rattle.guarded.specs.declared.slot.Slot.TheVariants.{Full};
 
 use crate::asking::Asked;
@@ -170,8 +171,14 @@ impl<'a, T: Drop, P: Parking, R: Wait + Clock, H: Hooks + Drop> Guard<'a, T, P, 
         ensures guards { Guards self.new.lock.now (P.seats self.new.parking.now) self.new.pass.now self.new.slot }
         ensures keeps { holds self.new.pass.now ≡ holds self.old.pass.now }
         ensures over { IfOk result (λ _. Sees (FnReturnsAt F.Fn predicate) self.new.slot false) }
-        ensures failed { IfErr result (λ fault. LastFailed self.old.lock.now.when_full
-            (awaits (P.did self.old.parking.now) condition Interruptible) self.new.pass.now fault) }
+        ensures waited { IfOk result (λ _. Waited
+            (WaitsWhile (FnReturnsAt F.Fn predicate) (CallReturns self.old.lock.now.when_full
+            (awaits (P.did self.old.parking.now) condition Interruptible)))
+            (owner self.old.pass.now self.old.slot) (owner self.new.pass.now self.new.slot)) }
+        ensures failed { IfErr result (λ fault. WaitFailed
+            (WaitsWhile (FnReturnsAt F.Fn predicate) (CallReturns self.old.lock.now.when_full
+            (awaits (P.did self.old.parking.now) condition Interruptible)))
+            (owner self.old.pass.now self.old.slot) (owner self.new.pass.now self.new.slot) fault) }
     {
         for _ in self.rt.forever() {
             if !predicate(self.value()) {
@@ -199,8 +206,14 @@ impl<'a, T: Drop, P: Parking, R: Wait + Clock, H: Hooks + Drop> Guard<'a, T, P, 
         ensures keeps { holds self.new.pass.now ≡ holds self.old.pass.now }
         ensures over { IfOk result (λ is_over. Sees (FnReturnsAt F.Fn predicate) self.new.slot (not is_over)) }
         ensures in_time { result ≡ Ok false → TimeWasUp (P.did self.old.parking.now) ms }
-        ensures failed { IfErr result (λ fault. (left : _) × LastFailed self.old.lock.now.when_full
-            (awaits (P.did self.old.parking.now) condition (Timed left)) self.new.pass.now fault) }
+        ensures waited { IfOk result (λ _. (begun : _) × P.did self.old.parking.now (showed begun) × Waited
+            (WaitsWhile (FnReturnsAt F.Fn predicate) (AwaitsUntil (P.did self.old.parking.now)
+            self.old.lock.now.when_full condition (moment_after begun ms)))
+            (owner self.old.pass.now self.old.slot) (owner self.new.pass.now self.new.slot)) }
+        ensures failed { IfErr result (λ fault. (begun : _) × P.did self.old.parking.now (showed begun) × WaitFailed
+            (WaitsWhile (FnReturnsAt F.Fn predicate) (AwaitsUntil (P.did self.old.parking.now)
+            self.old.lock.now.when_full condition (moment_after begun ms)))
+            (owner self.old.pass.now self.old.slot) (owner self.new.pass.now self.new.slot) fault) }
     {
         let begun = self.parking.now(self.rt);
         let end = moment_after(begun, ms);
@@ -293,8 +306,7 @@ impl<'a, T: Drop, P: Parking, R: Wait + Clock, H: Hooks + Drop> Guard<'a, T, P, 
         requires guards { Guards self.lock.now (P.seats self.parking.now) self.pass.now self.slot }
         requires last { holds self.pass.now ≡ 1 }
         ensures free { holds self.exit.0.now ≡ 0 }
-        ensures same { IsSame self.entry.pass.now self.exit.0.now }
-        ensures shows { IsSound self.exit.0.now }
+        ensures called { Called self.entry.pass.now self.exit.0.now }
         ensures recorded { IsRecorded (P.did self.entry.parking.now) self.entry.pass.now (Give X 1) self.exit.0.now }
     {}
 }
@@ -304,8 +316,7 @@ impl<T: Drop, P: Parking, R: Wait + Clock, H: Hooks + Drop> Drop for Guard<'_, T
         requires guards { Guards self.lock.now (P.seats self.parking.now) self.pass.now self.slot }
         requires last { holds self.pass.now ≡ 1 }
         ensures free { holds self.exit.0.now ≡ 0 }
-        ensures same { IsSame self.entry.pass.now self.exit.0.now }
-        ensures shows { IsSound self.exit.0.now }
+        ensures called { Called self.entry.pass.now self.exit.0.now }
         ensures recorded { IsRecorded (P.did self.entry.parking.now) self.entry.pass.now (Give X 1) self.exit.0.now }
     {
         let Guard {

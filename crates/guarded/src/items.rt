@@ -1,10 +1,7 @@
 //! A pool lends an item to a closure.
-ghost use Rattle.std.specs.Prelude.{◌≡◌, ◌≤◌};
 ghost use Rattle.std.specs.Fn.{FnOnceReturnsAtMut};
-ghost use Rattle.monitor.specs.Shown.{IsSound};
-ghost use Rattle.monitor.specs.Stepping.{IsSame};
+ghost use Rattle.monitor.specs.Calling.{CanCall, Called};
 ghost use Rattle.guarded.specs.LentItems.{IsLent};
-ghost use Rattle.word_lock.specs.Point.{Before};
 
 use crate::pool::Pool;
 use history::fault::Fault;
@@ -34,12 +31,9 @@ impl<T: Drop> Pool<T> {
         pass: &mut Pass,
         work: F,
     ) -> Result<A, ItemFault<T, A>>
-        requires is_of { pass.old.lock ≡ self.now.lock }
-        requires places { self.now.lock.header.seats ≤ P.seats parking.now }
+        requires can { CanCall self.now.lock (P.seats parking.now) pass.old }
         requires callable { F.IsAlwaysCallable work }
-        ensures same { IsSame pass.old pass.new }
-        ensures begins { Before pass.old.seen pass.new.seen }
-        ensures shows { IsSound pass.new }
+        ensures called { Called pass.old pass.new }
         ensures lent { IsLent self.now.when_full (P.did parking.now)
             (λ before answer after. FnOnceReturnsAtMut F.FnOnce work before answer after) pass.old pass.new result }
     {

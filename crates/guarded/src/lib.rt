@@ -22,10 +22,12 @@
 //! Each call records its steps in the history of the lock or pool, which has room for `cap` entries, owed ones
 //! included. [`WhenFull`] says what a call does if its first step finds no room:
 //!
-//! - [`WhenFull::Refuse`]: it returns `HistoryFull`. Nothing is recorded and nothing is folded.
-//! - [`WhenFull::Trim`]: it folds all entries and makes the step from there, in the same turn of the lock. It folds
-//!   only if there was no room. It returns `HistoryFull` only if a history without entries has no room, and
-//!   `TrimFull` only if more than 1000000000000000 entries would be folded.
+//! - [`WhenFull::Refuse`]: it returns `HistoryFull`. Nothing is recorded.
+//! - [`WhenFull::Trim`]: it folds all entries and makes the step from there, in the same turn of the lock. It
+//!   returns `HistoryFull` only if a history without entries has no room, and `TrimFull` only if more than
+//!   1000000000000000 entries would be folded.
+//!
+//! That `Refuse` folds nothing, and that `Trim` folds only if there was no room, is in the code and in no contract.
 //!
 //! An `unlock` always has room and memory: both were reserved when the hold was recorded. The same holds for
 //! `unread` and [`downgrade`](Guard::downgrade). A `release` of items may lack them, and then returns the

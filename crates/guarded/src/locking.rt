@@ -1,11 +1,11 @@
 //! How a pass comes to hold a lock that guards a value.
-ghost use Rattle.std.specs.Prelude.{◌≡◌, ◌≤◌, IfOk};
+ghost use Rattle.std.specs.Prelude.{◌≡◌, IfOk};
 ghost use Rattle.std.specs.Borrow.{sem, RestsIfErr};
 ghost use Rattle.monitor.specs.contracts.pass.Pass.{the_row};
 ghost use Rattle.monitor.specs.declared.how.How.TheVariants.{Plain, Interruptible, Timed};
 ghost use Rattle.monitor_fronts.specs.Holding.{holds, with_yes};
 ghost use Rattle.guarded.specs.Asking.{acquires, tries};
-ghost use Rattle.guarded.specs.Guarding.{Guards, Locked, NotLocked, yes_unless_missed};
+ghost use Rattle.guarded.specs.Guarding.{CanLock, Guards, Locked, NotLocked, yes_unless_missed};
 
 use crate::asking::Asked;
 use crate::guard::Guard;
@@ -32,9 +32,7 @@ impl<T: Drop, H: Hooks + Drop> Mutex<T, H> {
         rt: &'a R,
         parking: &'a P,
     ) -> Result<Guard<'a, T, P, R, H>, Fault>
-        requires is_of { pass.old.lock ≡ lock.now.lock }
-        requires places { lock.now.lock.header.seats ≤ P.seats parking.now }
-        requires free { holds pass.old ≡ 0 }
+        requires can { CanLock lock.now (P.seats parking.now) pass.old }
         ensures* not_locked { sem 𝓛 (RestsIfErr the_row pass.entry (λ guard. guard.pass.ghost_name) result
             (λ last. NotLocked lock.now.when_full (acquires (P.did parking.now) Plain)
             pass.old (with_yes result) last)) }
@@ -63,9 +61,7 @@ impl<T: Drop, H: Hooks + Drop> Mutex<T, H> {
         rt: &'a R,
         parking: &'a P,
     ) -> Result<Guard<'a, T, P, R, H>, Fault>
-        requires is_of { pass.old.lock ≡ lock.now.lock }
-        requires places { lock.now.lock.header.seats ≤ P.seats parking.now }
-        requires free { holds pass.old ≡ 0 }
+        requires can { CanLock lock.now (P.seats parking.now) pass.old }
         ensures* not_locked { sem 𝓛 (RestsIfErr the_row pass.entry (λ guard. guard.pass.ghost_name) result
             (λ last. NotLocked lock.now.when_full (acquires (P.did parking.now) Interruptible)
             pass.old (with_yes result) last)) }
@@ -94,9 +90,7 @@ impl<T: Drop, H: Hooks + Drop> Mutex<T, H> {
         rt: &'a R,
         parking: &'a P,
     ) -> Result<Guard<'a, T, P, R, H>, TryLockFault>
-        requires is_of { pass.old.lock ≡ lock.now.lock }
-        requires places { lock.now.lock.header.seats ≤ P.seats parking.now }
-        requires free { holds pass.old ≡ 0 }
+        requires can { CanLock lock.now (P.seats parking.now) pass.old }
         ensures* not_locked { sem 𝓛 (RestsIfErr the_row pass.entry (λ guard. guard.pass.ghost_name) result
             (λ last. NotLocked lock.now.when_full (tries (P.did parking.now))
             pass.old (yes_unless_missed result) last)) }
@@ -126,9 +120,7 @@ impl<T: Drop, H: Hooks + Drop> Mutex<T, H> {
         parking: &'a P,
         ms: u32,
     ) -> Result<Guard<'a, T, P, R, H>, TryLockFault>
-        requires is_of { pass.old.lock ≡ lock.now.lock }
-        requires places { lock.now.lock.header.seats ≤ P.seats parking.now }
-        requires free { holds pass.old ≡ 0 }
+        requires can { CanLock lock.now (P.seats parking.now) pass.old }
         ensures* not_locked { sem 𝓛 (RestsIfErr the_row pass.entry (λ guard. guard.pass.ghost_name) result
             (λ last. NotLocked lock.now.when_full (acquires (P.did parking.now) (Timed ms))
             pass.old (yes_unless_missed result) last)) }

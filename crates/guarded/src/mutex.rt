@@ -11,20 +11,20 @@ ghost use Rattle.history.specs.declared.fault.Fault.TheVariants.{OutOfMemory};
 ghost use Rattle.history.specs.declared.header.Object.TheVariants.{Lock};
 ghost use Rattle.history.specs.declared.header.Policy.TheVariants.{NonFair};
 ghost use Rattle.history.specs.declared.step.Step.TheVariants.{Give};
+ghost use Rattle.monitor.specs.Calling.{CanCall, Called};
 ghost use Rattle.monitor.specs.Acquire.{is_timed};
 ghost use Rattle.monitor.specs.declared.how.How.TheVariants.{Plain};
 ghost use Rattle.monitor.specs.Closing.{IsBased, IsMissing, IsWithin, left_by, passes_of, shares};
 ghost use Rattle.monitor.specs.declared.closing.CloseFault.TheVariants.{MissingPass};
 ghost use Rattle.monitor.specs.Lawful.{IsLawful, blank};
-ghost use Rattle.monitor.specs.Shown.{IsSound, opening_passes};
+ghost use Rattle.monitor.specs.Shown.{opening_passes};
 ghost use Rattle.monitor.specs.Stepping.{IsSame};
 ghost use Rattle.monitor.specs.declared.room.WhenFull.TheVariants.{Trim};
 ghost use Rattle.monitor_fronts.specs.Holding.{gained, holds};
 ghost use Rattle.guarded.specs.Asking.{IsRecorded, CallReturns, acquires, awaits};
 ghost use Rattle.guarded.specs.inner.Asking.{IsTake, call_of, gained_by};
-ghost use Rattle.guarded.specs.Guarding.{Guards, Locked, NotLocked, missed_as_no};
+ghost use Rattle.guarded.specs.Guarding.{CanLock, Guards, Locked, NotLocked, missed_as_no};
 ghost use Rattle.guarded.specs.Stowed.{Carries, Rests, slot_of};
-ghost use Rattle.word_lock.specs.Point.{Before};
 
 use crate::asking::Asked;
 use crate::options::Options;
@@ -209,13 +209,10 @@ impl<T: Drop, H: Hooks + Drop> Mutex<T, H> {
         slot: &mut Slot<T>,
         asked: Asked,
     ) -> Result<Entry, Fault>
-        requires is_of { pass.old.lock ≡ self.now.lock }
-        requires places { self.now.lock.header.seats ≤ P.seats parking.now }
+        requires can { CanCall self.now.lock (P.seats parking.now) pass.old }
         requires carries { Carries (holds pass.old) slot.old }
-        ensures same { IsSame pass.old pass.new }
-        ensures begins { Before pass.old.seen pass.new.seen }
-        ensures shows { IsSound pass.new }
-        ensures called { call_of (P.did parking.now) asked self.now.when_full pass.old result pass.new }
+        ensures called { Called pass.old pass.new }
+        ensures made { call_of (P.did parking.now) asked self.now.when_full pass.old result pass.new }
         ensures gains { holds pass.new ≡ holds pass.old + gained_by asked result }
         ensures carries { Carries (holds pass.new) slot.new }
     {
@@ -223,16 +220,15 @@ impl<T: Drop, H: Hooks + Drop> Mutex<T, H> {
         match asked {
             Asked::Acquire(how) => {
                 self.monitor
-                    .acquire_when_full(rt, parking, pass, slot, Mode::X, 1, how, when_full)
+                    .acquire_with(rt, parking, pass, slot, Mode::X, 1, how, when_full)
             }
             Asked::Try => {
                 let step = Step::Try(Mode::X, 1);
-                self.monitor
-                    .enter_when_full(rt, parking, pass, slot, step, when_full)
+                self.monitor.enter(rt, parking, pass, slot, step, when_full)
             }
             Asked::Await(condition, how) => {
                 self.monitor
-                    .await_when_full(rt, parking, pass, slot, condition, how, when_full)
+                    .await_on_with(rt, parking, pass, slot, condition, how, when_full)
             }
         }
     }
@@ -245,10 +241,8 @@ impl<T: Drop, H: Hooks + Drop> Mutex<T, H> {
         pass: &mut Pass,
         asked: Asked,
     ) -> Result<Slot<T>, TryLockFault>
-        requires is_of { pass.old.lock ≡ self.now.lock }
-        requires places { self.now.lock.header.seats ≤ P.seats parking.now }
+        requires can { CanLock self.now (P.seats parking.now) pass.old }
         requires takes { IsTake asked }
-        requires free { holds pass.old ≡ 0 }
         ensures locked { IfOk result (λ slot.
             Locked self.now.when_full (call_of (P.did parking.now) asked) pass.old slot pass.new) }
         ensures not_locked { IfErr result (λ fault.
@@ -271,10 +265,8 @@ impl<T: Drop, H: Hooks + Drop> Mutex<T, H> {
         pass: &mut Pass,
         how: How,
     ) -> Result<Slot<T>, Fault>
-        requires is_of { pass.old.lock ≡ self.now.lock }
-        requires places { self.now.lock.header.seats ≤ P.seats parking.now }
+        requires can { CanLock self.now (P.seats parking.now) pass.old }
         requires untimed { is_timed how → ⊥ }
-        requires free { holds pass.old ≡ 0 }
         ensures locked { IfOk result (λ slot.
             Locked self.now.when_full (acquires (P.did parking.now) how) pass.old slot pass.new) }
         ensures not_locked { IfErr result (λ fault.
@@ -295,20 +287,19 @@ impl<T: Drop, H: Hooks + Drop> Mutex<T, H> {
         pass: &mut Pass,
         slot: &mut Slot<T>,
     )
-        requires is_of { pass.old.lock ≡ self.now.lock }
-        requires places { self.now.lock.header.seats ≤ P.seats parking.now }
+        requires can { CanCall self.now.lock (P.seats parking.now) pass.old }
         requires has { 0 < holds pass.old }
         requires carries { Carries (holds pass.old) slot.old }
-        ensures same { IsSame pass.old pass.new }
-        ensures shows { IsSound pass.new }
+        ensures called { Called pass.old pass.new }
         ensures recorded { IsRecorded (P.did parking.now) pass.old (Give X 1) pass.new }
         ensures loses { holds pass.new + 1 ≡ holds pass.old }
         ensures carries { Carries (holds pass.new) slot.new }
     {
         pass.is_true();
+        let step = Step::Give(Mode::X, 1);
         match self
             .monitor
-            .enter(rt, parking, pass, slot, Step::Give(Mode::X, 1))
+            .enter(rt, parking, pass, slot, step, WhenFull::Refuse)
         {
             Ok(_) => {}
             Err(_) => unreachable!(),
@@ -325,8 +316,7 @@ impl<T: Drop, H: Hooks + Drop> Mutex<T, H> {
     )
         requires guards { Guards self.now (P.seats parking.now) pass.old slot }
         requires last { holds pass.old ≡ 1 }
-        ensures same { IsSame pass.old pass.new }
-        ensures shows { IsSound pass.new }
+        ensures called { Called pass.old pass.new }
         ensures recorded { IsRecorded (P.did parking.now) pass.old (Give X 1) pass.new }
         ensures free { holds pass.new ≡ 0 }
     {

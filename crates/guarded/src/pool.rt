@@ -10,12 +10,12 @@ ghost use Rattle.history.specs.Legal.{AreSeated, calls};
 ghost use Rattle.history.specs.declared.fault.Fault.TheVariants.{OutOfMemory};
 ghost use Rattle.history.specs.declared.header.Object.TheVariants.{Semaphore};
 ghost use Rattle.history.specs.declared.header.Policy.TheVariants.{NonFair};
+ghost use Rattle.monitor.specs.Calling.{CanCall, Called};
 ghost use Rattle.monitor.specs.Acquire.{is_timed};
 ghost use Rattle.monitor.specs.Closing.{IsBased, IsMissing, IsWithin, left_by, passes_of, shares};
 ghost use Rattle.monitor.specs.declared.closing.CloseFault.TheVariants.{MissingPass};
 ghost use Rattle.monitor.specs.Lawful.{IsLawful, blank};
-ghost use Rattle.monitor.specs.Shown.{IsSound, opening_passes};
-ghost use Rattle.monitor.specs.Stepping.{IsSame};
+ghost use Rattle.monitor.specs.Shown.{opening_passes};
 ghost use Rattle.monitor.specs.declared.room.WhenFull.TheVariants.{Trim};
 ghost use Rattle.monitor_fronts.specs.Returned.{is_done, whether_of};
 ghost use Rattle.guarded.specs.Asking.{CallReturns, yes_if_some};
@@ -24,7 +24,6 @@ ghost use Rattle.guarded.specs.Pooling.{Answers, fetches};
 ghost use Rattle.guarded.specs.inner.Pooling.{asked_by, brought_by, has_after};
 ghost use Rattle.guarded.specs.inner.Pooling.{pool_call};
 ghost use Rattle.guarded.specs.Shelved.{Lies};
-ghost use Rattle.word_lock.specs.Point.{Before};
 
 use crate::asking::PoolCall;
 use crate::shelf::Shelf;
@@ -211,13 +210,10 @@ impl<T: Drop> Pool<T> {
         shelf: &mut Shelf<T>,
         asked: PoolCall,
     ) -> Result<Entry, Fault>
-        requires is_of { pass.old.lock ≡ self.now.lock }
-        requires places { self.now.lock.header.seats ≤ P.seats parking.now }
+        requires can { CanCall self.now.lock (P.seats parking.now) pass.old }
         requires brings { length shelf.old.items ≡ brought_by asked }
-        ensures same { IsSame pass.old pass.new }
-        ensures begins { Before pass.old.seen pass.new.seen }
-        ensures shows { IsSound pass.new }
-        ensures called { pool_call (P.did parking.now) asked self.now.when_full pass.old result pass.new }
+        ensures called { Called pass.old pass.new }
+        ensures made { pool_call (P.did parking.now) asked self.now.when_full pass.old result pass.new }
         ensures answers { Answers asked (whether_of result) }
         ensures has { length shelf.new.items ≡ has_after asked (whether_of result) }
         ensures keeps { is_done (whether_of result) ≡ false → shelf.new ≡ shelf.old }
@@ -226,17 +222,17 @@ impl<T: Drop> Pool<T> {
         match asked {
             PoolCall::Acquire(n, how) => {
                 self.monitor
-                    .acquire_when_full(rt, parking, pass, shelf, Mode::S, n, how, when_full)
+                    .acquire_with(rt, parking, pass, shelf, Mode::S, n, how, when_full)
             }
             PoolCall::Try(n) => {
                 let step = Step::Try(Mode::S, n);
                 self.monitor
-                    .enter_when_full(rt, parking, pass, shelf, step, when_full)
+                    .enter(rt, parking, pass, shelf, step, when_full)
             }
             PoolCall::Release(n) => {
                 let step = Step::Give(Mode::S, n);
                 self.monitor
-                    .enter_when_full(rt, parking, pass, shelf, step, when_full)
+                    .enter(rt, parking, pass, shelf, step, when_full)
             }
         }
     }
@@ -249,12 +245,9 @@ impl<T: Drop> Pool<T> {
         pass: &mut Pass,
         asked: PoolCall,
     ) -> Result<Option<LinkedList<T>>, Fault>
-        requires is_of { pass.old.lock ≡ self.now.lock }
-        requires places { self.now.lock.header.seats ≤ P.seats parking.now }
+        requires can { CanCall self.now.lock (P.seats parking.now) pass.old }
         requires brings { brought_by asked ≡ 0 }
-        ensures same { IsSame pass.old pass.new }
-        ensures begins { Before pass.old.seen pass.new.seen }
-        ensures shows { IsSound pass.new }
+        ensures called { Called pass.old pass.new }
         ensures items { IfOk result (λ got. IfSome got (λ items. length items ≡ asked_by asked)) }
         ensures returned { CallReturns self.now.when_full (pool_call (P.did parking.now) asked) pass.old pass.new
             (yes_if_some result) }
@@ -289,12 +282,9 @@ impl<T: Drop> Pool<T> {
         n: u32,
         how: How,
     ) -> Result<LinkedList<T>, Fault>
-        requires is_of { pass.old.lock ≡ self.now.lock }
-        requires places { self.now.lock.header.seats ≤ P.seats parking.now }
+        requires can { CanCall self.now.lock (P.seats parking.now) pass.old }
         requires untimed { is_timed how → ⊥ }
-        ensures same { IsSame pass.old pass.new }
-        ensures begins { Before pass.old.seen pass.new.seen }
-        ensures shows { IsSound pass.new }
+        ensures called { Called pass.old pass.new }
         ensures items { IfOk result (λ items. length items ≡ n) }
         ensures returned { CallReturns self.now.when_full (fetches (P.did parking.now) n how) pass.old pass.new
             (with_yes result) }

@@ -1,20 +1,19 @@
 //! How a pass comes to read a value that a lock guards.
-ghost use Rattle.std.specs.Prelude.{◌≡◌, ◌<◌, ◌≤◌, ◌+◌, IfSome, None};
+ghost use Rattle.std.specs.Prelude.{◌≡◌, ◌<◌, ◌+◌, IfSome, None};
 ghost use Rattle.std.specs.Fn.{FnOnceReturnsAt};
+ghost use Rattle.monitor.specs.Calling.{CanCall, Called};
 ghost use Rattle.monitor.specs.Acquire.{is_timed};
 ghost use Rattle.monitor.specs.declared.how.How.TheVariants.{Plain};
 ghost use Rattle.monitor.specs.Observing.{IsLook};
-ghost use Rattle.monitor.specs.Shown.{IsSound};
 ghost use Rattle.monitor.specs.Stepping.{IsSame};
 ghost use Rattle.monitor_fronts.specs.Holding.{gained, holds, with_yes};
 ghost use Rattle.monitor_fronts.specs.Returned.{whether_of};
 ghost use Rattle.guarded.specs.Asking.{CallReturns};
-ghost use Rattle.guarded.specs.Guarding.{Guards, yes_unless_missed};
+ghost use Rattle.guarded.specs.Guarding.{CanLock, Guards, yes_unless_missed};
 ghost use Rattle.guarded.specs.Reading.{GainsReads, GivesRead, Saw, Sees, reads, reads_by};
 ghost use Rattle.guarded.specs.inner.Reading.{reading_of};
 ghost use Rattle.guarded.specs.Stowed.{Carries};
 ghost use Rattle.guarded.specs.declared.slot.Slot.TheVariants.{Empty};
-ghost use Rattle.word_lock.specs.Point.{Before};
 
 use crate::asking::Reading;
 use crate::mutex::Mutex;
@@ -24,7 +23,7 @@ use frame::hooks::Hooks;
 use history::entry::{Entry, Mode};
 use history::fault::Fault;
 use history::step::Step;
-use monitor::{How, Pass};
+use monitor::{How, Pass, WhenFull};
 use monitor_fronts::{done, whether};
 use permit::Parking;
 use std::sync::Wait;
@@ -41,13 +40,10 @@ impl<T: Drop, H: Hooks + Drop> Mutex<T, H> {
         slot: &mut Slot<T>,
         asked: Reading,
     ) -> Result<Entry, Fault>
-        requires is_of { pass.old.lock ≡ self.now.lock }
-        requires places { self.now.lock.header.seats ≤ P.seats parking.now }
+        requires can { CanCall self.now.lock (P.seats parking.now) pass.old }
         requires carries { Carries (holds pass.old) slot.old }
-        ensures same { IsSame pass.old pass.new }
-        ensures begins { Before pass.old.seen pass.new.seen }
-        ensures shows { IsSound pass.new }
-        ensures called { reading_of (P.did parking.now) asked self.now.when_full pass.old result pass.new }
+        ensures called { Called pass.old pass.new }
+        ensures made { reading_of (P.did parking.now) asked self.now.when_full pass.old result pass.new }
         ensures gains { GainsReads pass.old (whether_of result) pass.new }
         ensures carries { Carries (holds pass.new) slot.new }
     {
@@ -55,12 +51,11 @@ impl<T: Drop, H: Hooks + Drop> Mutex<T, H> {
         match asked {
             Reading::Acquire(how) => {
                 self.monitor
-                    .acquire_when_full(rt, parking, pass, slot, Mode::S, 1, how, when_full)
+                    .acquire_with(rt, parking, pass, slot, Mode::S, 1, how, when_full)
             }
             Reading::Try => {
                 let step = Step::Try(Mode::S, 1);
-                self.monitor
-                    .enter_when_full(rt, parking, pass, slot, step, when_full)
+                self.monitor.enter(rt, parking, pass, slot, step, when_full)
             }
         }
     }
@@ -73,12 +68,8 @@ impl<T: Drop, H: Hooks + Drop> Mutex<T, H> {
         pass: &mut Pass,
         asked: Reading,
     ) -> Result<(), TryLockFault>
-        requires is_of { pass.old.lock ≡ self.now.lock }
-        requires places { self.now.lock.header.seats ≤ P.seats parking.now }
-        requires free { holds pass.old ≡ 0 }
-        ensures same { IsSame pass.old pass.new }
-        ensures begins { Before pass.old.seen pass.new.seen }
-        ensures shows { IsSound pass.new }
+        requires can { CanLock self.now (P.seats parking.now) pass.old }
+        ensures called { Called pass.old pass.new }
         ensures returned { CallReturns self.now.when_full (reading_of (P.did parking.now) asked) pass.old pass.new
             (yes_unless_missed result) }
         ensures gains { GainsReads pass.old (yes_unless_missed result) pass.new }
@@ -100,13 +91,9 @@ impl<T: Drop, H: Hooks + Drop> Mutex<T, H> {
         pass: &mut Pass,
         how: How,
     ) -> Result<(), Fault>
-        requires is_of { pass.old.lock ≡ self.now.lock }
-        requires places { self.now.lock.header.seats ≤ P.seats parking.now }
+        requires can { CanLock self.now (P.seats parking.now) pass.old }
         requires untimed { is_timed how → ⊥ }
-        requires free { holds pass.old ≡ 0 }
-        ensures same { IsSame pass.old pass.new }
-        ensures begins { Before pass.old.seen pass.new.seen }
-        ensures shows { IsSound pass.new }
+        ensures called { Called pass.old pass.new }
         ensures returned { CallReturns self.now.when_full (reads_by (P.did parking.now) how) pass.old pass.new
             (with_yes result) }
         ensures gains { GainsReads pass.old (with_yes result) pass.new }
@@ -143,20 +130,19 @@ impl<T: Drop, H: Hooks + Drop> Mutex<T, H> {
         pass: &mut Pass,
         slot: &mut Slot<T>,
     ) -> Result<(), Fault>
-        requires is_of { pass.old.lock ≡ self.now.lock }
-        requires places { self.now.lock.header.seats ≤ P.seats parking.now }
+        requires can { CanCall self.now.lock (P.seats parking.now) pass.old }
         requires has { 0 < reads pass.old }
         requires carries { Carries (holds pass.old) slot.old }
-        ensures same { IsSame pass.old pass.new }
-        ensures shows { IsSound pass.new }
+        ensures called { Called pass.old pass.new }
         ensures given { GivesRead (P.did parking.now) pass.old result pass.new }
         ensures loses { reads pass.new + gained (with_yes result) ≡ reads pass.old }
         ensures keeps { holds pass.new ≡ holds pass.old }
         ensures carries { Carries (holds pass.new) slot.new }
     {
+        let step = Step::Give(Mode::S, 1);
         done(
             self.monitor
-                .enter(rt, parking, pass, slot, Step::Give(Mode::S, 1)),
+                .enter(rt, parking, pass, slot, step, WhenFull::Refuse),
         )
     }
 
@@ -167,7 +153,6 @@ impl<T: Drop, H: Hooks + Drop> Mutex<T, H> {
         requires writes_not { holds pass.old ≡ 0 }
         requires callable { F.IsAlwaysCallable look }
         ensures looked { IsLook pass.old pass.new }
-        ensures shows { IsSound pass.new }
         ensures reads { reads pass.new ≡ reads pass.old }
         ensures keeps { holds pass.new ≡ holds pass.old }
         ensures saw { Saw (λ value answer. FnOnceReturnsAt F.FnOnce look value answer) pass.new result }

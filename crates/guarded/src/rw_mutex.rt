@@ -13,21 +13,21 @@ ghost use Rattle.history.specs.declared.entry.Mode.TheVariants.{X};
 ghost use Rattle.history.specs.declared.step.Step.TheVariants.{Give};
 ghost use Rattle.history.specs.declared.header.Object.TheVariants.{ReadWrite};
 ghost use Rattle.history.specs.declared.header.Policy.TheVariants.{NonFair};
+ghost use Rattle.monitor.specs.Calling.{Called};
 ghost use Rattle.monitor.specs.contracts.pass.Pass.{the_row};
 ghost use Rattle.monitor.specs.declared.how.How.TheVariants.{Plain, Interruptible, Timed};
 ghost use Rattle.monitor.specs.Closing.{IsBased, IsMissing, IsWithin, left_by, passes_of, shares};
 ghost use Rattle.monitor.specs.declared.closing.CloseFault.TheVariants.{MissingPass};
 ghost use Rattle.monitor.specs.Lawful.{IsLawful, blank};
 ghost use Rattle.monitor.specs.Observing.{IsLook};
-ghost use Rattle.monitor.specs.Shown.{IsSound, opening_passes};
+ghost use Rattle.monitor.specs.Shown.{opening_passes};
 ghost use Rattle.monitor.specs.Stepping.{IsSame};
 ghost use Rattle.monitor.specs.declared.room.WhenFull.TheVariants.{Trim};
 ghost use Rattle.monitor_fronts.specs.Holding.{gained, holds, with_yes};
 ghost use Rattle.guarded.specs.Asking.{IsRecorded, CallReturns, acquires, tries};
-ghost use Rattle.guarded.specs.Guarding.{Guards, Locked, NotLocked, yes_unless_missed};
+ghost use Rattle.guarded.specs.Guarding.{CanLock, Guards, Locked, NotLocked, yes_unless_missed};
 ghost use Rattle.guarded.specs.Reading.{GainsReads, GivesRead, Saw, reads, reads_by, tries_read};
 ghost use Rattle.guarded.specs.Stowed.{Rests, slot_of};
-ghost use Rattle.word_lock.specs.Point.{Before};
 
 use crate::asking::Reading;
 use crate::guard::Guard;
@@ -215,9 +215,7 @@ impl<T: Drop> RwMutex<T> {
         rt: &'a R,
         parking: &'a P,
     ) -> Result<Guard<'a, T, P, R, RwHooks>, Fault>
-        requires is_of { pass.old.lock ≡ lock.now.lock }
-        requires places { lock.now.lock.header.seats ≤ P.seats parking.now }
-        requires free { holds pass.old ≡ 0 }
+        requires can { CanLock lock.now (P.seats parking.now) pass.old }
         ensures* not_locked { sem 𝓛 (RestsIfErr the_row pass.entry (λ guard. guard.pass.ghost_name) result
             (λ last. NotLocked lock.now.when_full (acquires (P.did parking.now) Plain)
             pass.old (with_yes result) last)) }
@@ -239,9 +237,7 @@ impl<T: Drop> RwMutex<T> {
         rt: &'a R,
         parking: &'a P,
     ) -> Result<Guard<'a, T, P, R, RwHooks>, Fault>
-        requires is_of { pass.old.lock ≡ lock.now.lock }
-        requires places { lock.now.lock.header.seats ≤ P.seats parking.now }
-        requires free { holds pass.old ≡ 0 }
+        requires can { CanLock lock.now (P.seats parking.now) pass.old }
         ensures* not_locked { sem 𝓛 (RestsIfErr the_row pass.entry (λ guard. guard.pass.ghost_name) result
             (λ last. NotLocked lock.now.when_full (acquires (P.did parking.now) Interruptible)
             pass.old (with_yes result) last)) }
@@ -263,9 +259,7 @@ impl<T: Drop> RwMutex<T> {
         rt: &'a R,
         parking: &'a P,
     ) -> Result<Guard<'a, T, P, R, RwHooks>, TryLockFault>
-        requires is_of { pass.old.lock ≡ lock.now.lock }
-        requires places { lock.now.lock.header.seats ≤ P.seats parking.now }
-        requires free { holds pass.old ≡ 0 }
+        requires can { CanLock lock.now (P.seats parking.now) pass.old }
         ensures* not_locked { sem 𝓛 (RestsIfErr the_row pass.entry (λ guard. guard.pass.ghost_name) result
             (λ last. NotLocked lock.now.when_full (tries (P.did parking.now))
             pass.old (yes_unless_missed result) last)) }
@@ -288,9 +282,7 @@ impl<T: Drop> RwMutex<T> {
         parking: &'a P,
         ms: u32,
     ) -> Result<Guard<'a, T, P, R, RwHooks>, TryLockFault>
-        requires is_of { pass.old.lock ≡ lock.now.lock }
-        requires places { lock.now.lock.header.seats ≤ P.seats parking.now }
-        requires free { holds pass.old ≡ 0 }
+        requires can { CanLock lock.now (P.seats parking.now) pass.old }
         ensures* not_locked { sem 𝓛 (RestsIfErr the_row pass.entry (λ guard. guard.pass.ghost_name) result
             (λ last. NotLocked lock.now.when_full (acquires (P.did parking.now) (Timed ms))
             pass.old (yes_unless_missed result) last)) }
@@ -317,12 +309,8 @@ impl<T: Drop> RwMutex<T> {
         parking: &P,
         pass: &mut Pass,
     ) -> Result<(), Fault>
-        requires is_of { pass.old.lock ≡ self.now.lock }
-        requires places { self.now.lock.header.seats ≤ P.seats parking.now }
-        requires free { holds pass.old ≡ 0 }
-        ensures same { IsSame pass.old pass.new }
-        ensures begins { Before pass.old.seen pass.new.seen }
-        ensures shows { IsSound pass.new }
+        requires can { CanLock self.now (P.seats parking.now) pass.old }
+        ensures called { Called pass.old pass.new }
         ensures returned { CallReturns self.now.when_full (reads_by (P.did parking.now) Plain) pass.old pass.new
             (with_yes result) }
         ensures gains { GainsReads pass.old (with_yes result) pass.new }
@@ -338,12 +326,8 @@ impl<T: Drop> RwMutex<T> {
         parking: &P,
         pass: &mut Pass,
     ) -> Result<(), Fault>
-        requires is_of { pass.old.lock ≡ self.now.lock }
-        requires places { self.now.lock.header.seats ≤ P.seats parking.now }
-        requires free { holds pass.old ≡ 0 }
-        ensures same { IsSame pass.old pass.new }
-        ensures begins { Before pass.old.seen pass.new.seen }
-        ensures shows { IsSound pass.new }
+        requires can { CanLock self.now (P.seats parking.now) pass.old }
+        ensures called { Called pass.old pass.new }
         ensures returned { CallReturns self.now.when_full (reads_by (P.did parking.now) Interruptible) pass.old pass.new
             (with_yes result) }
         ensures gains { GainsReads pass.old (with_yes result) pass.new }
@@ -360,12 +344,8 @@ impl<T: Drop> RwMutex<T> {
         parking: &P,
         pass: &mut Pass,
     ) -> Result<(), TryLockFault>
-        requires is_of { pass.old.lock ≡ self.now.lock }
-        requires places { self.now.lock.header.seats ≤ P.seats parking.now }
-        requires free { holds pass.old ≡ 0 }
-        ensures same { IsSame pass.old pass.new }
-        ensures begins { Before pass.old.seen pass.new.seen }
-        ensures shows { IsSound pass.new }
+        requires can { CanLock self.now (P.seats parking.now) pass.old }
+        ensures called { Called pass.old pass.new }
         ensures returned { CallReturns self.now.when_full (tries_read (P.did parking.now)) pass.old pass.new
             (yes_unless_missed result) }
         ensures gains { GainsReads pass.old (yes_unless_missed result) pass.new }
@@ -383,12 +363,8 @@ impl<T: Drop> RwMutex<T> {
         pass: &mut Pass,
         ms: u32,
     ) -> Result<(), TryLockFault>
-        requires is_of { pass.old.lock ≡ self.now.lock }
-        requires places { self.now.lock.header.seats ≤ P.seats parking.now }
-        requires free { holds pass.old ≡ 0 }
-        ensures same { IsSame pass.old pass.new }
-        ensures begins { Before pass.old.seen pass.new.seen }
-        ensures shows { IsSound pass.new }
+        requires can { CanLock self.now (P.seats parking.now) pass.old }
+        ensures called { Called pass.old pass.new }
         ensures returned { CallReturns self.now.when_full (reads_by (P.did parking.now) (Timed ms)) pass.old pass.new
             (yes_unless_missed result) }
         ensures gains { GainsReads pass.old (yes_unless_missed result) pass.new }
@@ -407,7 +383,6 @@ impl<T: Drop> RwMutex<T> {
         requires free { holds pass.old ≡ 0 }
         requires callable { F.IsAlwaysCallable look }
         ensures looked { IsLook pass.old pass.new }
-        ensures shows { IsSound pass.new }
         ensures reads { reads pass.new ≡ reads pass.old }
         ensures keeps { holds pass.new ≡ holds pass.old }
         ensures saw { Saw (λ value answer. FnOnceReturnsAt F.FnOnce look value answer) pass.new result }
@@ -423,12 +398,9 @@ impl<T: Drop> RwMutex<T> {
         parking: &P,
         pass: &mut Pass,
     ) -> Result<(), Fault>
-        requires is_of { pass.old.lock ≡ self.now.lock }
-        requires places { self.now.lock.header.seats ≤ P.seats parking.now }
+        requires can { CanLock self.now (P.seats parking.now) pass.old }
         requires reads { 0 < reads pass.old }
-        requires free { holds pass.old ≡ 0 }
-        ensures same { IsSame pass.old pass.new }
-        ensures shows { IsSound pass.new }
+        ensures called { Called pass.old pass.new }
         ensures given { GivesRead (P.did parking.now) pass.old result pass.new }
         ensures loses { reads pass.new + gained (with_yes result) ≡ reads pass.old }
         ensures keeps { holds pass.new ≡ holds pass.old }
@@ -465,8 +437,7 @@ impl<T: Drop, P: Parking, R: Wait + Clock> Guard<'_, T, P, R, RwHooks> {
         requires last { holds self.pass.now ≡ 1 }
         ensures free { holds self.exit.0.now ≡ 0 }
         ensures reads { reads self.exit.0.now ≡ reads self.entry.pass.now }
-        ensures same { IsSame self.entry.pass.now self.exit.0.now }
-        ensures shows { IsSound self.exit.0.now }
+        ensures called { Called self.entry.pass.now self.exit.0.now }
         ensures recorded { IsRecorded (P.did self.entry.parking.now) self.entry.pass.now (Give X 1) self.exit.0.now }
     {}
 }

@@ -2,10 +2,9 @@
 //!
 //! A signal leaves the value with the owner, so it is made without the value. If the history is full, a lock that
 //! trims folds it and signals in one turn of the lock, as its other calls do.
-ghost use Rattle.std.specs.Prelude.{◌≡◌, ◌≤◌};
+ghost use Rattle.std.specs.Prelude.{◌≡◌};
 ghost use Rattle.guarded.specs.Asking.{signals};
-ghost use Rattle.monitor.specs.Shown.{IsSound};
-ghost use Rattle.monitor.specs.Stepping.{IsSame};
+ghost use Rattle.monitor.specs.Calling.{CanCall, Called};
 ghost use Rattle.monitor_fronts.specs.Holding.{holds};
 
 use crate::mutex::Mutex;
@@ -27,10 +26,8 @@ impl<T: Drop, H: Hooks + Drop> Mutex<T, H> {
         condition: u8,
         all: bool,
     ) -> Result<Entry, Fault>
-        requires is_of { pass.old.lock ≡ self.now.lock }
-        requires places { self.now.lock.header.seats ≤ P.seats parking.now }
-        ensures same { IsSame pass.old pass.new }
-        ensures shows { IsSound pass.new }
+        requires can { CanCall self.now.lock (P.seats parking.now) pass.old }
+        ensures called { Called pass.old pass.new }
         ensures signalled { signals (P.did parking.now) all condition self.now.when_full pass.old result pass.new }
         ensures keeps { holds pass.new ≡ holds pass.old }
     {

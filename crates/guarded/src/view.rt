@@ -6,11 +6,10 @@ ghost use Rattle.history.specs.Line.{line, place_of};
 ghost use Rattle.history.specs.Marks.{is_placed};
 ghost use Rattle.history.specs.Naming.{ready};
 ghost use Rattle.history.specs.Sleepers.{sleepers};
+ghost use Rattle.monitor.specs.Calling.{Called};
 ghost use Rattle.monitor.specs.Lawful.{start_at};
 ghost use Rattle.monitor.specs.Observing.{IsLook};
-ghost use Rattle.monitor.specs.Shown.{IsSound};
-ghost use Rattle.monitor.specs.Stepping.{IsSame, IsTrim};
-ghost use Rattle.word_lock.specs.Point.{Before};
+ghost use Rattle.monitor.specs.Stepping.{IsTrim};
 
 use frame::hooks::Hooks;
 use history::entry::Mode;
@@ -34,7 +33,6 @@ impl<H: Hooks + Drop, L: Load> View<'_, H, L> {
         requires is_of { pass.old.lock ≡ self.now.monitor.now }
         requires seat { seat < self.now.monitor.now.header.seats }
         ensures looked { IsLook pass.old pass.new }
-        ensures shows { IsSound pass.new }
         ensures value { result ≡ held (start_at pass.new.seen) pass.new.seen.entries seat mode }
     {
         self.monitor.holds(rt, pass, seat, mode)
@@ -44,7 +42,6 @@ impl<H: Hooks + Drop, L: Load> View<'_, H, L> {
     pub fn is_held<R: Wait>(&self, rt: &R, pass: &mut Pass) -> bool
         requires is_of { pass.old.lock ≡ self.now.monitor.now }
         ensures looked { IsLook pass.old pass.new }
-        ensures shows { IsSound pass.new }
         ensures value { result ≡ is_some (owner (counts (start_at pass.new.seen) pass.new.seen.entries)) }
     {
         self.monitor.is_held(rt, pass)
@@ -55,7 +52,6 @@ impl<H: Hooks + Drop, L: Load> View<'_, H, L> {
         requires is_of { pass.old.lock ≡ self.now.monitor.now }
         requires seat { seat < self.now.monitor.now.header.seats }
         ensures looked { IsLook pass.old pass.new }
-        ensures shows { IsSound pass.new }
         ensures told { ready (start_at pass.new.seen) pass.new.seen.entries ≡ Some seat → result ≡ true }
         ensures stand { result ≡ true
             → is_placed (place_of seat (line (start_at pass.new.seen) pass.new.seen.entries)) ≡ true }
@@ -67,7 +63,6 @@ impl<H: Hooks + Drop, L: Load> View<'_, H, L> {
     pub fn queue_length<R: Wait>(&self, rt: &R, pass: &mut Pass) -> u16
         requires is_of { pass.old.lock ≡ self.now.monitor.now }
         ensures looked { IsLook pass.old pass.new }
-        ensures shows { IsSound pass.new }
         ensures value { result ≡ length (line (start_at pass.new.seen) pass.new.seen.entries) }
     {
         self.monitor.queue_length(rt, pass)
@@ -77,7 +72,6 @@ impl<H: Hooks + Drop, L: Load> View<'_, H, L> {
     pub fn waiters<R: Wait>(&self, rt: &R, pass: &mut Pass, condition: u8) -> u16
         requires is_of { pass.old.lock ≡ self.now.monitor.now }
         ensures looked { IsLook pass.old pass.new }
-        ensures shows { IsSound pass.new }
         ensures value { result ≡ length (sleepers (start_at pass.new.seen) pass.new.seen.entries condition) }
     {
         self.monitor.waiters(rt, pass, condition)
@@ -87,7 +81,6 @@ impl<H: Hooks + Drop, L: Load> View<'_, H, L> {
     pub fn available<R: Wait>(&self, rt: &R, pass: &mut Pass) -> i64
         requires is_of { pass.old.lock ≡ self.now.monitor.now }
         ensures looked { IsLook pass.old pass.new }
-        ensures shows { IsSound pass.new }
         ensures value { result ≡ available (start_at pass.new.seen) pass.new.seen.entries }
     {
         self.monitor.available(rt, pass)
@@ -99,9 +92,8 @@ impl<H: Hooks + Drop, L: Load> View<'_, H, L> {
     /// `TrimFull`: more entries would be folded than the limit allows. Then nothing has changed.
     pub fn trim<R: Wait>(&self, rt: &R, pass: &mut Pass) -> Result<u64, Fault>
         requires is_of { pass.old.lock ≡ self.now.monitor.now }
-        ensures same { IsSame pass.old pass.new }
+        ensures called { Called pass.old pass.new }
         ensures trimmed { IsTrim pass.old result pass.new }
-        ensures shows { IsSound pass.new }
     {
         self.monitor.trim(rt, pass)
     }
@@ -109,12 +101,10 @@ impl<H: Hooks + Drop, L: Load> View<'_, H, L> {
     /// Lets two passes see the same history. It allocates nothing and waits for nobody.
     pub fn meet(&self, one: Pass, two: Pass) -> (Pass, Pass)
         requires is_of { (one.lock ≡ self.now.monitor.now) × (two.lock ≡ self.now.monitor.now) }
-        ensures same { IsSame one result.0 × IsSame two result.1 }
+        ensures called { Called one result.0 × Called two result.1 }
         ensures seen { result.0.seen ≡ result.1.seen }
-        ensures begins { Before one.seen result.0.seen × Before two.seen result.1.seen }
         ensures mine { (result.0.mine ≡ one.mine) × (result.1.mine ≡ two.mine) }
         ensures share { (result.0.share ≡ one.share) × (result.1.share ≡ two.share) }
-        ensures shows { IsSound result.0 × IsSound result.1 }
     {
         self.monitor.meet(one, two)
     }

@@ -149,11 +149,11 @@ impl History {
     /// Reserves places for `needed` more entries, beyond those owed, in no more pages than all these take.
     ///
     /// - `HistoryFull`: they don't fit within the cap.
-    /// - `OutOfMemory`: a page, or the list of pages, was refused. It is returned only if places were
-    ///   lacking.
+    /// - `OutOfMemory`: only if places were lacking. The code returns it if a page, or the list of pages, is
+    ///   refused. No clause says so.
     ///
-    /// After a fault nothing has changed, and no page is kept. If no place was lacking, as with 0, nothing is
-    /// allocated.
+    /// After a fault nothing has changed, and no page is kept. If no place was lacking, as with 0, nothing
+    /// changes.
     #[inline(always)]
     pub fn make_room(&mut self, needed: u64) -> Result<(), Fault>
         ensures full { IsErrOf result HistoryFull

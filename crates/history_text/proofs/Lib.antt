@@ -14,6 +14,7 @@ pub mod BaseWalk
 pub mod BaseWhole
 pub mod BaseWritten
 pub mod CommonLines
+pub mod CountingUp
 pub mod EntriesRead
 pub mod EntryLemmas
 pub mod HeadWritten

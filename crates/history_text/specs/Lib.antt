@@ -18,4 +18,5 @@ pub mod BaseTelling
 pub mod BaseUnderWay
 pub mod CommonEntry
 pub mod EntryReading
+pub mod SpeltNumber
 pub mod inner

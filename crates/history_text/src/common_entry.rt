@@ -1,21 +1,17 @@
 //! Reading the most frequent lines of entries without cutting them into words.
 
-ghost use Rattle.std.specs.Prelude.{◌≡◌, ◌≤◌, ◌∷◌, ◌++◌, drop, length, IfSome, decimal};
+ghost use Rattle.std.specs.Prelude.{◌≡◌, ◌∷◌, ◌++◌, IfSome};
 ghost use Rattle.history.specs.inner.EntryWords.{IsAsked};
 ghost use Rattle.history_text.specs.CommonEntry.{IsLineAhead, once};
 ghost use Rattle.history_text.specs.inner.CommonEntry.{BeginsWith, asked_name};
 
+use crate::spelt_number::SpeltNumber;
 use history::entry::{End, Entry, Mode, Word};
 use history::fault::Fault;
-use history::number::Numbering;
-use history::pieces::put_byte;
 use history::text::behind;
 use line_text::at_once::{behind_byte, behind_four, behind_three};
 use line_text::once::mode_of_once;
 use line_text::seat::seat_of;
-
-/// The most bytes of a number and a space.
-const MOST_BYTES: usize = 23;
 
 /// Returns the word that begins the text, and what follows it and a space, if a mode and an amount follow
 /// such a word.
@@ -90,19 +86,6 @@ fn common_words(text: &[u8], seat: u16) -> Option<(Entry, usize)>
     gone_without(text, seat)
 }
 
-/// Returns the position after this number and a space, if the text begins with them.
-#[inline(always)]
-fn behind_number(text: &[u8], numbering: &mut Numbering, number: u64) -> Option<usize>
-    ensures number { IfSome result (λ at. text.now ≡ decimal number ++ 32 ∷ drop at text.now) }
-    ensures inside { IfSome result (λ at. at ≤ length text.now) }
-{
-    let mut front = [b' '; MOST_BYTES];
-    let space_at = numbering.spell(&mut front, 0, number);
-    let end = put_byte(&mut front, space_at, b' ');
-    let _rest = behind(&front[..end], text)?;
-    Some(end)
-}
-
 /// Returns the entry whose line begins the text, if it has this number and is one of the most frequent, and
 /// how many bytes follow.
 ///
@@ -110,13 +93,13 @@ fn behind_number(text: &[u8], numbering: &mut Numbering, number: u64) -> Option<
 #[inline(always)]
 pub fn common_entry(
     text: &[u8],
-    numbering: &mut Numbering,
+    spelt: &mut SpeltNumber,
     number: u64,
     seats: u16,
 ) -> Option<(Entry, usize)>
     ensures { IfSome result (IsLineAhead seats number text.now) }
 {
-    let seat_at = behind_number(text, numbering, number)?;
+    let seat_at = spelt.behind(number, text)?;
     let from_seat = &text[seat_at..];
     let (seat, words_at) = seat_of(from_seat)?;
     if u64::from(seats) <= seat {

@@ -29,6 +29,7 @@ mod law;
 pub mod next_entry;
 pub mod place;
 mod reading;
+pub mod spelt_number;
 mod waiting_rules;
 
 pub use crate::fitting::fits;

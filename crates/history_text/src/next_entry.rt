@@ -15,9 +15,9 @@ use crate::common_entry::common_entry;
 use crate::end_line::is_end;
 use crate::entry_reading::entry_of;
 use crate::place::{Head, Place};
+use crate::spelt_number::SpeltNumber;
 use history::entry::Entry;
 use history::header::Header;
-use history::number::Numbering;
 use history::text::first_line;
 use line_text::fault::TextFault;
 use line_text::header_line::first_header;
@@ -106,7 +106,7 @@ fn entry_by_words(
 pub fn next_entry(
     rest: &[u8],
     header: &Header,
-    numbering: &mut Numbering,
+    spelt: &mut SpeltNumber,
     place: Place,
 ) -> Result<Option<(Entry, usize)>, TextFault>
     requires range { IsInRange header.now }
@@ -121,7 +121,7 @@ pub fn next_entry(
 {
     if place.count < u64::from(header.cap) {
         let number = place.folded + place.count;
-        if let Some((entry, left)) = common_entry(rest, numbering, number, header.seats) {
+        if let Some((entry, left)) = common_entry(rest, spelt, number, header.seats) {
             return Ok(Some((entry, left)));
         }
     }

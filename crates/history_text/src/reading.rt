@@ -10,10 +10,10 @@ ghost use Rattle.history_text.specs.inner.NextLine.{AreAllRead};
 use crate::base_text::base_behind;
 use crate::next_entry::{head_of, next_entry};
 use crate::place::{Head, Place};
+use crate::spelt_number::SpeltNumber;
 use history::base::Base;
 use history::entries::History;
 use history::header::Header;
-use history::number::Numbering;
 use line_text::fault::ReadFault;
 use std::alloc::Global;
 
@@ -60,8 +60,8 @@ fn read_entries(
     let mut history = empty;
     let mut place = place;
     let mut rest = ahead;
-    let mut numbering = Numbering::new();
-    while let Some((entry, left)) = next_entry(rest, &head.header, &mut numbering, place)? {
+    let mut spelt = SpeltNumber::new();
+    while let Some((entry, left)) = next_entry(rest, &head.header, &mut spelt, place)? {
         match history.make_room(1) {
             Ok(()) => {}
             Err(_) => return Err(ReadFault::OutOfMemory),

@@ -26,7 +26,7 @@ pub enum ReadFault {
     /// The text has this fault.
     #[error("{0}")]
     Text(TextFault),
-    /// An allocation failed; the text may be good.
+    /// Memory was lacking. That says nothing of the text.
     #[error("out of memory")]
     OutOfMemory,
 }

@@ -16,7 +16,8 @@ pub const OVERVIEW: &[u8] = b"\
     \x20 aqs manual [COMMAND]                   writes this page, or that of a command\n\
     \x20 aqs about                              writes the version, and what is proved\n\
     \n\
-    Without FILE a command reads standard input. FILE does not begin with a minus sign. Nothing is\n\
+    Without FILE a command reads standard input. With -o FILE one that reads a text writes to a file:\n\
+    after a fault that is as it was. A name of a file does not begin with a minus sign. Nothing is\n\
     written before all is read. A fault is one line on standard error.\n\
     \n\
     Status: 0 good; 1 the history is not legal; 2 the command line; 3 the text; 4 a device or a\n\
@@ -24,12 +25,13 @@ pub const OVERVIEW: &[u8] = b"\
 
 /// What a replay is.
 pub const REPLAY: &[u8] = b"\
-    aqs replay [--history] [FILE]\n\
+    aqs replay [--history] [--output F] [FILE]\n\
     \n\
     Reads a steps text and answers each step: the number of the entry that it makes, the thread, the\n\
     entry, and the thread to wake. A thread has a number from 0, its seat.\n\
     \n\
-    \x20 --history    writes the history text of the entries instead\n\
+    \x20 --history     writes the history text of the entries instead\n\
+    \x20 --output F    writes to the file F in place of standard output. -o F is the same\n\
     \n\
     Example. From the text\n\
     \n\
@@ -56,11 +58,14 @@ pub const REPLAY: &[u8] = b"\
 
 /// What an audit is.
 pub const AUDIT: &[u8] = b"\
-    aqs audit [FILE]\n\
+    aqs audit [--json] [--output F] [FILE]\n\
     \n\
     Reads a history text and judges it: it is legal if each entry is one that a step of its thread\n\
     makes after the entries before it. A legal history is added up. For any other the first entry that\n\
     is not legal is named, and the status is 1.\n\
+    \n\
+    \x20 --json        writes a JSON object in place of lines\n\
+    \x20 --output F    writes to the file F in place of standard output. -o F is the same\n\
     \n\
     Example. From the text\n\
     \n\
@@ -79,7 +84,7 @@ pub const AUDIT: &[u8] = b"\
 
 /// What an explanation is.
 pub const EXPLAIN: &[u8] = b"\
-    aqs explain [--at K] [FILE]\n\
+    aqs explain [--at K] [--json] [--output F] [FILE]\n\
     \n\
     Reads a history text and explains its first entry that is not legal, or the state at its end. It\n\
     writes the state before the entry: who holds, the queue in order, the sleepers of each condition.\n\
@@ -90,7 +95,9 @@ pub const EXPLAIN: &[u8] = b"\
     was expected, and a right line. It takes steps texts and scripts too, and says if one is right.\n\
     Of a file that can't be read it says why. The status is 1 if the text is wrong or not read.\n\
     \n\
-    \x20 --at K    explains entry K, but none after the first that is not legal\n\
+    \x20 --at K        explains entry K, but none after the first that is not legal\n\
+    \x20 --json        writes a JSON object in place of lines\n\
+    \x20 --output F    writes to the file F in place of standard output. -o F is the same\n\
     \n\
     Example. From the text\n\
     \n\
@@ -129,7 +136,7 @@ pub const EXPLAIN: &[u8] = b"\
 
 /// What a summary is.
 pub const SUMMARY: &[u8] = b"\
-    aqs summary [FILE]\n\
+    aqs summary [--json] [--output F] [FILE]\n\
     \n\
     Reads a history text and sums it up, for histories that are too long to draw. A history that is\n\
     not legal is summed up to its first entry that is not, and the status is 1.\n\
@@ -139,6 +146,9 @@ pub const SUMMARY: &[u8] = b"\
     how often another thread took at once while this one waited; the calls that ended by a timeout or\n\
     an interrupt; and its holds at the end. A line for each condition has the awaits, the signals, and\n\
     those that moved nobody. An entry that is named can be drawn, or explained with --at.\n\
+    \n\
+    \x20 --json        writes a JSON object in place of lines\n\
+    \x20 --output F    writes to the file F in place of standard output. -o F is the same\n\
     \n\
     Example. From the text\n\
     \n\
@@ -165,27 +175,36 @@ pub const SUMMARY: &[u8] = b"\
 
 /// What a drawing is.
 pub const DRAW: &[u8] = b"\
-    aqs draw [--page] [--from A] [--to B] [FILE]\n\
+    aqs draw [--page] [--from A] [--to B] [--output F] [FILE]\n\
     \n\
-    Reads a history text and draws it as an SVG document: a row for each thread, the entries from left\n\
-    to right, with bars while a thread holds or waits. A history that is not legal is drawn up to its\n\
-    first entry that is not, and the status is 1.\n\
+    Reads a history text and draws it as an SVG document: a row for each thread that did something,\n\
+    the entries from left to right, with bars while a thread holds or waits. A history that is not\n\
+    legal is drawn up to its first entry that is not, and the status is 1.\n\
     \n\
-    \x20 --page      writes a page of HTML in place of the picture. It needs no network. It steps from\n\
-    \x20             entry to entry, says who holds and who waits in which order, and finds entries\n\
-    \x20 --from A    draws from entry A on\n\
-    \x20 --to B      draws up to entry B; with neither at most the first 2,000 are drawn\n\
+    \x20 --page        writes a page of HTML in place of the picture. It needs no network. It steps from\n\
+    \x20               entry to entry, says who holds and who waits in which order, and finds entries\n\
+    \x20 --from A      draws from entry A on\n\
+    \x20 --to B        draws up to entry B; with neither at most the first 2,000 are drawn\n\
+    \x20 --output F    writes to the file F in place of standard output. -o F is the same\n\
     \n\
-    For example: aqs draw --from 100 --to 200 my.history > my.svg\n\
-    or:          aqs draw --page --to 9999 my.history > my.html\n";
+    For example: aqs draw --from 100 --to 200 -o my.svg my.history\n\
+    or:          aqs draw --page --to 9999 -o my.html my.history\n";
 
 /// What a run is.
 pub const RUN: &[u8] = b"\
-    aqs run [FILE]\n\
+    aqs run [--timeout M] [--object N] [--dir D] [--output F] [FILE]\n\
     \n\
     Reads a script, which is a JSON text, and runs its threads at its objects. For each object it\n\
     writes the history, the lines of an audit of it, and how many calls ended. If the threads wait for\n\
-    each other it never ends.\n\
+    each other it never ends, unless it is given a time.\n\
+    \n\
+    \x20 --timeout M   if the run has not ended after M milliseconds, writes in which call each thread\n\
+    \x20               waits, what it holds, and threads that wait for each other in a circle. The\n\
+    \x20               status is 1 then\n\
+    \x20 --object N    writes the history of object N alone, which aqs audit and the others read\n\
+    \x20 --dir D       leaves the history of each object in the folder D too, as NAME.history. None of\n\
+    \x20               these files may be there before. After a fault they are removed if they can be\n\
+    \x20 --output F    writes to the file F in place of standard output. -o F is the same\n\
     \n\
     Example. From the text\n\
     \n\

@@ -1,5 +1,5 @@
 -- What a section of the lock leaves on the fast way.
-use Rattle.std.proofs.Common.{◌≡◌, inl, ℕ, ◌+◌, Bool, false, [], ◌∷◌, Option, Result, Ok, Err, refl, sym, ap, ◌∙◌, subst}
+use Rattle.std.proofs.Common.{◌≡◌, inl, ℕ, ◌+◌, Bool, false, [], ◌∷◌, Option, Result, Ok, Err, refl, sym, ap, ◌∙◌}
 use Rattle.history.specs.declared.entry.Entry.{Entry}
 use Rattle.history.specs.declared.fault.Fault.{Fault}
 use Rattle.history.specs.declared.step.Answer.{Answer}
@@ -18,18 +18,19 @@ use Rattle.monitor.specs.Load.{Moves, free_of}
 use Rattle.monitor.specs.Acquire.{WasNotInterrupted}
 use Rattle.monitor.specs.Machine.{begins_wait, begun, first_turn, next_by, step_by}
 use Rattle.monitor.specs.Room.{IsCallIn, IsEnteredIn, IsStepIn}
-use Rattle.monitor.specs.Shown.{Shown, IsPass, IsSound, shown}
+use Rattle.monitor.specs.Shown.{Shown, IsPass, shown}
 use Rattle.monitor.specs.Stepping.{IsUnparked}
 use Rattle.monitor.specs.inner.CoreSteps.{IsCoreStep, IsCoreStepBy}
+use Rattle.monitor.specs.inner.Sections.{Went}
 use Rattle.monitor.specs.inner.Stepping.{entry_in, named_in}
 use Rattle.monitor.specs.declared.how.How.{How}
 use Rattle.monitor.specs.declared.machine.Request.{Request}
 use Rattle.monitor.specs.declared.machine.Request.TheVariants as request
 use Rattle.monitor.specs.declared.room.WhenFull.{WhenFull}
 use Rattle.monitor.specs.declared.room.WhenFull.TheVariants.{Refuse, Trim}
-use Rattle.monitor.proofs.Rooms.{Around, around_step, follows_room, moves_in, moves_step, pass_in, sectioned_in, step_in, true_in}
+use Rattle.monitor.proofs.Rooms.{Around, around_step, called_in, follows_room, moves_in, moves_step, pass_in, step_in}
 use Rattle.monitor.proofs.RoomTurns.{ends_in, entered_err, entered_ok, no_sleep_in}
-use Rattle.monitor.proofs.Sections.{owed_shown, sectioned, section_pass, section_step, section_true}
+use Rattle.monitor.proofs.Sections.{called_by, owed_shown, sectioned, section_pass, section_step}
 use Rattle.monitor.proofs.Taking.{follows_made}
 
 -- a step that recorded its entry found room
@@ -60,31 +61,24 @@ follows_by Trim t o moved v w seat share step r taken was kept left s =
     follows_room t o moved v w seat share step r taken was kept left s
 
 -- the pass afterwards
-pub record Went (wf : WhenFull) (t n : Ticket) (w : CoreView) (seat share next : ℕ) (step : Step)
-    (r : Result Answer Fault) : Type 0 where
-  pub pass : IsPass n seat next
-  pub shows : IsSound (shown n seat next)
-  pub stepped : IsStepIn wf (shown t seat share) step r (shown n seat next)
-  pub seen : n.seen ≡ point_of w
-
 pub went : (wf : WhenFull) (t o n : Ticket) (v w : CoreView) (seat share : ℕ) (a : Around t o n v w seat share)
     (moved : CoreView → Type 0) (step : Step) (r : Result Answer Fault) → IsCoreStepBy wf moved v seat step r w →
-    (next : ℕ) → next ≡ ended_calls (made_by r) + share → Went wf t n w seat share next step r
+    (next : ℕ) → next ≡ ended_calls (made_by r) + share → Went wf t n seat share next step r
 went Refuse t o n v w seat share a moved step r s next is =
     let x = around_step t o n v w seat share step r a s.0 in
+    let pass = section_pass t o n (point_of v) (point_of w) seat share step r x next is in
     record {
-      pass = section_pass t o n (point_of v) (point_of w) seat share step r x next is;
-      shows = section_true t o n (point_of v) (point_of w) seat share step r x next is;
+      pass = pass;
+      called = called_by t n (point_of v) (point_of w) seat share next
+          (sectioned t o n (point_of v) (point_of w) seat share step r x) pass;
       stepped = section_step t o n (point_of v) (point_of w) seat share step r x next
           (owed_shown v seat step r a.kept s.0.owed);
-      seen = (sectioned t o n (point_of v) (point_of w) seat share step r x).seen;
     }
 went Trim t o n v w seat share a moved step r s next is =
     record {
       pass = pass_in t o n v w seat share a moved step r s next is;
-      shows = true_in t o n v w seat share a moved step r s next is;
+      called = called_in t o n v w seat share a moved step r s next is;
       stepped = step_in t o n v w seat share a moved step r s next;
-      seen = (sectioned_in t o n v w seat share a moved step r s).seen;
     }
 
 -- and what changed hands
@@ -129,14 +123,3 @@ made_at_once wf did old new q how name none s woken =
     ends_in wf did old new q how 0 (first_turn q how 0 false (Ok (Recorded e name))) (Ok e) false none
     (Ok (Recorded e name), s, refl) woken
     (ap (λ b. next_by b (begun q how 0) e) (no_wait q old.seat (step_by q how false)))
-
--- where nothing was done before it
-pub from_none : {A : Type 0} (wf : WhenFull) (counted : Bool) (amount : A → ℕ) (x z y : A) (v u w : CoreView) (i : ℕ)
-    (step : Step) (r : Result Answer Fault) → u ≡ v → z ≡ x →
-    IsCoreStepBy wf (λ k. Moves counted amount z (counts_of k).free y (counts_of w).free) u i step r w →
-    IsCoreStepBy wf (λ k. Moves counted amount x (counts_of k).free y (counts_of w).free) v i step r w
-from_none wf counted amount x z y v u w i step r same stays s =
-    subst (λ a. IsCoreStepBy wf (λ k. Moves counted amount a (counts_of k).free y (counts_of w).free) v i step r w)
-    stays
-    (subst (λ (b : CoreView). IsCoreStepBy wf (λ k. Moves counted amount z (counts_of k).free y (counts_of w).free) b i
-    step r w) same s)

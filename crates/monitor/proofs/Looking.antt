@@ -8,9 +8,9 @@ use Rattle.word_lock.specs.Ticket.{Ticket, after_lock, after_unlock, first_seat}
 use Rattle.word_lock.proofs.PointLaws.{follows_same, added_more}
 use Rattle.word_lock.proofs.Sections.{follows_taken, section}
 use Rattle.monitor.specs.Lawful.{IsLawful}
-use Rattle.monitor.specs.Shown.{shown, IsPass, IsSound}
+use Rattle.monitor.specs.Shown.{shown, IsPass}
 use Rattle.monitor.specs.Observing.{IsLook}
-use Rattle.monitor.proofs.Sections.{mine_stays, passed, true_pass}
+use Rattle.monitor.proofs.Sections.{mine_stays, passed}
 
 -- what was taken at a point may be given back there
 pub may_give_back : (o t : Ticket) (p : Point) (seat share : ℕ) → o ≡ after_lock t p → IsPass t seat share →
@@ -21,7 +21,6 @@ may_give_back o t p seat share taken was =
 -- a pass after such a section
 pub record Looked (t n : Ticket) (p : Point) (seat share : ℕ) : Type 0 where
   pub pass : IsPass n seat share
-  pub shows : IsSound (shown n seat share)
   pub is : IsLook (shown t seat share) (shown n seat share)
   pub seen : n.seen ≡ p
 
@@ -31,10 +30,9 @@ look t o n p seat share taken given was begins entries lawful =
     let x =
     section t o n p p seat taken given was.one was.seat_is begins entries (follows_same seat p) in
     let mine = mine_stays t n p p seat x (added_more p p [] refl refl) in
-    let pass = passed t n p p seat share share x was lawful (was.counted ∙ ap ended_calls (sym mine)) in
+    let pass = passed t n p p seat share share x was lawful (was.shows.counted ∙ ap ended_calls (sym mine)) in
     record {
       pass = pass;
-      shows = true_pass n seat share pass;
-      is = record { lock = x.lock; seat = refl; begins = x.begins; mine = mine; share = refl };
+      is = record { lock = x.lock; seat = refl; begins = x.begins; mine = mine; share = refl; shows = pass.shows };
       seen = x.seen;
     }

@@ -90,14 +90,6 @@ steps_at Trim old step r new (inr (inl s)) =
     }
 steps_at Trim old step r new (inr (inr s)) = inr (s.full.after, s.is)
 
-pub after_in : (w : WhenFull) (old : Shown) (step : Step) (r : Result Answer Fault) (new : Shown) →
-    IsStepIn w old step r new → Before old.seen new.seen
-after_in w old step r new s = by (steps_at w old step r new s)
-  where
-    by : StepsAt old step r new ⊎ (Before old.seen new.seen × (r ≡ Err TrimFull)) → Before old.seen new.seen
-    by (inl x) = x.begins
-    by (inr x) = x.0
-
 -- the seat that it named has a place
 pub place_in : (w : WhenFull) (old new : Shown) (step : Step) (r : Result Answer Fault) (seats : ℕ) →
     IsStepIn w old step r new → IsSound new → new.lock.header.seats ≤ seats → IfSome (named_in r) (λ j. j < seats)
@@ -166,10 +158,6 @@ step_in_as w old new made step r same s = subst (λ (z : Step). IsStepIn w old z
 pub awake_in : (w : WhenFull) (old new : Shown) (q : Request) (how : How) (was : Bool) (r : Result Answer Fault) →
     IsStepIn w old (step_by q how was) r new → r ≢ Ok Sleep
 awake_in w old new q how was r s = no_sleep_in w old new (step_by q how was) r (step_idle q how was) s
-
-pub begun_after_in : (w : WhenFull) (old new : Shown) (q : Request) (how : How) (moment : ℕ) (was : Bool)
-    (t : Turn) → IsBegunIn w old q how moment was t new → Before old.seen new.seen
-begun_after_in w old new q how moment was t (r, s, is) = after_in w old (step_by q how was) r new s
 
 pub place_first_in : (w : WhenFull) (old new : Shown) (q : Request) (how : How) (moment : ℕ) (was : Bool) (t : Turn)
     (seats : ℕ) → IsBegunIn w old q how moment was t new → IsSound new → new.lock.header.seats ≤ seats →

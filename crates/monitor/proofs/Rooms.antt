@@ -19,16 +19,18 @@ use Rattle.word_lock.specs.Rule.{AllAgree}
 use Rattle.word_lock.specs.Ticket.{LockId, Ticket, first_entries, first_seat, after_lock, after_unlock}
 use Rattle.word_lock.proofs.PointLaws.{added_behind, before_header, before_refl, before_trans, follows_before, follows_behind, follows_fold, follows_own}
 use Rattle.word_lock.proofs.Sections.{IsSection, follows_taken, section}
+use Rattle.monitor.specs.Calling.{Called}
 use Rattle.monitor.specs.Lawful.{point_of, start_at, view_of, IsLawfulCore, IsLawful}
 use Rattle.monitor.specs.Load.{Moves, holds_in}
 use Rattle.monitor.specs.Room.{IsFold, IsStepIn, IsTooMany, at_point}
 use Rattle.monitor.specs.inner.CoreSteps.{IsCoreFold, IsCoreStep, IsCoreStepIn, is_full}
 use Rattle.monitor.specs.declared.room.WhenFull.TheVariants.{Trim}
-use Rattle.monitor.specs.Shown.{IsPass, IsSound, shown}
+use Rattle.monitor.specs.Shown.{IsPass, shown}
 use Rattle.monitor.specs.Stepping.{IsStep}
+use Rattle.monitor.specs.inner.Sections.{Taking}
 use Rattle.monitor.proofs.Freeing.{both_free, moves_own, section_frees, stays}
 use Rattle.monitor.proofs.Loads.{counts_folded}
-use Rattle.monitor.proofs.Sections.{Left, Section, added_step, answered_shown, calls_more, follows_step, left, owed_shown, own_entries, passed, section_step, true_pass}
+use Rattle.monitor.proofs.Sections.{Left, Section, added_step, answered_shown, called_by, calls_more, follows_step, left, owed_shown, own_entries, passed, section_step}
 use Rattle.monitor.proofs.Beside.{beside_of}
 use Rattle.word_lock.specs.Point.{fold_of}
 
@@ -140,6 +142,18 @@ pub record Around (t o n : Ticket) (v w : CoreView) (seat share : ℕ) : Type 0 
   pub kept : IsLawfulCore v
   pub left_kept : IsLawfulCore w
 
+pub around : (t o n : Ticket) (v w : CoreView) (seat share : ℕ) → Taking t o v seat share →
+    n ≡ after_unlock o (point_of w) → IsLawfulCore w → Around t o n v w seat share
+around t o n v w seat share k given left_kept = record {
+  taken = k.taken;
+  given = given;
+  was = k.was;
+  begins = k.begins;
+  entries = k.entries;
+  kept = k.kept;
+  left_kept = left_kept;
+}
+
 pub around_step : (t o n : Ticket) (v w : CoreView) (seat share : ℕ) (step : Step) (r : Result Answer Fault) →
     Around t o n v w seat share → IsCoreStep v seat step r w →
     Section t o n (point_of v) (point_of w) seat share step r
@@ -172,11 +186,11 @@ module _ (t o n : Ticket) (v w : CoreView) (seat share : ℕ) (a : Around t o n 
   pub pass_in : (next : ℕ) → next ≡ ended_calls (made_by r) + share → IsPass n seat next
   pass_in next is =
       passed t n (point_of v) (point_of w) seat share next sectioned_in a.was a.left_kept.lawful
-      (is ∙ (ap (λ k. ended_calls (made_by r) + k) a.was.counted
+      (is ∙ (ap (λ k. ended_calls (made_by r) + k) a.was.shows.counted
       ∙ (sym (calls_more (made_by r) (first_entries t.logs)) ∙ ap ended_calls (sym mine_in))))
 
-  pub true_in : (next : ℕ) → next ≡ ended_calls (made_by r) + share → IsSound (shown n seat next)
-  true_in next is = true_pass n seat next (pass_in next is)
+  pub called_in : (next : ℕ) → next ≡ ended_calls (made_by r) + share → Called (shown t seat share) (shown n seat next)
+  called_in next is = called_by t n (point_of v) (point_of w) seat share next sectioned_in (pass_in next is)
 
   agrees : Agrees (point_of v) seat (first_entries t.logs)
   agrees = own_entries t (point_of v) seat a.was.one a.was.seat_is a.entries
@@ -227,10 +241,10 @@ module _ (t o n : Ticket) (v w : CoreView) (seat share : ℕ) (a : Around t o n 
         begins = fold_begins;
         shows = record {
           lawful = subst IsLawful (fold_at moved v w seat step r a.kept a.left_kept f) f.fold_kept.lawful;
-          header = sym (before_header t.seen (fold_of (point_of v)) fold_begins) ∙ a.was.header;
-          below = a.was.below;
+          header = sym (before_header t.seen (fold_of (point_of v)) fold_begins) ∙ a.was.shows.header;
+          below = a.was.shows.below;
           agrees = fold_agrees;
-          counted = a.was.counted;
+          counted = a.was.shows.counted;
         };
       }
 

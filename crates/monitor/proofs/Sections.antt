@@ -36,10 +36,11 @@ use Rattle.word_lock.specs.Ticket.{
   after_unlock,
   after_meet,
 }
-use Rattle.word_lock.proofs.PointLaws.{before_header, follows_more, added_more}
+use Rattle.word_lock.proofs.PointLaws.{before_header, before_refl, before_trans, follows_more, added_more}
 use Rattle.word_lock.proofs.Sections.{IsSection, section}
 use Rattle.word_lock.proofs.Tokens.{one_log}
 use Rattle.monitor.specs.Lawful.{point_of, start_at, view_of, Beside, IsLawfulCore, IsLawful}
+use Rattle.monitor.specs.Calling.{Called}
 use Rattle.monitor.specs.Shown.{Shown, shown, IsPass, IsSound}
 use Rattle.monitor.specs.Stepping.{IsStep, IsStepNow}
 use Rattle.monitor.specs.inner.Stepping.{now_of}
@@ -183,10 +184,6 @@ own_entries t p seat one own agree =
     subst (λ (k : ℕ). Agrees p k (first_entries t.logs)) own
     (agree 0 _ (ap (λ (l : List SeatLog). get_elem? l 0) (one_log t.logs one)))
 
-pub true_pass : (t : Ticket) (seat share : ℕ) → IsPass t seat share → IsSound (shown t seat share)
-true_pass t seat share z =
-    record { lawful = z.lawful; header = z.header; below = z.below; agrees = z.agrees; counted = z.counted }
-
 -- the pass after a section whose calls were counted, where what was left is lawful
 pub passed : (t n : Ticket) (p q : Point) (seat share next : ℕ) → IsSection t n p q seat →
     IsPass t seat share → IsLawful q → next ≡ ended_calls (first_entries n.logs) → IsPass n seat next
@@ -195,13 +192,25 @@ passed t n p q seat share next x was lawful counted =
       free = x.free;
       one = x.one;
       seat_is = x.seat_is;
-      below = subst (λ (l : LockId). seat < l.header.seats) (sym x.lock) was.below;
-      header = sym (before_header t.seen n.seen x.begins)
-          ∙ (was.header ∙ ap (λ (l : LockId). l.header) (sym x.lock));
-      lawful = subst IsLawful (sym x.seen) lawful;
-      agrees = x.agrees;
-      counted = counted;
+      shows = record {
+        lawful = subst IsLawful (sym x.seen) lawful;
+        header = sym (before_header t.seen n.seen x.begins)
+            ∙ (was.shows.header ∙ ap (λ (l : LockId). l.header) (sym x.lock));
+        below = subst (λ (l : LockId). seat < l.header.seats) (sym x.lock) was.shows.below;
+        agrees = x.agrees;
+        counted = counted;
+      };
     }
+
+-- what a call leaves that made such a section
+pub called_by : (t n : Ticket) (p q : Point) (seat share next : ℕ) → IsSection t n p q seat → IsPass n seat next →
+    Called (shown t seat share) (shown n seat next)
+called_by t n p q seat share next x pass =
+    record { same = record { lock = x.lock; seat = refl }; begins = x.begins; shows = pass.shows }
+
+-- or none
+pub not_called : (p : Shown) → IsSound p → Called p p
+not_called p shows = record { same = record { lock = refl; seat = refl }; begins = before_refl p.seen; shows = shows }
 
 -- a section that adds nothing leaves the entries of the pass
 pub mine_stays : (t n : Ticket) (p q : Point) (seat : ℕ) → IsSection t n p q seat → added p q ≡ [] →
@@ -236,12 +245,8 @@ module _ (t o n : Ticket) (p q : Point) (seat share : ℕ) (step : Step) (r : Re
   pub section_pass : Section → (next : ℕ) → next ≡ ended_calls (made_by r) + share → IsPass n seat next
   section_pass s next is =
       passed t n p q seat share next (sectioned s) s.was s.lawful
-      (is ∙ (ap (λ k. ended_calls (made_by r) + k) s.was.counted
+      (is ∙ (ap (λ k. ended_calls (made_by r) + k) s.was.shows.counted
       ∙ (sym (calls_more (made_by r) (first_entries t.logs)) ∙ ap ended_calls (sym (mine_grown s)))))
-
-  pub section_true : Section → (next : ℕ) → next ≡ ended_calls (made_by r) + share →
-      IsSound (shown n seat next)
-  section_true s next is = true_pass n seat next (section_pass s next is)
 
   pub section_step : (s : Section) → (next : ℕ) → (MakesOwed (view_of p s.beside) seat step → IsOk r) →
       IsStep (shown t seat share) step r (shown n seat next)
@@ -262,6 +267,23 @@ module _ (t o n : Ticket) (p q : Point) (seat share : ℕ) (step : Step) (r : Re
     mine = mine_grown s;
   }
 
+-- one call after another
+pub called_since : (old mid new : Shown) → Called old mid → Called mid new → Called old new
+called_since old mid new x y = record {
+  same = record { lock = y.same.lock ∙ x.same.lock; seat = y.same.seat ∙ x.same.seat };
+  begins = before_trans old.seen mid.seen new.seen x.begins y.begins;
+  shows = y.shows;
+}
+
+-- what a meeting leaves
+pub met_called : (t n : Ticket) (p : Point) (seat share : ℕ) → n ≡ after_meet t p → IsPass n seat share →
+    Before t.seen p → Called (shown t seat share) (shown n seat share)
+met_called t n p seat share is pass begins = record {
+  same = record { lock = ap (λ (z : Ticket). z.lock) is; seat = refl };
+  begins = subst (λ (z : Ticket). Before t.seen z.seen) (sym is) begins;
+  shows = pass.shows;
+}
+
 -- a pass that has seen more is a pass
 pub met : (t n : Ticket) (p : Point) (seat share : ℕ) → n ≡ after_meet t p →
     IsPass t seat share → IsLawful p →
@@ -271,11 +293,13 @@ met t n p seat share is s lawful begins agree =
       free = s.free;
       one = s.one;
       seat_is = s.seat_is;
-      below = s.below;
-      header = sym (before_header t.seen p begins) ∙ s.header;
-      lawful = lawful;
-      agrees = own_entries t p seat s.one s.seat_is agree;
-      counted = s.counted;
+      shows = record {
+        lawful = lawful;
+        header = sym (before_header t.seen p begins) ∙ s.shows.header;
+        below = s.shows.below;
+        agrees = own_entries t p seat s.one s.seat_is agree;
+        counted = s.shows.counted;
+      };
     }
 
 pub as_step_now : (old new : Shown) (step : Step) (r : Result Answer Fault)

@@ -10,9 +10,10 @@ use Rattle.word_lock.specs.Ticket.{Ticket, first_entries, first_seat, after_lock
 use Rattle.word_lock.proofs.PointLaws.{added_more, follows_fold, follows_more}
 use Rattle.word_lock.proofs.Sections.{IsSection, follows_taken, section}
 use Rattle.monitor.specs.Lawful.{point_of, view_of, Beside, IsLawfulCore, IsLawful}
-use Rattle.monitor.specs.Shown.{shown, IsPass, IsSound}
+use Rattle.monitor.specs.Calling.{Called}
+use Rattle.monitor.specs.Shown.{shown, IsPass}
 use Rattle.monitor.specs.Stepping.{IsTrim}
-use Rattle.monitor.proofs.Sections.{core_shown, mine_stays, own_entries, passed, true_pass}
+use Rattle.monitor.proofs.Sections.{called_by, core_shown, mine_stays, own_entries, passed}
 use Rattle.monitor.proofs.Beside.{beside_of}
 
 pub trimmed_shown : (v w : CoreView) (r : Result ℕ Fault) → IsLawfulCore v → IsLawfulCore w → IsTrimmed v r w →
@@ -56,10 +57,10 @@ module _ (t o n : Ticket) (p q : Point) (seat share : ℕ) (r : Result ℕ Fault
 
   pub trim_pass : Trim → IsPass n seat share
   trim_pass s = passed t n p q seat share share (went s) s.was s.lawful
-      (s.was.counted ∙ ap ended_calls (sym (mine s)))
+      (s.was.shows.counted ∙ ap ended_calls (sym (mine s)))
 
-  pub trim_true : Trim → IsSound (shown n seat share)
-  trim_true s = true_pass n seat share (trim_pass s)
+  pub trim_called : Trim → Called (shown t seat share) (shown n seat share)
+  trim_called s = called_by t n p q seat share share (went s) (trim_pass s)
 
   pub trim_is : Trim → IsTrim (shown t seat share) r (shown n seat share)
   trim_is s = let x = went s in record {

@@ -21,7 +21,6 @@ use Rattle.permit.specs.declared.parking.Woke.{Woke}
 use Rattle.permit.specs.declared.parking.Woke.TheVariants.{Permit, Deadline, Interrupted}
 use Rattle.word_lock.specs.Point.{Before}
 use Rattle.word_lock.specs.Ticket.{LockId}
-use Rattle.word_lock.proofs.PointLaws.{before_trans}
 use Rattle.monitor.specs.Acquire.{LimitsFor, WasInterrupted, WasNotInterrupted, first_step}
 use Rattle.monitor.specs.Interrupts.{tells_interrupt}
 use Rattle.monitor.specs.Load.{free_of, given_by}
@@ -51,7 +50,7 @@ use Rattle.monitor.specs.inner.Stepping.{named_in}
 use Rattle.monitor.specs.declared.step.Now.{Now}
 use Rattle.monitor.specs.declared.step.Now.TheVariants.{Done, Busy}
 use Rattle.monitor.specs.Waits.{AfterPark, Cause, ComesOf, IsNotLost, WaitsAs, in_line, is_lapse, no_limits, on_condition, stage_asleep, asking}
-use Rattle.monitor.specs.inner.Waits.{IsReply, IsWaited, MayBegin}
+use Rattle.monitor.specs.inner.Waits.{IsReply, MayBegin}
 use Rattle.monitor.proofs.StillWaiting.{AllStillWait, SoFar, StillWaits, ending_of, stage_behind, unless_lapse}
 use Rattle.monitor.specs.Waits as of_waits
 use Rattle.monitor.specs.declared.how.How.{How}
@@ -440,9 +439,6 @@ module _ (did : Deed → Type 0) (first now new : Shown) (s : Stage) (l : Limits
   ok =
       never_fault did first now new began.0 s l kept w.stage (step_of_waiting w woke) may
       (still began.0 began.1) its noted gone.0 gone.1
-
-  pub later : Before first.seen new.seen
-  later = before_trans first.seen now.seen new.seen (still began.0 began.1).begins gone.1.after
 
   pub replies : (reply : Result Entry Fault) (again : Bool) → t.next ≡ Ends reply again →
       (kept → IsNotLost did first.seat reply) → IsReply did first s l reply new

@@ -3,7 +3,7 @@ use Rattle.std.specs.Prelude.{◌≡◌, Some}
 use Rattle.history.specs.Entries.{HistoryView}
 use Rattle.history.specs.declared.point.Point.{Point}
 use Rattle.word_lock.specs.Point.{Before}
-use Rattle.monitor.specs.Shown.{Shown}
+use Rattle.monitor.specs.Shown.{Shown, IsSound}
 
 -- the pass may have seen more, and nothing else has changed
 pub record IsLook (old new : Shown) : Type 0 where
@@ -12,6 +12,7 @@ pub record IsLook (old new : Shown) : Type 0 where
   pub begins : Before old.seen new.seen
   pub mine : new.mine ≡ old.mine
   pub share : new.share ≡ old.share
+  pub shows : IsSound new
 
 -- the history has the base and the entries of a point
 abbrev pub IsHistoryOf : Point → HistoryView → Type 0

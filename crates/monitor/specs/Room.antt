@@ -1,12 +1,11 @@
 -- A step that makes room where there is none.
-use Rattle.std.specs.Prelude.{◌≡◌, ◌≢◌, ◌⊎◌, ◌<◌, ℕ, ◌+◌, [], length, Result, Err, Bool, true, false}
+use Rattle.std.specs.Prelude.{◌≡◌, ◌≢◌, ◌⊎◌, ◌<◌, ℕ, ◌+◌, length, Result, Err, Bool, true, false}
 use Rattle.history.specs.declared.entry.Entry.{Entry}
 use Rattle.history.specs.declared.fault.Fault.{Fault}
 use Rattle.history.specs.declared.fault.Fault.TheVariants.{HistoryFull, TrimFull}
 use Rattle.history.specs.declared.point.Point.{Point}
 use Rattle.history.specs.declared.step.Answer.{Answer}
 use Rattle.history.specs.declared.step.Step.{Step}
-use Rattle.history.specs.Base.{folded}
 use Rattle.history.specs.GoodBase.{most_folded}
 use Rattle.permit.specs.Deed.{Deed}
 use Rattle.word_lock.specs.Point.{Before}
@@ -28,8 +27,7 @@ at_point old p = record { lock = old.lock; seat = old.seat; seen = p; mine = old
 abbrev pub IsTooMany : Point → Type 0
 IsTooMany p = most_folded < p.base.entries + length p.entries
 
--- One of these steps found a history without room, and in the same turn of the lock all its entries were folded.
--- The pass has recorded nothing.
+-- One of these steps found a history without room, and all its entries were folded. The pass has recorded nothing.
 pub record IsFold (asks : Step → Type 0) (old : Shown) (found : Point) : Type 0 where
   pub step : Step
   pub asked : asks step
@@ -38,8 +36,8 @@ pub record IsFold (asks : Step → Type 0) (old : Shown) (found : Point) : Type 
   pub begins : Before old.seen (fold_of found)
   pub shows : IsSound (at_point old (fold_of found))
 
--- In that turn the step was made from the fold, and nothing came between. Only where it found no room there the
--- call was answered that the history is full.
+-- The step was made from the fold, and nothing came between. The call is answered that the history is full only if
+-- the step found no room there.
 pub record IsMadeThere {A : Type 0} (step : Step) (folded : Shown) (r : Result A Fault) (new : Shown) :
     Type 0 where
   pub answer : Result Answer Fault
@@ -65,8 +63,9 @@ pub record CannotFold {A : Type 0} (call : Shown → Result A Fault → Shown �
   pub many : IsTooMany new.seen
   pub is : r ≡ Err TrimFull
 
--- A call that begins by one of these steps. Where it is to make room, it folds only where it finds none, and there
--- is none only where a fold has none.
+-- A call that begins by one of these steps. If it is to make room, either it found room, or it was made from a fold,
+-- or too many entries would be folded. It is answered that the history is full only if a fold has no room. What it
+-- found may be a fold too, of a turn before: the code makes none.
 abbrev pub InRoom : {A : Type 0} → WhenFull → (Step → Type 0) → (Shown → Result A Fault → Shown → Type 0) →
     Shown → Result A Fault → Shown → Type 0
 InRoom Refuse asks call old r new = call old r new

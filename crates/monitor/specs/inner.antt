@@ -5,3 +5,4 @@ pub mod Load
 pub mod Machine
 pub mod Stepping
 pub mod AtOnce
+pub mod Sections

@@ -1,10 +1,8 @@
 //! An acquire, which may join the wait queue.
-ghost use Rattle.std.specs.Prelude.{◌≡◌, ◌≤◌, true};
-ghost use Rattle.word_lock.specs.Point.{Before};
+ghost use Rattle.std.specs.Prelude.{◌≡◌, true};
+ghost use Rattle.monitor.specs.Calling.{CanCall, Called};
 ghost use Rattle.monitor.specs.Load.{Brings, Moves, free_of, holds_of};
 ghost use Rattle.monitor.specs.Settled.{IsSettled};
-ghost use Rattle.monitor.specs.Shown.{IsSound};
-ghost use Rattle.monitor.specs.Stepping.{IsSame};
 ghost use Rattle.monitor.specs.Room.{IsCallIn};
 ghost use Rattle.monitor.specs.declared.machine.Request.TheVariants.{Acquire};
 ghost use Rattle.monitor.specs.Acquire.{IsAcquire, WasInterrupted, first_step};
@@ -66,47 +64,21 @@ impl<H: Hooks + Drop> Monitor<H> {
         n: u32,
         how: How,
     ) -> Result<Entry, Fault>
-        requires is_of { pass.old.lock ≡ self.now }
-        requires places { self.now.header.seats ≤ P.seats parking.now }
-        ensures same { IsSame pass.old pass.new }
-        ensures begins { Before pass.old.seen pass.new.seen }
-        ensures shows { IsSound pass.new }
+        requires can { CanCall self.now (P.seats parking.now) pass.old }
+        ensures called { Called pass.old pass.new }
         ensures acquired { IsAcquire (P.did parking.now) pass.old mode n how result pass.new }
     {
-        self.acquire_with(rt, parking, pass, &mut Empty {}, mode, n, how)
+        let request = Request::Acquire(mode, n);
+        let load = &mut Empty {};
+        self.make(rt, parking, pass, load, request, how, WhenFull::Refuse)
     }
 }
 
 impl<H: Hooks + Drop, L: Load> Monitor<H, L> {
-    /// [`acquire`](Monitor::acquire) with a load: before and after, the caller carries
-    /// what belongs to the holds of its pass.
-    pub fn acquire_with<P: Parking, R: Wait + Clock>(
-        &self,
-        rt: &R,
-        parking: &P,
-        pass: &mut Pass,
-        load: &mut L,
-        mode: Mode,
-        n: u32,
-        how: How,
-    ) -> Result<Entry, Fault>
-        requires is_of { pass.old.lock ≡ self.now }
-        requires places { self.now.header.seats ≤ P.seats parking.now }
-        requires carries { L.carries load.old (holds_of pass.old) }
-        requires brings { Brings L.is_counted (L.amount load.old) 0 }
-        ensures same { IsSame pass.old pass.new }
-        ensures begins { Before pass.old.seen pass.new.seen }
-        ensures shows { IsSound pass.new }
-        ensures acquired { IsAcquire (P.did parking.now) pass.old mode n how result pass.new }
-        ensures carries { L.carries load.new (holds_of pass.new) }
-        ensures moves { Moves L.is_counted L.amount load.old (free_of pass.old) load.new (free_of pass.new) }
-    {
-        self.acquire_when_full(rt, parking, pass, load, mode, n, how, WhenFull::Refuse)
-    }
-
-    /// The same. `when_full` says what it does if the history is full.
+    /// [`acquire`](Monitor::acquire) with a load: before and after, the caller carries what belongs to the
+    /// holds of its pass. `when_full` says what it does if the history is full.
     #[inline(always)]
-    pub fn acquire_when_full<P: Parking, R: Wait + Clock>(
+    pub fn acquire_with<P: Parking, R: Wait + Clock>(
         &self,
         rt: &R,
         parking: &P,
@@ -117,13 +89,10 @@ impl<H: Hooks + Drop, L: Load> Monitor<H, L> {
         how: How,
         when_full: WhenFull,
     ) -> Result<Entry, Fault>
-        requires is_of { pass.old.lock ≡ self.now }
-        requires places { self.now.header.seats ≤ P.seats parking.now }
+        requires can { CanCall self.now (P.seats parking.now) pass.old }
         requires carries { L.carries load.old (holds_of pass.old) }
         requires brings { Brings L.is_counted (L.amount load.old) 0 }
-        ensures same { IsSame pass.old pass.new }
-        ensures begins { Before pass.old.seen pass.new.seen }
-        ensures shows { IsSound pass.new }
+        ensures called { Called pass.old pass.new }
         ensures acquired { IsCallIn when_full (P.did parking.now) pass.old (Acquire mode n) how result pass.new }
         ensures carries { L.carries load.new (holds_of pass.new) }
         ensures moves { Moves L.is_counted L.amount load.old (free_of pass.old) load.new (free_of pass.new) }
@@ -151,13 +120,10 @@ impl<H: Hooks + Drop, L: Load> Monitor<H, L> {
         how: How,
         when_full: WhenFull,
     ) -> Result<Entry, Fault>
-        requires is_of { pass.old.lock ≡ self.now }
-        requires places { self.now.header.seats ≤ P.seats parking.now }
+        requires can { CanCall self.now (P.seats parking.now) pass.old }
         requires carries { L.carries load.old (holds_of pass.old) }
         requires brings { Brings L.is_counted (L.amount load.old) 0 }
-        ensures same { IsSame pass.old pass.new }
-        ensures begins { Before pass.old.seen pass.new.seen }
-        ensures shows { IsSound pass.new }
+        ensures called { Called pass.old pass.new }
         ensures made { IsCallIn when_full (P.did parking.now) pass.old request how result pass.new }
         ensures carries { L.carries load.new (holds_of pass.new) }
         ensures moves { Moves L.is_counted L.amount load.old (free_of pass.old) load.new (free_of pass.new) }
@@ -195,22 +161,19 @@ impl<H: Hooks + Drop, L: Load> Monitor<H, L> {
         when_full: WhenFull,
         interrupts: Interrupts,
     ) -> Result<Entry, Fault>
-        requires is_of { pass.old.lock ≡ self.now }
-        requires places { self.now.header.seats ≤ P.seats parking.now }
+        requires can { CanCall self.now (P.seats parking.now) pass.old }
         requires interrupted { WasInterrupted (P.did parking.now) pass.old.seat how }
         requires taken { (interrupts.seat ≡ pass.old.seat) × (interrupts.taken ≡ true) }
         requires carries { L.carries load.old (holds_of pass.old) }
         requires brings { Brings L.is_counted (L.amount load.old) 0 }
-        ensures same { IsSame pass.old pass.new }
-        ensures begins { Before pass.old.seen pass.new.seen }
-        ensures shows { IsSound pass.new }
+        ensures called { Called pass.old pass.new }
         ensures made { IsCallIn when_full (P.did parking.now) pass.old request how result pass.new }
         ensures settled { IsSettled result }
         ensures carries { L.carries load.new (holds_of pass.new) }
         ensures moves { Moves L.is_counted L.amount load.old (free_of pass.old) load.new (free_of pass.new) }
     {
         pass.is_true();
-        let refusal = self.begin_when_full(rt, pass, load, request, how, 0, true, when_full);
+        let refusal = self.begin(rt, pass, load, request, how, 0, true, when_full);
         unpark(parking, refusal.named);
         match refusal.next {
             Next::Ends { reply, again: _ } => {

@@ -5,17 +5,17 @@
 //! done at once takes the general path in the same turn of the lock. Only a call that finds the object taken
 //! goes the way that may wait.
 ghost use Rattle.std.specs.Prelude.{◌≡◌, ◌+◌, ◌<◌, ◌^◌};
+ghost use Rattle.monitor.specs.Calling.{Called};
 ghost use Rattle.monitor.specs.Load.{Brings, Moves, free_of, given_by, holds_of};
 ghost use Rattle.monitor.specs.Room.{IsStepIn};
-ghost use Rattle.monitor.specs.Shown.{IsSound};
-ghost use Rattle.monitor.specs.Stepping.{IsSame};
 ghost use Rattle.monitor.specs.inner.AtOnce.{IsBusy, IsStepAtOnce, IsStepFirst, Wakes};
 ghost use Rattle.word_lock.specs.Woken.{WasWoken};
 
 use crate::load::Load;
 use crate::monitor::Monitor;
-use crate::pass::{Pass, share_behind};
+use crate::pass::Pass;
 use crate::room::WhenFull;
+use crate::section::step_taken;
 use frame::hooks::Hooks;
 use history::fault::Fault;
 use history::step::{Answer, Step};
@@ -55,9 +55,8 @@ impl<H: Hooks + Drop, L: Load> Monitor<H, L> {
         requires is_of { pass.old.lock ≡ self.now }
         requires carries { L.carries load.old (holds_of pass.old) }
         requires brings { Brings L.is_counted (L.amount load.old) (given_by step) }
-        ensures same { IsSame pass.old pass.new }
+        ensures called { Called pass.old pass.new }
         ensures stepped { IsStepFirst when_full pass.old step result pass.new }
-        ensures shows { IsSound pass.new }
         ensures woken { WasWoken self.now }
         ensures carries { L.carries load.new (holds_of pass.new) }
         ensures moves { Moves L.is_counted L.amount load.old (free_of pass.old) load.new (free_of pass.new) }
@@ -83,14 +82,13 @@ impl<H: Hooks + Drop, L: Load> Monitor<H, L> {
         requires is_of { pass.old.lock ≡ self.now }
         requires carries { L.carries load.old (holds_of pass.old) }
         requires brings { Brings L.is_counted (L.amount load.old) (given_by step) }
-        ensures same { IsSame pass.old pass.new }
+        ensures called { Called pass.old pass.new }
         ensures stepped { IsStepIn when_full pass.old step result pass.new }
-        ensures shows { IsSound pass.new }
         ensures woken { WasWoken self.now }
         ensures carries { L.carries load.new (holds_of pass.new) }
         ensures moves { Moves L.is_counted L.amount load.old (free_of pass.old) load.new (free_of pass.new) }
     {
-        self.step_when_full(rt, pass, load, step, when_full)
+        self.step_with(rt, pass, load, step, when_full)
     }
 
     /// One step of the pass's seat, unless another call has its turn. `when_full` says what it does if the
@@ -106,10 +104,9 @@ impl<H: Hooks + Drop, L: Load> Monitor<H, L> {
         requires is_of { pass.old.lock ≡ self.now }
         requires carries { L.carries load.old (holds_of pass.old) }
         requires brings { Brings L.is_counted (L.amount load.old) (given_by step) }
-        ensures same { IsSame pass.old pass.new }
+        ensures called { Called pass.old pass.new }
         ensures stepped { IsStepAtOnce when_full pass.old step result pass.new }
         ensures busy { IsBusy result → load.new ≡ load.old }
-        ensures shows { IsSound pass.new }
         ensures woken { Wakes result (WasWoken self.now) }
         ensures carries { L.carries load.new (holds_of pass.new) }
         ensures moves { Moves L.is_counted L.amount load.old (free_of pass.old) load.new (free_of pass.new) }
@@ -124,9 +121,17 @@ impl<H: Hooks + Drop, L: Load> Monitor<H, L> {
                 AtOnce::Done(named)
             }
             None => {
-                let answer = held.value.step_otherwise(pass.seat, step, load, when_full);
-                self.lock.unlock(&mut pass.token, held);
-                pass.share = share_behind(pass.share, &answer);
+                let answer = step_taken(
+                    &self.lock,
+                    &mut pass.token,
+                    pass.seat,
+                    &mut pass.share,
+                    load,
+                    held,
+                    step,
+                    when_full,
+                );
+                self.lock.wake();
                 AtOnce::Otherwise(answer)
             }
         }

@@ -1,11 +1,9 @@
 //! An await on a condition.
-ghost use Rattle.std.specs.Prelude.{◌≡◌, ◌≤◌};
-ghost use Rattle.word_lock.specs.Point.{Before};
+ghost use Rattle.std.specs.Prelude.{◌≡◌};
+ghost use Rattle.monitor.specs.Calling.{CanCall, Called};
 ghost use Rattle.monitor.specs.Load.{Brings, Moves, free_of, holds_of};
 ghost use Rattle.monitor.specs.Room.{IsCallIn};
 ghost use Rattle.monitor.specs.declared.machine.Request.TheVariants.{AwaitOn};
-ghost use Rattle.monitor.specs.Shown.{IsSound};
-ghost use Rattle.monitor.specs.Stepping.{IsSame};
 ghost use Rattle.monitor.specs.AwaitOn.{IsAwait, first_stage};
 
 use crate::how::How;
@@ -60,44 +58,20 @@ impl<H: Hooks + Drop> Monitor<H> {
         condition: u8,
         how: How,
     ) -> Result<Entry, Fault>
-        requires is_of { pass.old.lock ≡ self.now }
-        requires places { self.now.header.seats ≤ P.seats parking.now }
-        ensures same { IsSame pass.old pass.new }
-        ensures begins { Before pass.old.seen pass.new.seen }
-        ensures shows { IsSound pass.new }
+        requires can { CanCall self.now (P.seats parking.now) pass.old }
+        ensures called { Called pass.old pass.new }
         ensures awaited { IsAwait (P.did parking.now) pass.old condition how result pass.new }
     {
-        self.await_on_with(rt, parking, pass, &mut Empty {}, condition, how)
+        let request = Request::AwaitOn(condition);
+        let load = &mut Empty {};
+        self.make(rt, parking, pass, load, request, how, WhenFull::Refuse)
     }
 }
 
 impl<H: Hooks + Drop, L: Load> Monitor<H, L> {
-    /// [`await_on`](Monitor::await_on) with a load: before and after, the caller carries
-    /// what belongs to the holds of its pass.
+    /// [`await_on`](Monitor::await_on) with a load: before and after, the caller carries what belongs to the
+    /// holds of its pass. `when_full` says what it does if the history is full.
     pub fn await_on_with<P: Parking, R: Wait + Clock>(
-        &self,
-        rt: &R,
-        parking: &P,
-        pass: &mut Pass,
-        load: &mut L,
-        condition: u8,
-        how: How,
-    ) -> Result<Entry, Fault>
-        requires is_of { pass.old.lock ≡ self.now }
-        requires places { self.now.header.seats ≤ P.seats parking.now }
-        requires carries { L.carries load.old (holds_of pass.old) }
-        requires brings { Brings L.is_counted (L.amount load.old) 0 }
-        ensures same { IsSame pass.old pass.new }
-        ensures begins { Before pass.old.seen pass.new.seen }
-        ensures shows { IsSound pass.new }
-        ensures awaited { IsAwait (P.did parking.now) pass.old condition how result pass.new }
-        ensures carries { L.carries load.new (holds_of pass.new) }
-        ensures moves { Moves L.is_counted L.amount load.old (free_of pass.old) load.new (free_of pass.new) }
-    {
-        self.await_when_full(rt, parking, pass, load, condition, how, WhenFull::Refuse)
-    }
-    /// The same. `when_full` says what it does if the history is full.
-    pub fn await_when_full<P: Parking, R: Wait + Clock>(
         &self,
         rt: &R,
         parking: &P,
@@ -107,13 +81,10 @@ impl<H: Hooks + Drop, L: Load> Monitor<H, L> {
         how: How,
         when_full: WhenFull,
     ) -> Result<Entry, Fault>
-        requires is_of { pass.old.lock ≡ self.now }
-        requires places { self.now.header.seats ≤ P.seats parking.now }
+        requires can { CanCall self.now (P.seats parking.now) pass.old }
         requires carries { L.carries load.old (holds_of pass.old) }
         requires brings { Brings L.is_counted (L.amount load.old) 0 }
-        ensures same { IsSame pass.old pass.new }
-        ensures begins { Before pass.old.seen pass.new.seen }
-        ensures shows { IsSound pass.new }
+        ensures called { Called pass.old pass.new }
         ensures awaited { IsCallIn when_full (P.did parking.now) pass.old (AwaitOn condition) how result pass.new }
         ensures carries { L.carries load.new (holds_of pass.new) }
         ensures moves { Moves L.is_counted L.amount load.old (free_of pass.old) load.new (free_of pass.new) }

@@ -1,10 +1,9 @@
 //! Calls that record one entry and never join the wait queue.
-ghost use Rattle.std.specs.Prelude.{◌≡◌, ◌≤◌};
 ghost use Rattle.history.specs.declared.entry.Mode.TheVariants.{S};
 ghost use Rattle.history.specs.declared.step.Step.TheVariants.{Try, Give, Signal, SignalAll, Drain};
+ghost use Rattle.monitor.specs.Calling.{CanCall, Called};
 ghost use Rattle.monitor.specs.Room.{IsEnteredIn};
-ghost use Rattle.monitor.specs.Shown.{IsSound};
-ghost use Rattle.monitor.specs.Stepping.{IsSame, IsEntered};
+ghost use Rattle.monitor.specs.Stepping.{IsEntered};
 ghost use Rattle.word_lock.specs.Woken.{WasWoken};
 
 use crate::load::{Empty, Load};
@@ -32,15 +31,14 @@ impl<H: Hooks + Drop> Monitor<H> {
         mode: Mode,
         n: u32,
     ) -> Result<Entry, Fault>
-        requires is_of { pass.old.lock ≡ self.now }
-        requires places { self.now.header.seats ≤ P.seats parking.now }
-        ensures same { IsSame pass.old pass.new }
+        requires can { CanCall self.now (P.seats parking.now) pass.old }
+        ensures called { Called pass.old pass.new }
         ensures tried { IsEntered (P.did parking.now) pass.old (Try mode n) result pass.new }
-        ensures shows { IsSound pass.new }
         ensures woken { WasWoken self.now }
     {
         pass.is_true();
-        self.enter(rt, parking, pass, &mut Empty {}, Step::Try(mode, n))
+        let step = Step::Try(mode, n);
+        self.enter(rt, parking, pass, &mut Empty {}, step, WhenFull::Refuse)
     }
 
     /// Releases a hold or permits: `Gave`. `Refused` if the seat doesn't own what it releases.
@@ -53,15 +51,14 @@ impl<H: Hooks + Drop> Monitor<H> {
         mode: Mode,
         n: u32,
     ) -> Result<Entry, Fault>
-        requires is_of { pass.old.lock ≡ self.now }
-        requires places { self.now.header.seats ≤ P.seats parking.now }
-        ensures same { IsSame pass.old pass.new }
+        requires can { CanCall self.now (P.seats parking.now) pass.old }
+        ensures called { Called pass.old pass.new }
         ensures given { IsEntered (P.did parking.now) pass.old (Give mode n) result pass.new }
-        ensures shows { IsSound pass.new }
         ensures woken { WasWoken self.now }
     {
         pass.is_true();
-        self.enter(rt, parking, pass, &mut Empty {}, Step::Give(mode, n))
+        let step = Step::Give(mode, n);
+        self.enter(rt, parking, pass, &mut Empty {}, step, WhenFull::Refuse)
     }
 
     /// Counts a latch down by one: `Counted`.
@@ -71,15 +68,14 @@ impl<H: Hooks + Drop> Monitor<H> {
         parking: &P,
         pass: &mut Pass,
     ) -> Result<Entry, Fault>
-        requires is_of { pass.old.lock ≡ self.now }
-        requires places { self.now.header.seats ≤ P.seats parking.now }
-        ensures same { IsSame pass.old pass.new }
+        requires can { CanCall self.now (P.seats parking.now) pass.old }
+        ensures called { Called pass.old pass.new }
         ensures counted { IsEntered (P.did parking.now) pass.old (Give S 1) result pass.new }
-        ensures shows { IsSound pass.new }
         ensures woken { WasWoken self.now }
     {
         pass.is_true();
-        self.enter(rt, parking, pass, &mut Empty {}, Step::Give(Mode::S, 1))
+        let step = Step::Give(Mode::S, 1);
+        self.enter(rt, parking, pass, &mut Empty {}, step, WhenFull::Refuse)
     }
 
     /// Takes all free permits of a semaphore: `Drained`, with their number.
@@ -89,15 +85,14 @@ impl<H: Hooks + Drop> Monitor<H> {
         parking: &P,
         pass: &mut Pass,
     ) -> Result<Entry, Fault>
-        requires is_of { pass.old.lock ≡ self.now }
-        requires places { self.now.header.seats ≤ P.seats parking.now }
-        ensures same { IsSame pass.old pass.new }
+        requires can { CanCall self.now (P.seats parking.now) pass.old }
+        ensures called { Called pass.old pass.new }
         ensures drained { IsEntered (P.did parking.now) pass.old (Drain) result pass.new }
-        ensures shows { IsSound pass.new }
         ensures woken { WasWoken self.now }
     {
         pass.is_true();
-        self.enter(rt, parking, pass, &mut Empty {}, Step::Drain)
+        let step = Step::Drain;
+        self.enter(rt, parking, pass, &mut Empty {}, step, WhenFull::Refuse)
     }
 }
 
@@ -111,11 +106,9 @@ impl<H: Hooks + Drop, L: Load> Monitor<H, L> {
         pass: &mut Pass,
         condition: u8,
     ) -> Result<Entry, Fault>
-        requires is_of { pass.old.lock ≡ self.now }
-        requires places { self.now.header.seats ≤ P.seats parking.now }
-        ensures same { IsSame pass.old pass.new }
+        requires can { CanCall self.now (P.seats parking.now) pass.old }
+        ensures called { Called pass.old pass.new }
         ensures signalled { IsEntered (P.did parking.now) pass.old (Signal condition) result pass.new }
-        ensures shows { IsSound pass.new }
         ensures woken { WasWoken self.now }
     {
         self.signal_when_full(rt, parking, pass, condition, WhenFull::Refuse)
@@ -130,11 +123,9 @@ impl<H: Hooks + Drop, L: Load> Monitor<H, L> {
         condition: u8,
         when_full: WhenFull,
     ) -> Result<Entry, Fault>
-        requires is_of { pass.old.lock ≡ self.now }
-        requires places { self.now.header.seats ≤ P.seats parking.now }
-        ensures same { IsSame pass.old pass.new }
+        requires can { CanCall self.now (P.seats parking.now) pass.old }
+        ensures called { Called pass.old pass.new }
         ensures signalled { IsEnteredIn when_full (P.did parking.now) pass.old (Signal condition) result pass.new }
-        ensures shows { IsSound pass.new }
         ensures woken { WasWoken self.now }
     {
         pass.is_true();
@@ -149,11 +140,9 @@ impl<H: Hooks + Drop, L: Load> Monitor<H, L> {
         pass: &mut Pass,
         condition: u8,
     ) -> Result<Entry, Fault>
-        requires is_of { pass.old.lock ≡ self.now }
-        requires places { self.now.header.seats ≤ P.seats parking.now }
-        ensures same { IsSame pass.old pass.new }
+        requires can { CanCall self.now (P.seats parking.now) pass.old }
+        ensures called { Called pass.old pass.new }
         ensures signalled { IsEntered (P.did parking.now) pass.old (SignalAll condition) result pass.new }
-        ensures shows { IsSound pass.new }
         ensures woken { WasWoken self.now }
     {
         self.signal_all_when_full(rt, parking, pass, condition, WhenFull::Refuse)
@@ -168,11 +157,9 @@ impl<H: Hooks + Drop, L: Load> Monitor<H, L> {
         condition: u8,
         when_full: WhenFull,
     ) -> Result<Entry, Fault>
-        requires is_of { pass.old.lock ≡ self.now }
-        requires places { self.now.header.seats ≤ P.seats parking.now }
-        ensures same { IsSame pass.old pass.new }
+        requires can { CanCall self.now (P.seats parking.now) pass.old }
+        ensures called { Called pass.old pass.new }
         ensures signalled { IsEnteredIn when_full (P.did parking.now) pass.old (SignalAll condition) result pass.new }
-        ensures shows { IsSound pass.new }
         ensures woken { WasWoken self.now }
     {
         pass.is_true();

@@ -1,14 +1,13 @@
 //! Passes that meet, and the end of a monitor.
-ghost use Rattle.std.specs.Prelude.{◌≡◌, ◌<◌, ◌≤◌, ◌*◌, ◌^◌, length, All, IfOk, IfErr};
+ghost use Rattle.std.specs.Prelude.{◌≡◌, ◌<◌, ◌*◌, ◌^◌, length, All, IfOk, IfErr};
 ghost use Rattle.history.specs.Entries.{IsBasedWell, start_on};
 ghost use Rattle.history.specs.Legal.{AreSeated, calls};
 ghost use Rattle.deciding.specs.Balance.{balance};
+ghost use Rattle.monitor.specs.Calling.{Called};
 ghost use Rattle.monitor.specs.Closing.{IsBased, IsWithin, left_by, shares, passes_of, IsMissing};
 ghost use Rattle.history.specs.Counts.{counts};
 ghost use Rattle.monitor.specs.Lawful.{IsLawful};
-ghost use Rattle.word_lock.specs.Point.{Before};
 ghost use Rattle.monitor.specs.Shown.{IsSound};
-ghost use Rattle.monitor.specs.Stepping.{IsSame};
 ghost use Rattle.monitor.specs.declared.closing.CloseFault.TheVariants.{MissingPass};
 
 use crate::load::{Empty, Load};
@@ -41,12 +40,10 @@ impl<H: Hooks + Drop, L: Load> Monitor<H, L> {
     /// Lets two passes see the same history. It allocates nothing and waits for nobody.
     pub fn meet(&self, one: Pass, two: Pass) -> (Pass, Pass)
         requires is_of { (one.lock ≡ self.now) × (two.lock ≡ self.now) }
-        ensures same { IsSame one result.0 × IsSame two result.1 }
+        ensures called { Called one result.0 × Called two result.1 }
         ensures seen { result.0.seen ≡ result.1.seen }
-        ensures begins { Before one.seen result.0.seen × Before two.seen result.1.seen }
         ensures mine { (result.0.mine ≡ one.mine) × (result.1.mine ≡ two.mine) }
         ensures share { (result.0.share ≡ one.share) × (result.1.share ≡ two.share) }
-        ensures shows { IsSound result.0 × IsSound result.1 }
     {
         let Pass {
             token: a,

@@ -15,13 +15,18 @@
 //! - `mine`, all entries of its own seat, the newest first. Each call adds its own entries and no others.
 //! - `share`, how many calls those entries ended.
 //!
+//! What every call asks and leaves stands once, in `specs/Calling.antt`. `CanCall`: the pass is one of this
+//! monitor's, and there is a place to park for each seat. `Called`: it is a pass of the same monitor and seat,
+//! and what it has seen comes after what it had seen, is lawful, and has just these entries of its seat. What
+//! else a contract says is special of its call.
+//!
 //! Two passes may have seen histories of different length, and `meet` makes these the same. Everything that
 //! the passes saw belongs to one history, which `close` returns.
 //!
 //! `trim` folds the entries so far into the base, so that an object runs on past its cap. What a pass had
 //! seen before stays true: the fold says the same about all that comes after.
 //!
-//! A call whose name ends in `_when_full` trims by itself, if it is asked to and the history has no room for
+//! A call that is given a [`WhenFull`] trims by itself, if it is asked to and the history has no room for
 //! its first step. It folds and makes the step in one turn of the lock, so that nobody fills the history in
 //! between.
 //!
@@ -32,8 +37,9 @@
 //!
 //! Proved of each call that returns: what the pass has seen afterwards is legal and comes after what it had
 //! seen; `mine` grew by the entries that the call's contract lists, each the one entry of the named step at
-//! its own place; the reply is the last entry seen; a fault is the answer of the definitions, and nothing was
-//! recorded. `step_now` waits for nobody, and its Busy leaves the pass as it was.
+//! its own place; the reply is the last entry seen; a fault is the answer of the definitions, or
+//! `OutOfMemory`, and nothing was recorded. `step_now` waits for nobody, and its Busy leaves the pass as it
+//! was.
 //!
 //! Proved too of each call that has a parking, by the deeds that the parking's methods leave:
 //! - The seat that a step of the call named was unparked.
@@ -44,7 +50,8 @@
 //!   as the call says. The exceptions: an await with a time of 0 expires before it parks, and a sleeper looks
 //!   after its own lapse.
 //! - An interrupt that a park returned is reported by the reply, or set again. The compiler refuses a body
-//!   that forgets it, since the value that stands for it can't be dropped.
+//!   that forgets it, since the value that stands for it can't be dropped. No contract rules out a further
+//!   park whose interrupt is thrown away.
 //!
 //! Not promised: that a waiter wakes, that a waiting call returns, or in which order threads are served
 //! between two steps. A parking promises only that a park without a deadline returns no `Deadline`, and that
@@ -67,6 +74,7 @@ mod observing;
 mod pass;
 mod quiet;
 mod room;
+mod section;
 mod step;
 mod trimming;
 mod under_lock;

@@ -10,6 +10,7 @@
 //! once its seat was parked as [`Waiting`] says, or at once.
 ghost use Rattle.std.specs.Prelude.{◌≡◌, ◌≢◌, IfNone, IfSome, IsOk};
 ghost use Rattle.history.specs.declared.step.Answer.TheVariants.{Sleep};
+ghost use Rattle.monitor.specs.Calling.{Called};
 ghost use Rattle.monitor.specs.Load.{Brings, Moves, free_of, holds_of};
 ghost use Rattle.monitor.specs.Machine.{
   IsBegun,
@@ -28,8 +29,7 @@ ghost use Rattle.monitor.specs.Machine.{
   step_within,
 };
 ghost use Rattle.monitor.specs.Room.{IsBegunIn};
-ghost use Rattle.monitor.specs.Shown.{IsSound};
-ghost use Rattle.monitor.specs.Stepping.{IsSame, answer_of};
+ghost use Rattle.monitor.specs.Stepping.{answer_of};
 ghost use Rattle.monitor.specs.Waits.{Waits, is_lapse};
 ghost use Rattle.word_lock.specs.Woken.{WasWoken};
 
@@ -293,34 +293,9 @@ pub(crate) fn first_turn(
 impl<H: Hooks + Drop, L: Load> Monitor<H, L> {
     /// The first turn of a call. `interrupted` says that the call heeds interrupts and that one was pending:
     /// it was taken. `moment` is what the clock shows. A timed call counts from it, and other calls ignore
-    /// it.
-    pub fn begin<R: Wait>(
-        &self,
-        rt: &R,
-        pass: &mut Pass,
-        load: &mut L,
-        request: Request,
-        how: How,
-        moment: u64,
-        interrupted: bool,
-    ) -> Turn
-        requires is_of { pass.old.lock ≡ self.now }
-        requires carries { L.carries load.old (holds_of pass.old) }
-        requires brings { Brings L.is_counted (L.amount load.old) 0 }
-        ensures same { IsSame pass.old pass.new }
-        ensures begun { IsBegun pass.old request how moment interrupted result pass.new }
-        ensures shows { IsSound pass.new }
-        ensures woken { WasWoken self.now }
-        ensures carries { L.carries load.new (holds_of pass.new) }
-        ensures moves { Moves L.is_counted L.amount load.old (free_of pass.old) load.new (free_of pass.new) }
-    {
-        let when_full = WhenFull::Refuse;
-        self.begin_when_full(rt, pass, load, request, how, moment, interrupted, when_full)
-    }
-
-    /// [`begin`](Monitor::begin). `when_full` says what it does if the history is full.
+    /// it. `when_full` says what it does if the history is full.
     #[inline(always)]
-    pub fn begin_when_full<R: Wait>(
+    pub fn begin<R: Wait>(
         &self,
         rt: &R,
         pass: &mut Pass,
@@ -334,15 +309,14 @@ impl<H: Hooks + Drop, L: Load> Monitor<H, L> {
         requires is_of { pass.old.lock ≡ self.now }
         requires carries { L.carries load.old (holds_of pass.old) }
         requires brings { Brings L.is_counted (L.amount load.old) 0 }
-        ensures same { IsSame pass.old pass.new }
+        ensures called { Called pass.old pass.new }
         ensures begun { IsBegunIn when_full pass.old request how moment interrupted result pass.new }
-        ensures shows { IsSound pass.new }
         ensures woken { WasWoken self.now }
         ensures carries { L.carries load.new (holds_of pass.new) }
         ensures moves { Moves L.is_counted L.amount load.old (free_of pass.old) load.new (free_of pass.new) }
     {
         let step = request.step(how, interrupted);
-        let answer = self.step_when_full(rt, pass, load, step, when_full);
+        let answer = self.step_with(rt, pass, load, step, when_full);
         first_turn(request, how, moment, interrupted, answer)
     }
 
@@ -360,10 +334,9 @@ impl<H: Hooks + Drop, L: Load> Monitor<H, L> {
         requires is_of { pass.old.lock ≡ self.now }
         requires carries { L.carries load.old (holds_of pass.old) }
         requires brings { Brings L.is_counted (L.amount load.old) 0 }
-        ensures same { IsSame pass.old pass.new }
+        ensures called { Called pass.old pass.new }
         ensures busy { IfNone result (pass.new ≡ pass.old) }
         ensures begun { IfSome result (λ turn. IsBegun pass.old request how moment interrupted turn pass.new) }
-        ensures shows { IsSound pass.new }
         ensures carries { L.carries load.new (holds_of pass.new) }
         ensures moves { Moves L.is_counted L.amount load.old (free_of pass.old) load.new (free_of pass.new) }
     {
@@ -387,16 +360,15 @@ impl<H: Hooks + Drop, L: Load> Monitor<H, L> {
         requires waits { Waits pass.old.seen pass.old.seat }
         requires carries { L.carries load.old (holds_of pass.old) }
         requires brings { Brings L.is_counted (L.amount load.old) 0 }
-        ensures same { IsSame pass.old pass.new }
+        ensures called { Called pass.old pass.new }
         ensures gone_on { IsGoneOn pass.old waiting woke result pass.new }
-        ensures shows { IsSound pass.new }
         ensures woken { WasWoken self.now }
         ensures carries { L.carries load.new (holds_of pass.new) }
         ensures moves { Moves L.is_counted L.amount load.old (free_of pass.old) load.new (free_of pass.new) }
     {
         pass.is_true();
         let step = waiting.step(woke);
-        let answer = self.step_with(rt, pass, load, step);
+        let answer = self.step_with(rt, pass, load, step, WhenFull::Refuse);
         waiting.turn(step, answer)
     }
 
@@ -412,10 +384,9 @@ impl<H: Hooks + Drop, L: Load> Monitor<H, L> {
         requires waits { Waits pass.old.seen pass.old.seat }
         requires carries { L.carries load.old (holds_of pass.old) }
         requires brings { Brings L.is_counted (L.amount load.old) 0 }
-        ensures same { IsSame pass.old pass.new }
+        ensures called { Called pass.old pass.new }
         ensures busy { IfNone result (pass.new ≡ pass.old) }
         ensures gone_on { IfSome result (λ turn. IsGoneOn pass.old waiting woke turn pass.new) }
-        ensures shows { IsSound pass.new }
         ensures carries { L.carries load.new (holds_of pass.new) }
         ensures moves { Moves L.is_counted L.amount load.old (free_of pass.old) load.new (free_of pass.new) }
     {

@@ -9,7 +9,6 @@ ghost use Rattle.history.specs.Naming.{ready};
 ghost use Rattle.history.specs.Sleepers.{sleepers};
 ghost use Rattle.monitor.specs.Lawful.{start_at};
 ghost use Rattle.monitor.specs.Observing.{IsLook};
-ghost use Rattle.monitor.specs.Shown.{IsSound};
 ghost use Rattle.word_lock.specs.Woken.{WasWoken};
 
 use crate::load::Load;
@@ -27,7 +26,6 @@ impl<H: Hooks + Drop, L: Load> Monitor<H, L> {
         requires is_of { pass.old.lock ≡ self.now }
         requires seat { seat < self.now.header.seats }
         ensures looked { IsLook pass.old pass.new }
-        ensures shows { IsSound pass.new }
         ensures woken { WasWoken self.now }
         ensures value { result ≡ held (start_at pass.new.seen) pass.new.seen.entries seat mode }
     {
@@ -41,7 +39,6 @@ impl<H: Hooks + Drop, L: Load> Monitor<H, L> {
     pub fn is_held<R: Wait>(&self, rt: &R, pass: &mut Pass) -> bool
         requires is_of { pass.old.lock ≡ self.now }
         ensures looked { IsLook pass.old pass.new }
-        ensures shows { IsSound pass.new }
         ensures woken { WasWoken self.now }
         ensures value { result ≡ is_some (owner (counts (start_at pass.new.seen) pass.new.seen.entries)) }
     {
@@ -60,7 +57,6 @@ impl<H: Hooks + Drop, L: Load> Monitor<H, L> {
         requires is_of { pass.old.lock ≡ self.now }
         requires seat { seat < self.now.header.seats }
         ensures looked { IsLook pass.old pass.new }
-        ensures shows { IsSound pass.new }
         ensures woken { WasWoken self.now }
         ensures told { ready (start_at pass.new.seen) pass.new.seen.entries ≡ Some seat → result ≡ true }
         ensures stand { result ≡ true
@@ -76,7 +72,6 @@ impl<H: Hooks + Drop, L: Load> Monitor<H, L> {
     pub fn queue_length<R: Wait>(&self, rt: &R, pass: &mut Pass) -> u16
         requires is_of { pass.old.lock ≡ self.now }
         ensures looked { IsLook pass.old pass.new }
-        ensures shows { IsSound pass.new }
         ensures woken { WasWoken self.now }
         ensures value { result ≡ length (line (start_at pass.new.seen) pass.new.seen.entries) }
     {
@@ -90,7 +85,6 @@ impl<H: Hooks + Drop, L: Load> Monitor<H, L> {
     pub fn waiters<R: Wait>(&self, rt: &R, pass: &mut Pass, condition: u8) -> u16
         requires is_of { pass.old.lock ≡ self.now }
         ensures looked { IsLook pass.old pass.new }
-        ensures shows { IsSound pass.new }
         ensures woken { WasWoken self.now }
         ensures value { result ≡ length (sleepers (start_at pass.new.seen) pass.new.seen.entries condition) }
     {
@@ -104,7 +98,6 @@ impl<H: Hooks + Drop, L: Load> Monitor<H, L> {
     pub fn available<R: Wait>(&self, rt: &R, pass: &mut Pass) -> i64
         requires is_of { pass.old.lock ≡ self.now }
         ensures looked { IsLook pass.old pass.new }
-        ensures shows { IsSound pass.new }
         ensures woken { WasWoken self.now }
         ensures value { result ≡ available (start_at pass.new.seen) pass.new.seen.entries }
     {
@@ -118,7 +111,6 @@ impl<H: Hooks + Drop, L: Load> Monitor<H, L> {
     pub fn count<R: Wait>(&self, rt: &R, pass: &mut Pass) -> u32
         requires is_of { pass.old.lock ≡ self.now }
         ensures looked { IsLook pass.old pass.new }
-        ensures shows { IsSound pass.new }
         ensures woken { WasWoken self.now }
         ensures value { result ≡ count (start_at pass.new.seen) pass.new.seen.entries }
     {
@@ -134,7 +126,6 @@ impl<H: Hooks + Drop, L: Load> Monitor<H, L> {
         requires is_of { pass.old.lock ≡ self.now }
         requires callable { F.IsAlwaysCallable look }
         ensures looked { IsLook pass.old pass.new }
-        ensures shows { IsSound pass.new }
         ensures woken { WasWoken self.now }
         ensures saw { (load : L) × L.rests load (counts (start_at pass.new.seen) pass.new.seen.entries)
             × FnOnceReturnsAt F.FnOnce look load result }

@@ -1,20 +1,21 @@
 //! One step of a seat.
-ghost use Rattle.std.specs.Prelude.{◌≡◌, ◌≢◌, ◌<◌, ◌≤◌, false, true, Ok, IfSome};
+ghost use Rattle.std.specs.Prelude.{◌≡◌, ◌≢◌, ◌<◌, false, true, Ok, IfSome};
 ghost use Rattle.history.specs.declared.step.Answer.TheVariants.{Sleep};
 ghost use Rattle.history.specs.Phase.{waits};
+ghost use Rattle.monitor.specs.Calling.{CanCall, Called};
 ghost use Rattle.monitor.specs.Load.{Brings, Moves, free_of, given_by, holds_of};
 ghost use Rattle.monitor.specs.inner.Load.{is_signal};
 ghost use Rattle.monitor.specs.Room.{IsEnteredIn, IsStepIn};
-ghost use Rattle.monitor.specs.Shown.{IsSound};
-ghost use Rattle.monitor.specs.Stepping.{IsSame, IsStep, IsStepNow, IsEntered, IsUnparked};
+ghost use Rattle.monitor.specs.Stepping.{IsStep, IsStepNow, IsEntered, IsUnparked};
 ghost use Rattle.monitor.specs.inner.Stepping.{entry_in, named_in, now_of};
 ghost use Rattle.word_lock.specs.Woken.{WasWoken};
 
 use crate::at_once::First;
 use crate::load::{Empty, Load};
 use crate::monitor::Monitor;
-use crate::pass::{Pass, share_behind};
+use crate::pass::Pass;
 use crate::room::WhenFull;
+use crate::section::step_taken;
 use frame::hooks::Hooks;
 use frame::machine::entry_at_once;
 use history::entry::Entry;
@@ -35,20 +36,18 @@ impl<H: Hooks + Drop> Monitor<H> {
     /// One step of the pass's seat. It waits for the object.
     pub fn step<R: Wait>(&self, rt: &R, pass: &mut Pass, step: Step) -> Result<Answer, Fault>
         requires is_of { pass.old.lock ≡ self.now }
-        ensures same { IsSame pass.old pass.new }
+        ensures called { Called pass.old pass.new }
         ensures stepped { IsStep pass.old step result pass.new }
-        ensures shows { IsSound pass.new }
         ensures woken { WasWoken self.now }
     {
-        self.step_with(rt, pass, &mut Empty {}, step)
+        self.step_with(rt, pass, &mut Empty {}, step, WhenFull::Refuse)
     }
 
     /// One step of the pass's seat, unless another call has its turn. It waits for nobody.
     pub fn step_now(&self, pass: &mut Pass, step: Step) -> Result<Now, Fault>
         requires is_of { pass.old.lock ≡ self.now }
-        ensures same { IsSame pass.old pass.new }
+        ensures called { Called pass.old pass.new }
         ensures stepped { IsStepNow pass.old step result pass.new }
-        ensures shows { IsSound pass.new }
         ensures woken { WasWoken self.now }
     {
         self.step_now_with(pass, &mut Empty {}, step)
@@ -57,40 +56,13 @@ impl<H: Hooks + Drop> Monitor<H> {
 
 /// The same with a load. The caller carries what belongs to the holds of its pass, before and after.
 impl<H: Hooks + Drop, L: Load> Monitor<H, L> {
-    /// One step of the pass's seat. It waits for the object.
-    #[inline(always)]
-    pub fn step_with<R: Wait>(
-        &self,
-        rt: &R,
-        pass: &mut Pass,
-        load: &mut L,
-        step: Step,
-    ) -> Result<Answer, Fault>
-        requires is_of { pass.old.lock ≡ self.now }
-        requires carries { L.carries load.old (holds_of pass.old) }
-        requires brings { Brings L.is_counted (L.amount load.old) (given_by step) }
-        ensures same { IsSame pass.old pass.new }
-        ensures stepped { IsStep pass.old step result pass.new }
-        ensures shows { IsSound pass.new }
-        ensures woken { WasWoken self.now }
-        ensures carries { L.carries load.new (holds_of pass.new) }
-        ensures moves { Moves L.is_counted L.amount load.old (free_of pass.old) load.new (free_of pass.new) }
-    {
-        let mut held = self.lock.lock(rt, &mut pass.token);
-        let answer = held.value.step(pass.seat, step, load);
-        self.lock.unlock(&mut pass.token, held);
-        pass.share = share_behind(pass.share, &answer);
-        answer
-    }
-
     /// One step of the pass's seat, unless another call has its turn. It waits for nobody.
     pub fn step_now_with(&self, pass: &mut Pass, load: &mut L, step: Step) -> Result<Now, Fault>
         requires is_of { pass.old.lock ≡ self.now }
         requires carries { L.carries load.old (holds_of pass.old) }
         requires brings { Brings L.is_counted (L.amount load.old) (given_by step) }
-        ensures same { IsSame pass.old pass.new }
+        ensures called { Called pass.old pass.new }
         ensures stepped { IsStepNow pass.old step result pass.new }
-        ensures shows { IsSound pass.new }
         ensures woken { WasWoken self.now }
         ensures carries { L.carries load.new (holds_of pass.new) }
         ensures moves { Moves L.is_counted L.amount load.old (free_of pass.old) load.new (free_of pass.new) }
@@ -100,28 +72,35 @@ impl<H: Hooks + Drop, L: Load> Monitor<H, L> {
         answer
     }
 
-    /// The same, but it wakes nobody who waits for the object: for a static library, in which nobody waits.
+    /// The same, but it wakes nobody who waits for the object: for a static library, in which nobody waits. A
+    /// thread that waits in another call, as `step`, may sleep on after it.
     pub fn step_quietly(&self, pass: &mut Pass, load: &mut L, step: Step) -> Result<Now, Fault>
         requires is_of { pass.old.lock ≡ self.now }
         requires carries { L.carries load.old (holds_of pass.old) }
         requires brings { Brings L.is_counted (L.amount load.old) (given_by step) }
-        ensures same { IsSame pass.old pass.new }
+        ensures called { Called pass.old pass.new }
         ensures stepped { IsStepNow pass.old step result pass.new }
-        ensures shows { IsSound pass.new }
         ensures carries { L.carries load.new (holds_of pass.new) }
         ensures moves { Moves L.is_counted L.amount load.old (free_of pass.old) load.new (free_of pass.new) }
     {
-        let Some(mut held) = self.lock.lock_now(&mut pass.token) else {
+        let Some(held) = self.lock.lock_now(&mut pass.token) else {
             return Ok(Now::Busy);
         };
-        let answer = held.value.step(pass.seat, step, load);
-        self.lock.unlock_quietly(&mut pass.token, held);
-        pass.share = share_behind(pass.share, &answer);
+        let answer = step_taken(
+            &self.lock,
+            &mut pass.token,
+            pass.seat,
+            &mut pass.share,
+            load,
+            held,
+            step,
+            WhenFull::Refuse,
+        );
         done(answer)
     }
 
-    /// A step of an idle seat. Returns its entry or a fault, and unparks the seat that the step
-    /// names.
+    /// A step of an idle seat. Returns its entry or a fault, and unparks the seat that the step names.
+    /// `when_full` says what it does if the history is full.
     #[inline(always)]
     pub fn enter<P: Parking, R: Wait + Clock>(
         &self,
@@ -130,41 +109,14 @@ impl<H: Hooks + Drop, L: Load> Monitor<H, L> {
         pass: &mut Pass,
         load: &mut L,
         step: Step,
-    ) -> Result<Entry, Fault>
-        requires is_of { pass.old.lock ≡ self.now }
-        requires places { self.now.header.seats ≤ P.seats parking.now }
-        requires idle { waits step ≡ false }
-        requires carries { L.carries load.old (holds_of pass.old) }
-        requires brings { Brings L.is_counted (L.amount load.old) (given_by step) }
-        ensures same { IsSame pass.old pass.new }
-        ensures entered { IsEntered (P.did parking.now) pass.old step result pass.new }
-        ensures shows { IsSound pass.new }
-        ensures woken { WasWoken self.now }
-        ensures carries { L.carries load.new (holds_of pass.new) }
-        ensures moves { Moves L.is_counted L.amount load.old (free_of pass.old) load.new (free_of pass.new) }
-    {
-        self.enter_when_full(rt, parking, pass, load, step, WhenFull::Refuse)
-    }
-
-    /// [`enter`](Monitor::enter). `when_full` says what it does if the history is full.
-    #[inline(always)]
-    pub fn enter_when_full<P: Parking, R: Wait + Clock>(
-        &self,
-        rt: &R,
-        parking: &P,
-        pass: &mut Pass,
-        load: &mut L,
-        step: Step,
         when_full: WhenFull,
     ) -> Result<Entry, Fault>
-        requires is_of { pass.old.lock ≡ self.now }
-        requires places { self.now.header.seats ≤ P.seats parking.now }
+        requires can { CanCall self.now (P.seats parking.now) pass.old }
         requires idle { waits step ≡ false }
         requires carries { L.carries load.old (holds_of pass.old) }
         requires brings { Brings L.is_counted (L.amount load.old) (given_by step) }
-        ensures same { IsSame pass.old pass.new }
+        ensures called { Called pass.old pass.new }
         ensures entered { IsEnteredIn when_full (P.did parking.now) pass.old step result pass.new }
-        ensures shows { IsSound pass.new }
         ensures woken { WasWoken self.now }
         ensures carries { L.carries load.new (holds_of pass.new) }
         ensures moves { Moves L.is_counted L.amount load.old (free_of pass.old) load.new (free_of pass.new) }
@@ -178,27 +130,6 @@ impl<H: Hooks + Drop, L: Load> Monitor<H, L> {
         }
     }
 
-    // A signal of the pass's seat. It waits for the object.
-    pub(crate) fn signal_step<R: Wait>(
-        &self,
-        rt: &R,
-        pass: &mut Pass,
-        step: Step,
-    ) -> Result<Answer, Fault>
-        requires is_of { pass.old.lock ≡ self.now }
-        requires signals { is_signal step ≡ true }
-        ensures same { IsSame pass.old pass.new }
-        ensures stepped { IsStep pass.old step result pass.new }
-        ensures shows { IsSound pass.new }
-        ensures woken { WasWoken self.now }
-    {
-        let mut held = self.lock.lock(rt, &mut pass.token);
-        let answer = held.value.signal(pass.seat, step);
-        self.lock.unlock(&mut pass.token, held);
-        pass.share = share_behind(pass.share, &answer);
-        answer
-    }
-
     // A signal, and an unpark of the seat that it names.
     fn signal_call<P: Parking, R: Wait + Clock>(
         &self,
@@ -208,16 +139,14 @@ impl<H: Hooks + Drop, L: Load> Monitor<H, L> {
         step: Step,
         when_full: WhenFull,
     ) -> Result<Answer, Fault>
-        requires is_of { pass.old.lock ≡ self.now }
-        requires places { self.now.header.seats ≤ P.seats parking.now }
+        requires can { CanCall self.now (P.seats parking.now) pass.old }
         requires signals { is_signal step ≡ true }
-        ensures same { IsSame pass.old pass.new }
+        ensures called { Called pass.old pass.new }
         ensures stepped { IsStepIn when_full pass.old step result pass.new }
         ensures unparked { IsUnparked (P.did parking.now) (named_in result) }
-        ensures shows { IsSound pass.new }
         ensures woken { WasWoken self.now }
     {
-        let told = self.signal_step_when_full(rt, pass, step, when_full);
+        let told = self.signal_step(rt, pass, step, when_full);
         unpark(parking, named_in(told));
         told
     }
@@ -231,12 +160,10 @@ impl<H: Hooks + Drop, L: Load> Monitor<H, L> {
         step: Step,
         when_full: WhenFull,
     ) -> Result<Entry, Fault>
-        requires is_of { pass.old.lock ≡ self.now }
-        requires places { self.now.header.seats ≤ P.seats parking.now }
+        requires can { CanCall self.now (P.seats parking.now) pass.old }
         requires signals { is_signal step ≡ true }
-        ensures same { IsSame pass.old pass.new }
+        ensures called { Called pass.old pass.new }
         ensures entered { IsEnteredIn when_full (P.did parking.now) pass.old step result pass.new }
-        ensures shows { IsSound pass.new }
         ensures woken { WasWoken self.now }
     {
         match self.signal_call(rt, parking, pass, step, when_full) {

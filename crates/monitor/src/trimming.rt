@@ -1,7 +1,7 @@
 //! Folding what was done to the object.
 ghost use Rattle.std.specs.Prelude.{◌≡◌};
-ghost use Rattle.monitor.specs.Shown.{IsSound};
-ghost use Rattle.monitor.specs.Stepping.{IsSame, IsTrim};
+ghost use Rattle.monitor.specs.Calling.{Called};
+ghost use Rattle.monitor.specs.Stepping.{IsTrim};
 ghost use Rattle.word_lock.specs.Woken.{WasWoken};
 
 use crate::load::Load;
@@ -18,9 +18,8 @@ impl<H: Hooks + Drop, L: Load> Monitor<H, L> {
     /// `TrimFull`: more entries would be folded than the limit allows. Then nothing has changed.
     pub fn trim<R: Wait>(&self, rt: &R, pass: &mut Pass) -> Result<u64, Fault>
         requires is_of { pass.old.lock ≡ self.now }
-        ensures same { IsSame pass.old pass.new }
+        ensures called { Called pass.old pass.new }
         ensures trimmed { IsTrim pass.old result pass.new }
-        ensures shows { IsSound pass.new }
         ensures woken { WasWoken self.now }
     {
         let mut held = self.lock.lock(rt, &mut pass.token);

@@ -1,10 +1,8 @@
 //! The one loop in which every call waits.
-ghost use Rattle.std.specs.Prelude.{◌≡◌, ◌≤◌, ◌<◌};
-ghost use Rattle.word_lock.specs.Point.{Before};
+ghost use Rattle.std.specs.Prelude.{◌≡◌, ◌<◌};
+ghost use Rattle.monitor.specs.Calling.{CanCall, Called};
 ghost use Rattle.monitor.specs.Load.{Brings, Moves, free_of, holds_of};
 ghost use Rattle.monitor.specs.Settled.{IsSettled};
-ghost use Rattle.monitor.specs.Shown.{IsSound};
-ghost use Rattle.monitor.specs.Stepping.{IsSame};
 ghost use Rattle.monitor.specs.Waits.{Waits, stage_asleep};
 ghost use Rattle.monitor.specs.inner.Waits.{IsReply, MayBegin};
 
@@ -62,15 +60,12 @@ impl<H: Hooks + Drop, L: Load> Monitor<H, L> {
         load: &mut L,
         waiting: Waiting,
     ) -> Result<Entry, Fault>
-        requires is_of { pass.old.lock ≡ self.now }
-        requires places { self.now.header.seats ≤ P.seats parking.now }
+        requires can { CanCall self.now (P.seats parking.now) pass.old }
         requires waits { Waits pass.old.seen pass.old.seat }
         requires first { MayBegin waiting.limits waiting.stage }
         requires carries { L.carries load.old (holds_of pass.old) }
         requires brings { Brings L.is_counted (L.amount load.old) 0 }
-        ensures same { IsSame pass.old pass.new }
-        ensures begins { Before pass.old.seen pass.new.seen }
-        ensures shows { IsSound pass.new }
+        ensures called { Called pass.old pass.new }
         ensures waited { IsReply (P.did parking.now) pass.old waiting.stage waiting.limits result pass.new }
         ensures settled { IsSettled result }
         ensures carries { L.carries load.new (holds_of pass.new) }

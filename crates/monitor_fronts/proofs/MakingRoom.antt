@@ -10,13 +10,12 @@ use Rattle.history.specs.declared.step.Step.{Step}
 use Rattle.history.specs.declared.step.Step.TheVariants.{Give, Try}
 use Rattle.permit.specs.Deed.{Deed}
 use Rattle.word_lock.specs.Point.{Before}
-use Rattle.word_lock.proofs.PointLaws.{before_trans}
 use Rattle.monitor.specs.Acquire.{is_timed}
 use Rattle.monitor.specs.Load.{holds_of}
 use Rattle.monitor.specs.inner.Load.{is_signal}
 use Rattle.monitor.specs.Room.{InRoom, at_point}
 use Rattle.monitor.specs.Shown.{Shown}
-use Rattle.monitor.specs.Stepping.{IsEntered, IsSame}
+use Rattle.monitor.specs.Stepping.{IsSame}
 use Rattle.monitor.specs.declared.how.How.{How}
 use Rattle.monitor.specs.declared.room.WhenFull.{WhenFull}
 use Rattle.monitor.specs.declared.room.WhenFull.TheVariants.{Refuse, Trim}
@@ -27,29 +26,6 @@ use Rattle.monitor_fronts.proofs.Counting.{await_holds, of_lock, signal_keeps}
 use Rattle.monitor_fronts.proofs.Exactly.{acquire_gains, try_gains, waits_to_the_end}
 use Rattle.monitor_fronts.proofs.OwnEntries.{give_told}
 use Rattle.word_lock.specs.Point.{fold_of}
-
--- what such a call sees comes after all that was seen
-room_begins : {A : Type 0} (w : WhenFull) (asks : Step → Type 0)
-    (call : Shown → Result A Fault → Shown → Type 0) (old new : Shown) (r : Result A Fault) →
-    ((o : Shown) (x : Result A Fault) → call o x new → Before o.seen new.seen) →
-    InRoom w asks call old r new → Before old.seen new.seen
-room_begins Refuse asks call old new r begins x = begins old r x
-room_begins Trim asks call old new r begins (inl x) = begins old r x.0
-room_begins Trim asks call old new r begins (inr (inl m)) =
-    before_trans old.seen (fold_of m.found) new.seen m.fold.begins
-    (begins (at_point old (fold_of m.found)) r m.again)
-room_begins Trim asks call old new r begins (inr (inr c)) = begins old (Err HistoryFull) c.full
-
-pub entered_begins : (did : Deed → Type 0) (step : Step) (old new : Shown) (r : Result Entry Fault) →
-    IsEntered did old step r new → Before old.seen new.seen
-entered_begins did step old new (Ok e) s = s.1.after
-entered_begins did step old new (Err f) s = s.after
-
-pub steps_begin : (w : WhenFull) (did : Deed → Type 0) (step : Step) (old new : Shown)
-    (r : Result Entry Fault) → Steps w did step old new r → Before old.seen new.seen
-steps_begin w did step old new r s =
-    room_begins w (λ z. z ≡ step) (λ o a n. IsEntered did o step a n) old new r
-    (λ o x. entered_begins did step o new x) s
 
 -- What holds of a call from any pass with the same own entries, which has seen no less, holds of one that makes room:
 -- a fold adds no entry of the pass, and to be refused because there are too many to fold is to be refused for want of

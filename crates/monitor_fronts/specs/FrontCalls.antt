@@ -2,14 +2,16 @@
 -- all that is owed.
 --
 -- With Refuse it is the call of the monitor. If the history is full, the reply is HistoryFull, and nothing
--- was recorded or folded.
+-- was recorded.
 --
 -- With Trim it is one of three:
 -- - There was room. It is the call of the monitor, and its reply is not HistoryFull.
--- - There was none. All entries were folded into the base in that turn of the lock, and it is the call of the
---   monitor from there. Its reply is HistoryFull only if a history without entries has no room.
+-- - There was none. All entries were folded into the base, and it is the call of the monitor from there. Its
+--   reply is HistoryFull only if a history without entries has no room.
 -- - There was none, and more entries would be folded than there may be. The reply is TrimFull, and nothing
---   was recorded or folded.
+--   was recorded.
+--
+-- What the call found may itself be a fold, of a turn before. The code makes none.
 use Rattle.std.specs.Prelude.{ℕ, Result}
 use Rattle.history.specs.declared.entry.Entry.{Entry}
 use Rattle.history.specs.declared.entry.Mode.{Mode}

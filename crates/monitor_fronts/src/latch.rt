@@ -1,18 +1,16 @@
 //! A count that goes down to 0, and threads that wait for that.
-ghost use Rattle.std.specs.Prelude.{◌≡◌, ◌≤◌, IfOk, Ok, false, true};
+ghost use Rattle.std.specs.Prelude.{◌≡◌, IfOk, Ok, false, true};
 ghost use Rattle.history.specs.Object.{is_latch};
 ghost use Rattle.history.specs.Phase.{waits};
 ghost use Rattle.history.specs.declared.entry.Mode.TheVariants.{S};
 ghost use Rattle.history.specs.declared.step.Step.TheVariants.{Give};
-ghost use Rattle.monitor.specs.Shown.{IsSound};
-ghost use Rattle.monitor.specs.Stepping.{IsSame};
+ghost use Rattle.monitor.specs.Calling.{CanCall, Called};
 ghost use Rattle.monitor.specs.declared.how.How.TheVariants.{Interruptible, Timed};
 ghost use Rattle.monitor.specs.declared.room.WhenFull.TheVariants.{Trim};
 ghost use Rattle.monitor_fronts.specs.CountingDown.{CountsDown, FallsBy, IsOpen, WasShut};
 ghost use Rattle.monitor_fronts.specs.FrontCalls.{Acquires, Steps};
 ghost use Rattle.monitor_fronts.specs.Holding.{gained, with_yes};
 ghost use Rattle.monitor_fronts.specs.Returned.{ReturnedAs, done_of, whether_of};
-ghost use Rattle.word_lock.specs.Point.{Before};
 
 use crate::returned::{done, whether};
 use counting::latch::LatchHooks;
@@ -65,11 +63,8 @@ impl<'m> Latch<'m> {
         parking: &P,
         pass: &mut Pass,
     ) -> Result<(), Fault>
-        requires is_of { pass.old.lock ≡ self.now.monitor.now }
-        requires places { self.now.monitor.now.header.seats ≤ P.seats parking.now }
-        ensures same { IsSame pass.old pass.new }
-        ensures begins { Before pass.old.seen pass.new.seen }
-        ensures shows { IsSound pass.new }
+        requires can { CanCall self.now.monitor.now (P.seats parking.now) pass.old }
+        ensures called { Called pass.old pass.new }
         ensures acquired { ReturnedAs done_of
             (Acquires self.now.when_full (P.did parking.now) S 1 Interruptible pass.old pass.new) result }
         ensures open { IfOk result (λ _. IsOpen pass.new) }
@@ -87,11 +82,8 @@ impl<'m> Latch<'m> {
         pass: &mut Pass,
         ms: u32,
     ) -> Result<bool, Fault>
-        requires is_of { pass.old.lock ≡ self.now.monitor.now }
-        requires places { self.now.monitor.now.header.seats ≤ P.seats parking.now }
-        ensures same { IsSame pass.old pass.new }
-        ensures begins { Before pass.old.seen pass.new.seen }
-        ensures shows { IsSound pass.new }
+        requires can { CanCall self.now.monitor.now (P.seats parking.now) pass.old }
+        ensures called { Called pass.old pass.new }
         ensures acquired { ReturnedAs whether_of
             (Acquires self.now.when_full (P.did parking.now) S 1 (Timed ms) pass.old pass.new) result }
         ensures open { result ≡ Ok true → IsOpen pass.new }
@@ -109,11 +101,8 @@ impl<'m> Latch<'m> {
         parking: &P,
         pass: &mut Pass,
     ) -> Result<(), Fault>
-        requires is_of { pass.old.lock ≡ self.now.monitor.now }
-        requires places { self.now.monitor.now.header.seats ≤ P.seats parking.now }
-        ensures same { IsSame pass.old pass.new }
-        ensures begins { Before pass.old.seen pass.new.seen }
-        ensures shows { IsSound pass.new }
+        requires can { CanCall self.now.monitor.now (P.seats parking.now) pass.old }
+        ensures called { Called pass.old pass.new }
         ensures entered { ReturnedAs done_of
             (Steps self.now.when_full (P.did parking.now) (Give S 1) pass.old pass.new) result }
         ensures counts { CountsDown pass.old (with_yes result) pass.new }
@@ -130,14 +119,11 @@ impl<'m> Latch<'m> {
         pass: &mut Pass,
         how: How,
     ) -> Result<Entry, Fault>
-        requires is_of { pass.old.lock ≡ self.now.monitor.now }
-        requires places { self.now.monitor.now.header.seats ≤ P.seats parking.now }
-        ensures same { IsSame pass.old pass.new }
-        ensures begins { Before pass.old.seen pass.new.seen }
-        ensures shows { IsSound pass.new }
+        requires can { CanCall self.now.monitor.now (P.seats parking.now) pass.old }
+        ensures called { Called pass.old pass.new }
         ensures acquired { Acquires self.now.when_full (P.did parking.now) S 1 how pass.old pass.new result }
     {
-        self.monitor.acquire_when_full(
+        self.monitor.acquire_with(
             rt,
             parking,
             pass,
@@ -157,15 +143,12 @@ impl<'m> Latch<'m> {
         pass: &mut Pass,
         step: Step,
     ) -> Result<Entry, Fault>
-        requires is_of { pass.old.lock ≡ self.now.monitor.now }
-        requires places { self.now.monitor.now.header.seats ≤ P.seats parking.now }
+        requires can { CanCall self.now.monitor.now (P.seats parking.now) pass.old }
         requires idle { waits step ≡ false }
-        ensures same { IsSame pass.old pass.new }
-        ensures begins { Before pass.old.seen pass.new.seen }
-        ensures shows { IsSound pass.new }
+        ensures called { Called pass.old pass.new }
         ensures entered { Steps self.now.when_full (P.did parking.now) step pass.old pass.new result }
     {
         self.monitor
-            .enter_when_full(rt, parking, pass, &mut Empty {}, step, self.when_full)
+            .enter(rt, parking, pass, &mut Empty {}, step, self.when_full)
     }
 }

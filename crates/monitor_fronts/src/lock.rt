@@ -1,18 +1,17 @@
 //! A lock whose owner may acquire it again.
-ghost use Rattle.std.specs.Prelude.{◌≡◌, ◌+◌, ◌<◌, ◌≤◌, false, true, IsOk};
+ghost use Rattle.std.specs.Prelude.{◌≡◌, ◌+◌, ◌<◌, false, true, IsOk};
 ghost use Rattle.history.specs.Object.{is_lock};
 ghost use Rattle.history.specs.Phase.{waits};
 ghost use Rattle.history.specs.declared.entry.Mode.TheVariants.{X};
 ghost use Rattle.history.specs.declared.step.Step.TheVariants.{Try, Give, Signal, SignalAll};
+ghost use Rattle.monitor.specs.Calling.{CanCall, Called};
 ghost use Rattle.monitor.specs.inner.Load.{is_signal};
-ghost use Rattle.monitor.specs.Shown.{IsSound};
-ghost use Rattle.monitor.specs.Stepping.{IsSame, IsEntered};
+ghost use Rattle.monitor.specs.Stepping.{IsEntered};
 ghost use Rattle.monitor.specs.declared.how.How.TheVariants.{Plain, Interruptible, Timed};
 ghost use Rattle.monitor.specs.declared.room.WhenFull.TheVariants.{Trim};
 ghost use Rattle.monitor_fronts.specs.Holding.{Gains, holds, with_yes};
 ghost use Rattle.monitor_fronts.specs.FrontCalls.{Acquires, Awaits, Steps};
 ghost use Rattle.monitor_fronts.specs.Returned.{ReturnedAs, done_of, whether_of};
-ghost use Rattle.word_lock.specs.Point.{Before};
 
 use crate::returned::{done, whether};
 use history::entry::{Entry, Mode};
@@ -63,11 +62,8 @@ impl<'m> ReentrantLock<'m> {
         parking: &P,
         pass: &mut Pass,
     ) -> Result<(), Fault>
-        requires is_of { pass.old.lock ≡ self.now.monitor.now }
-        requires places { self.now.monitor.now.header.seats ≤ P.seats parking.now }
-        ensures same { IsSame pass.old pass.new }
-        ensures begins { Before pass.old.seen pass.new.seen }
-        ensures shows { IsSound pass.new }
+        requires can { CanCall self.now.monitor.now (P.seats parking.now) pass.old }
+        ensures called { Called pass.old pass.new }
         ensures acquired { ReturnedAs done_of
             (Acquires self.now.when_full (P.did parking.now) X 1 Plain pass.old pass.new) result }
         ensures gains { Gains pass.old (with_yes result) pass.new }
@@ -82,11 +78,8 @@ impl<'m> ReentrantLock<'m> {
         parking: &P,
         pass: &mut Pass,
     ) -> Result<(), Fault>
-        requires is_of { pass.old.lock ≡ self.now.monitor.now }
-        requires places { self.now.monitor.now.header.seats ≤ P.seats parking.now }
-        ensures same { IsSame pass.old pass.new }
-        ensures begins { Before pass.old.seen pass.new.seen }
-        ensures shows { IsSound pass.new }
+        requires can { CanCall self.now.monitor.now (P.seats parking.now) pass.old }
+        ensures called { Called pass.old pass.new }
         ensures acquired { ReturnedAs done_of
             (Acquires self.now.when_full (P.did parking.now) X 1 Interruptible pass.old pass.new) result }
         ensures gains { Gains pass.old (with_yes result) pass.new }
@@ -102,11 +95,8 @@ impl<'m> ReentrantLock<'m> {
         parking: &P,
         pass: &mut Pass,
     ) -> Result<bool, Fault>
-        requires is_of { pass.old.lock ≡ self.now.monitor.now }
-        requires places { self.now.monitor.now.header.seats ≤ P.seats parking.now }
-        ensures same { IsSame pass.old pass.new }
-        ensures begins { Before pass.old.seen pass.new.seen }
-        ensures shows { IsSound pass.new }
+        requires can { CanCall self.now.monitor.now (P.seats parking.now) pass.old }
+        ensures called { Called pass.old pass.new }
         ensures entered { ReturnedAs whether_of
             (Steps self.now.when_full (P.did parking.now) (Try X 1) pass.old pass.new) result }
         ensures gains { Gains pass.old result pass.new }
@@ -124,11 +114,8 @@ impl<'m> ReentrantLock<'m> {
         pass: &mut Pass,
         ms: u32,
     ) -> Result<bool, Fault>
-        requires is_of { pass.old.lock ≡ self.now.monitor.now }
-        requires places { self.now.monitor.now.header.seats ≤ P.seats parking.now }
-        ensures same { IsSame pass.old pass.new }
-        ensures begins { Before pass.old.seen pass.new.seen }
-        ensures shows { IsSound pass.new }
+        requires can { CanCall self.now.monitor.now (P.seats parking.now) pass.old }
+        ensures called { Called pass.old pass.new }
         ensures acquired { ReturnedAs whether_of
             (Acquires self.now.when_full (P.did parking.now) X 1 (Timed ms) pass.old pass.new) result }
         ensures gains { Gains pass.old result pass.new }
@@ -144,11 +131,8 @@ impl<'m> ReentrantLock<'m> {
         parking: &P,
         pass: &mut Pass,
     ) -> Result<(), Fault>
-        requires is_of { pass.old.lock ≡ self.now.monitor.now }
-        requires places { self.now.monitor.now.header.seats ≤ P.seats parking.now }
-        ensures same { IsSame pass.old pass.new }
-        ensures begins { Before pass.old.seen pass.new.seen }
-        ensures shows { IsSound pass.new }
+        requires can { CanCall self.now.monitor.now (P.seats parking.now) pass.old }
+        ensures called { Called pass.old pass.new }
         ensures entered { ReturnedAs done_of
             (λ reply. IsEntered (P.did parking.now) pass.old (Give X 1) reply pass.new) result }
         ensures owner { is_lock self.now.monitor.now.header.object ≡ true → 0 < holds pass.old → IsOk result }
@@ -169,11 +153,8 @@ impl<'m> ReentrantLock<'m> {
         pass: &mut Pass,
         condition: u8,
     ) -> Result<(), Fault>
-        requires is_of { pass.old.lock ≡ self.now.monitor.now }
-        requires places { self.now.monitor.now.header.seats ≤ P.seats parking.now }
-        ensures same { IsSame pass.old pass.new }
-        ensures begins { Before pass.old.seen pass.new.seen }
-        ensures shows { IsSound pass.new }
+        requires can { CanCall self.now.monitor.now (P.seats parking.now) pass.old }
+        ensures called { Called pass.old pass.new }
         ensures awaited { ReturnedAs done_of
             (Awaits self.now.when_full (P.did parking.now) condition Interruptible pass.old pass.new) result }
         ensures keeps { holds pass.new ≡ holds pass.old }
@@ -189,11 +170,8 @@ impl<'m> ReentrantLock<'m> {
         pass: &mut Pass,
         condition: u8,
     ) -> Result<(), Fault>
-        requires is_of { pass.old.lock ≡ self.now.monitor.now }
-        requires places { self.now.monitor.now.header.seats ≤ P.seats parking.now }
-        ensures same { IsSame pass.old pass.new }
-        ensures begins { Before pass.old.seen pass.new.seen }
-        ensures shows { IsSound pass.new }
+        requires can { CanCall self.now.monitor.now (P.seats parking.now) pass.old }
+        ensures called { Called pass.old pass.new }
         ensures awaited { ReturnedAs done_of
             (Awaits self.now.when_full (P.did parking.now) condition Plain pass.old pass.new) result }
         ensures keeps { holds pass.new ≡ holds pass.old }
@@ -211,11 +189,8 @@ impl<'m> ReentrantLock<'m> {
         condition: u8,
         ms: u32,
     ) -> Result<bool, Fault>
-        requires is_of { pass.old.lock ≡ self.now.monitor.now }
-        requires places { self.now.monitor.now.header.seats ≤ P.seats parking.now }
-        ensures same { IsSame pass.old pass.new }
-        ensures begins { Before pass.old.seen pass.new.seen }
-        ensures shows { IsSound pass.new }
+        requires can { CanCall self.now.monitor.now (P.seats parking.now) pass.old }
+        ensures called { Called pass.old pass.new }
         ensures awaited { ReturnedAs whether_of
             (Awaits self.now.when_full (P.did parking.now) condition (Timed ms) pass.old pass.new) result }
         ensures keeps { holds pass.new ≡ holds pass.old }
@@ -231,11 +206,8 @@ impl<'m> ReentrantLock<'m> {
         pass: &mut Pass,
         condition: u8,
     ) -> Result<(), Fault>
-        requires is_of { pass.old.lock ≡ self.now.monitor.now }
-        requires places { self.now.monitor.now.header.seats ≤ P.seats parking.now }
-        ensures same { IsSame pass.old pass.new }
-        ensures begins { Before pass.old.seen pass.new.seen }
-        ensures shows { IsSound pass.new }
+        requires can { CanCall self.now.monitor.now (P.seats parking.now) pass.old }
+        ensures called { Called pass.old pass.new }
         ensures entered { ReturnedAs done_of
             (Steps self.now.when_full (P.did parking.now) (Signal condition) pass.old pass.new) result }
         ensures keeps { holds pass.new ≡ holds pass.old }
@@ -251,11 +223,8 @@ impl<'m> ReentrantLock<'m> {
         pass: &mut Pass,
         condition: u8,
     ) -> Result<(), Fault>
-        requires is_of { pass.old.lock ≡ self.now.monitor.now }
-        requires places { self.now.monitor.now.header.seats ≤ P.seats parking.now }
-        ensures same { IsSame pass.old pass.new }
-        ensures begins { Before pass.old.seen pass.new.seen }
-        ensures shows { IsSound pass.new }
+        requires can { CanCall self.now.monitor.now (P.seats parking.now) pass.old }
+        ensures called { Called pass.old pass.new }
         ensures entered { ReturnedAs done_of
             (Steps self.now.when_full (P.did parking.now) (SignalAll condition) pass.old pass.new) result }
         ensures keeps { holds pass.new ≡ holds pass.old }
@@ -271,15 +240,12 @@ impl<'m> ReentrantLock<'m> {
         pass: &mut Pass,
         how: How,
     ) -> Result<Entry, Fault>
-        requires is_of { pass.old.lock ≡ self.now.monitor.now }
-        requires places { self.now.monitor.now.header.seats ≤ P.seats parking.now }
-        ensures same { IsSame pass.old pass.new }
-        ensures begins { Before pass.old.seen pass.new.seen }
-        ensures shows { IsSound pass.new }
+        requires can { CanCall self.now.monitor.now (P.seats parking.now) pass.old }
+        ensures called { Called pass.old pass.new }
         ensures acquired { Acquires self.now.when_full (P.did parking.now) X 1 how pass.old pass.new result }
         ensures gains { Gains pass.old (whether_of result) pass.new }
     {
-        self.monitor.acquire_when_full(
+        self.monitor.acquire_with(
             rt,
             parking,
             pass,
@@ -300,15 +266,12 @@ impl<'m> ReentrantLock<'m> {
         condition: u8,
         how: How,
     ) -> Result<Entry, Fault>
-        requires is_of { pass.old.lock ≡ self.now.monitor.now }
-        requires places { self.now.monitor.now.header.seats ≤ P.seats parking.now }
-        ensures same { IsSame pass.old pass.new }
-        ensures begins { Before pass.old.seen pass.new.seen }
-        ensures shows { IsSound pass.new }
+        requires can { CanCall self.now.monitor.now (P.seats parking.now) pass.old }
+        ensures called { Called pass.old pass.new }
         ensures awaited { Awaits self.now.when_full (P.did parking.now) condition how pass.old pass.new result }
         ensures keeps { holds pass.new ≡ holds pass.old }
     {
-        self.monitor.await_when_full(
+        self.monitor.await_on_with(
             rt,
             parking,
             pass,
@@ -327,17 +290,14 @@ impl<'m> ReentrantLock<'m> {
         pass: &mut Pass,
         step: Step,
     ) -> Result<Entry, Fault>
-        requires is_of { pass.old.lock ≡ self.now.monitor.now }
-        requires places { self.now.monitor.now.header.seats ≤ P.seats parking.now }
+        requires can { CanCall self.now.monitor.now (P.seats parking.now) pass.old }
         requires idle { waits step ≡ false }
-        ensures same { IsSame pass.old pass.new }
-        ensures begins { Before pass.old.seen pass.new.seen }
-        ensures shows { IsSound pass.new }
+        ensures called { Called pass.old pass.new }
         ensures entered { Steps self.now.when_full (P.did parking.now) step pass.old pass.new result }
         ensures gains { step ≡ Try X 1 → Gains pass.old (whether_of result) pass.new }
         ensures keeps { is_signal step ≡ true → holds pass.new ≡ holds pass.old }
     {
         self.monitor
-            .enter_when_full(rt, parking, pass, &mut Empty {}, step, self.when_full)
+            .enter(rt, parking, pass, &mut Empty {}, step, self.when_full)
     }
 }

@@ -1,10 +1,9 @@
 //! Permits to acquire and release.
-ghost use Rattle.std.specs.Prelude.{◌≡◌, ◌≤◌, false};
+ghost use Rattle.std.specs.Prelude.{◌≡◌, false};
 ghost use Rattle.history.specs.Phase.{waits};
 ghost use Rattle.history.specs.declared.entry.Mode.TheVariants.{S};
 ghost use Rattle.history.specs.declared.step.Step.TheVariants.{Try, Give, Drain};
-ghost use Rattle.monitor.specs.Shown.{IsSound};
-ghost use Rattle.monitor.specs.Stepping.{IsSame};
+ghost use Rattle.monitor.specs.Calling.{CanCall, Called};
 ghost use Rattle.monitor.specs.declared.how.How.TheVariants.{Plain, Interruptible, Timed};
 ghost use Rattle.monitor.specs.declared.room.WhenFull.TheVariants.{Trim};
 ghost use Rattle.monitor_fronts.specs.FrontCalls.{Acquires, Steps};
@@ -12,7 +11,6 @@ ghost use Rattle.monitor_fronts.specs.Holding.{with_yes};
 ghost use Rattle.monitor_fronts.specs.Permits.{DrainsFree, DrainsPermits, GivesFree, GivesPermits};
 ghost use Rattle.monitor_fronts.specs.Permits.{TakesFree, TakesPermits};
 ghost use Rattle.monitor_fronts.specs.Returned.{ReturnedAs, done_of, number_of, whether_of};
-ghost use Rattle.word_lock.specs.Point.{Before};
 
 use crate::returned::{done, number, whether};
 use counting::semaphore::SemaphoreHooks;
@@ -67,11 +65,8 @@ impl<'m> Semaphore<'m> {
         pass: &mut Pass,
         n: u32,
     ) -> Result<(), Fault>
-        requires is_of { pass.old.lock ≡ self.now.monitor.now }
-        requires places { self.now.monitor.now.header.seats ≤ P.seats parking.now }
-        ensures same { IsSame pass.old pass.new }
-        ensures begins { Before pass.old.seen pass.new.seen }
-        ensures shows { IsSound pass.new }
+        requires can { CanCall self.now.monitor.now (P.seats parking.now) pass.old }
+        ensures called { Called pass.old pass.new }
         ensures acquired { ReturnedAs done_of
             (Acquires self.now.when_full (P.did parking.now) S n Interruptible pass.old pass.new) result }
         ensures takes { TakesPermits n pass.old (with_yes result) pass.new }
@@ -88,11 +83,8 @@ impl<'m> Semaphore<'m> {
         pass: &mut Pass,
         n: u32,
     ) -> Result<(), Fault>
-        requires is_of { pass.old.lock ≡ self.now.monitor.now }
-        requires places { self.now.monitor.now.header.seats ≤ P.seats parking.now }
-        ensures same { IsSame pass.old pass.new }
-        ensures begins { Before pass.old.seen pass.new.seen }
-        ensures shows { IsSound pass.new }
+        requires can { CanCall self.now.monitor.now (P.seats parking.now) pass.old }
+        ensures called { Called pass.old pass.new }
         ensures acquired { ReturnedAs done_of
             (Acquires self.now.when_full (P.did parking.now) S n Plain pass.old pass.new) result }
         ensures takes { TakesPermits n pass.old (with_yes result) pass.new }
@@ -110,11 +102,8 @@ impl<'m> Semaphore<'m> {
         pass: &mut Pass,
         n: u32,
     ) -> Result<bool, Fault>
-        requires is_of { pass.old.lock ≡ self.now.monitor.now }
-        requires places { self.now.monitor.now.header.seats ≤ P.seats parking.now }
-        ensures same { IsSame pass.old pass.new }
-        ensures begins { Before pass.old.seen pass.new.seen }
-        ensures shows { IsSound pass.new }
+        requires can { CanCall self.now.monitor.now (P.seats parking.now) pass.old }
+        ensures called { Called pass.old pass.new }
         ensures entered { ReturnedAs whether_of
             (Steps self.now.when_full (P.did parking.now) (Try S n) pass.old pass.new) result }
         ensures takes { TakesPermits n pass.old result pass.new }
@@ -133,11 +122,8 @@ impl<'m> Semaphore<'m> {
         n: u32,
         ms: u32,
     ) -> Result<bool, Fault>
-        requires is_of { pass.old.lock ≡ self.now.monitor.now }
-        requires places { self.now.monitor.now.header.seats ≤ P.seats parking.now }
-        ensures same { IsSame pass.old pass.new }
-        ensures begins { Before pass.old.seen pass.new.seen }
-        ensures shows { IsSound pass.new }
+        requires can { CanCall self.now.monitor.now (P.seats parking.now) pass.old }
+        ensures called { Called pass.old pass.new }
         ensures acquired { ReturnedAs whether_of
             (Acquires self.now.when_full (P.did parking.now) S n (Timed ms) pass.old pass.new) result }
         ensures takes { TakesPermits n pass.old result pass.new }
@@ -154,11 +140,8 @@ impl<'m> Semaphore<'m> {
         pass: &mut Pass,
         n: u32,
     ) -> Result<(), Fault>
-        requires is_of { pass.old.lock ≡ self.now.monitor.now }
-        requires places { self.now.monitor.now.header.seats ≤ P.seats parking.now }
-        ensures same { IsSame pass.old pass.new }
-        ensures begins { Before pass.old.seen pass.new.seen }
-        ensures shows { IsSound pass.new }
+        requires can { CanCall self.now.monitor.now (P.seats parking.now) pass.old }
+        ensures called { Called pass.old pass.new }
         ensures entered { ReturnedAs done_of
             (Steps self.now.when_full (P.did parking.now) (Give S n) pass.old pass.new) result }
         ensures gives { GivesPermits n pass.old (with_yes result) pass.new }
@@ -175,11 +158,8 @@ impl<'m> Semaphore<'m> {
         parking: &P,
         pass: &mut Pass,
     ) -> Result<u32, Fault>
-        requires is_of { pass.old.lock ≡ self.now.monitor.now }
-        requires places { self.now.monitor.now.header.seats ≤ P.seats parking.now }
-        ensures same { IsSame pass.old pass.new }
-        ensures begins { Before pass.old.seen pass.new.seen }
-        ensures shows { IsSound pass.new }
+        requires can { CanCall self.now.monitor.now (P.seats parking.now) pass.old }
+        ensures called { Called pass.old pass.new }
         ensures entered { ReturnedAs number_of
             (Steps self.now.when_full (P.did parking.now) Drain pass.old pass.new) result }
         ensures takes { DrainsPermits pass.old result pass.new }
@@ -197,14 +177,11 @@ impl<'m> Semaphore<'m> {
         n: u32,
         how: How,
     ) -> Result<Entry, Fault>
-        requires is_of { pass.old.lock ≡ self.now.monitor.now }
-        requires places { self.now.monitor.now.header.seats ≤ P.seats parking.now }
-        ensures same { IsSame pass.old pass.new }
-        ensures begins { Before pass.old.seen pass.new.seen }
-        ensures shows { IsSound pass.new }
+        requires can { CanCall self.now.monitor.now (P.seats parking.now) pass.old }
+        ensures called { Called pass.old pass.new }
         ensures acquired { Acquires self.now.when_full (P.did parking.now) S n how pass.old pass.new result }
     {
-        self.monitor.acquire_when_full(
+        self.monitor.acquire_with(
             rt,
             parking,
             pass,
@@ -224,15 +201,12 @@ impl<'m> Semaphore<'m> {
         pass: &mut Pass,
         step: Step,
     ) -> Result<Entry, Fault>
-        requires is_of { pass.old.lock ≡ self.now.monitor.now }
-        requires places { self.now.monitor.now.header.seats ≤ P.seats parking.now }
+        requires can { CanCall self.now.monitor.now (P.seats parking.now) pass.old }
         requires idle { waits step ≡ false }
-        ensures same { IsSame pass.old pass.new }
-        ensures begins { Before pass.old.seen pass.new.seen }
-        ensures shows { IsSound pass.new }
+        ensures called { Called pass.old pass.new }
         ensures entered { Steps self.now.when_full (P.did parking.now) step pass.old pass.new result }
     {
         self.monitor
-            .enter_when_full(rt, parking, pass, &mut Empty {}, step, self.when_full)
+            .enter(rt, parking, pass, &mut Empty {}, step, self.when_full)
     }
 }

@@ -1,5 +1,5 @@
 -- The lines of bars.
-use Rattle.std.specs.Prelude.{ℕ, ◌+◌, ◌*◌, ◌==◌, ◌&&◌, ◌||◌, nat_lt, Bool, true, false, if◌then◌else◌, List, [], ◌++◌, length, codes, decimal, slice_get, Option, Some, None}
+use Rattle.std.specs.Prelude.{ℕ, ◌+◌, ◌*◌, ◌==◌, ◌&&◌, ◌||◌, nat_lt, Bool, true, false, if◌then◌else◌, List, [], ◌++◌, length, codes, decimal, slice_get, slice_index, Option, Some, None}
 use Rattle.std.specs.List.{flat_map}
 use Rattle.drawing.specs.declared.bar.Bar.{Bar}
 use Rattle.drawing.specs.declared.kind.Kind.{Kind}
@@ -64,10 +64,14 @@ label r InLine holds = []
 label r (Asleep condition) holds = inside (codes "<text class='n' x='") r (codes "'>c") condition
 
 -- a bar with its tooltip, and the text in it
-abbrev pub bar_line : Layout → Object → ℕ → List Entry → Bar → List ℕ
-bar_line l o folded entries b =
-    open_rect (shape_of b.kind (waits_to_share o entries b)) (rect_of l b)
-    ++ bar_title folded entries b ++ label (rect_of l b) b.kind b.holds
+abbrev pub bar_in : Rect → Object → ℕ → List Entry → Bar → List ℕ
+bar_in r o folded entries b =
+    open_rect (shape_of b.kind (waits_to_share o entries b)) r ++ bar_title folded entries b
+    ++ label r b.kind b.holds
 
-abbrev pub bar_lines : Layout → Object → ℕ → List Entry → List Bar → List ℕ
-bar_lines l o folded entries bars = flat_map (bar_line l o folded entries) bars
+-- a bar in the row of its seat
+abbrev pub bar_line : Layout → List ℕ → Object → ℕ → List Entry → Bar → List ℕ
+bar_line l ranks o folded entries b = bar_in (rect_of l (slice_index ranks b.seat) b) o folded entries b
+
+abbrev pub bar_lines : Layout → List ℕ → Object → ℕ → List Entry → List Bar → List ℕ
+bar_lines l ranks o folded entries bars = flat_map (bar_line l ranks o folded entries) bars

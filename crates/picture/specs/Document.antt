@@ -1,5 +1,5 @@
 -- The SVG document of a picture.
-use Rattle.std.specs.Prelude.{ℕ, ◌+◌, ◌<◌, ◌^◌, ◌&&◌, ◌==◌, nat_le, if◌then◌else◌, List, [], ◌++◌, codes, Option, Some, None}
+use Rattle.std.specs.Prelude.{ℕ, ◌+◌, ◌<◌, ◌^◌, ◌&&◌, ◌==◌, nat_le, if◌then◌else◌, List, [], ◌++◌, codes, slice_index, Option, Some, None}
 use Rattle.std.specs.List.{All}
 use Rattle.history.specs.declared.entry.Entry.{Entry}
 use Rattle.history.specs.Header.{IsInRange}
@@ -11,29 +11,35 @@ use Rattle.picture.specs.Grid.{rows, ticks, wrong_at}
 use Rattle.picture.specs.Head.{head}
 use Rattle.picture.specs.Layout.{IsShort, layout_of}
 use Rattle.picture.specs.Marks.{IsEarly, mark_lines}
+use Rattle.picture.specs.Rows.{ranks}
 
 -- what is drawn below bars and marks: rows, scale and curve
-abbrev pub ground : Layout → View → List ℕ
-ground l p =
-    rows l p.header.seats ++ ticks l p.folded l.shown ++ curve_of p.header.object l.step p.curve
+abbrev pub ground : Layout → List ℕ → View → List ℕ
+ground l ranks p =
+    rows l ranks p.header.seats ++ ticks l p.folded l.shown ++ curve_of p.header.object l.step p.curve
 
 -- the illegal entry is marked if it follows those that are shown
-abbrev pub marked_at : Layout → ℕ → List Entry → ℕ → ℕ → Option ℕ → List ℕ
-marked_at l folded entries from to None = []
-marked_at l folded entries from to (Some number) =
-    if number == folded + to && nat_le from to then wrong_at l folded entries to else []
+abbrev pub marked_at : Layout → List ℕ → ℕ → List Entry → ℕ → ℕ → Option ℕ → List ℕ
+marked_at l ranks folded entries from to None = []
+marked_at l ranks folded entries from to (Some number) =
+    if number == folded + to && nat_le from to then wrong_at l ranks folded entries to else []
 
-abbrev pub wrong_mark : Layout → View → List Entry → List ℕ
-wrong_mark l p entries = marked_at l p.folded entries p.from p.to p.wrong
+abbrev pub wrong_mark : Layout → List ℕ → View → List Entry → List ℕ
+wrong_mark l ranks p entries = marked_at l ranks p.folded entries p.from p.to p.wrong
 
-abbrev pub text_in : Layout → View → List Entry → List ℕ
-text_in l p entries =
-    head l p entries ++ ground l p ++ bar_lines l p.header.object p.folded entries p.bars
-    ++ mark_lines l p.folded entries p.marks ++ wrong_mark l p entries ++ codes "</svg>\n"
+abbrev pub text_in : Layout → List ℕ → View → List Entry → List ℕ
+text_in l ranks p entries =
+    head l p entries ++ ground l ranks p ++ bar_lines l ranks p.header.object p.folded entries p.bars
+    ++ mark_lines l ranks p.folded entries p.marks ++ wrong_mark l ranks p entries ++ codes "</svg>\n"
+
+-- the document in rows of these ranks
+abbrev pub text_in_rows : List ℕ → View → List Entry → List ℕ
+text_in_rows ranks p entries =
+    text_in (layout_of p.header p.from p.to (slice_index ranks p.header.seats)) ranks p entries
 
 -- the document of a picture of some entries, oldest first
 unfoldable pub svg_text : View → List Entry → List ℕ
-svg_text p entries = text_in (layout_of p.header p.from p.to) p entries
+svg_text p entries = text_in_rows (ranks p entries) p entries
 
 -- a picture of entries that a history can have
 pub record IsPicture (p : View) : Type 0 where

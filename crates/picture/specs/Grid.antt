@@ -1,5 +1,5 @@
 -- The rows of the seats, the scale below them, and the place of an illegal entry.
-use Rattle.std.specs.Prelude.{ℕ, zero, suc, ◌+◌, ◌*◌, ◌%◌, ◌==◌, nat_lt, if◌then◌else◌, List, [], ◌++◌, codes, slice_get, Option, Some, None}
+use Rattle.std.specs.Prelude.{ℕ, zero, suc, ◌+◌, ◌*◌, ◌%◌, ◌==◌, nat_lt, if◌then◌else◌, List, [], ◌++◌, codes, slice_get, slice_index, Option, Some, None}
 use Rattle.history.specs.declared.entry.Entry.{Entry}
 use Rattle.picture.specs.declared.layout.Layout.{Layout}
 use Rattle.picture.specs.Layout.{bottom_of, right_of, x_of, y_of}
@@ -7,21 +7,27 @@ use Rattle.picture.specs.Marks.{mark_place}
 use Rattle.picture.specs.Pieces.{number_at, open_rect, rect, upright}
 use Rattle.picture.specs.Titles.{wrong_title}
 
--- the background of a seat's row; every other one is shaded
+-- the background of a row; every other one is shaded
 abbrev pub shade : Layout → ℕ → List ℕ
-shade l seat =
-    if seat % 2 == 1 then []
+shade l row =
+    if row % 2 == 1 then []
     else
     rect (codes "<rect class='r' x='")
-    (record { x = 0; y = y_of l seat; width = right_of l; height = 40 })
+    (record { x = 0; y = y_of l row; width = right_of l; height = 40 })
 
-abbrev pub row : Layout → ℕ → List ℕ
-row l seat = shade l seat ++ number_at 8 (y_of l seat + 20) (codes "'>seat ") seat
+-- a row, with the name of its seat
+abbrev pub row_line : Layout → ℕ → ℕ → List ℕ
+row_line l row seat = shade l row ++ number_at 8 (y_of l row + 20) (codes "'>seat ") seat
 
--- the rows of the first n seats
-abbrev pub rows : Layout → ℕ → List ℕ
-rows l zero = []
-rows l (suc seat) = rows l seat ++ row l seat
+-- the row of a seat, if it has one: then the rank of the next seat is another
+abbrev pub row_if_any : Layout → ℕ → ℕ → ℕ → List ℕ
+row_if_any l row next seat = if row == next then [] else row_line l row seat
+
+-- the rows of those of the first n seats that have one
+abbrev pub rows : Layout → List ℕ → ℕ → List ℕ
+rows l ranks zero = []
+rows l ranks (suc seat) =
+    rows l ranks seat ++ row_if_any l (slice_index ranks seat) (slice_index ranks (seat + 1)) seat
 
 -- from how many entries one has its number on the scale
 abbrev pub pitch_of : ℕ → ℕ
@@ -40,23 +46,23 @@ abbrev pub ticks : Layout → ℕ → ℕ → List ℕ
 ticks l folded zero = []
 ticks l folded (suc index) = ticks l folded index ++ tick l folded (l.from + index)
 
--- an exclamation mark in the row of a seat
+-- an exclamation mark in a row
 abbrev pub exclamation_at : Layout → ℕ → ℕ → List ℕ
-exclamation_at l number seat = mark_place l number seat ++ codes "m0 -5v5m0 2v2'/>\n"
+exclamation_at l number row = mark_place l number row ++ codes "m0 -5v5m0 2v2'/>\n"
 
 -- the mark of the seat that made an illegal entry
-abbrev pub culprit_at : Layout → ℕ → Option Entry → List ℕ
-culprit_at l number None = []
-culprit_at l number (Some e) = exclamation_at l number e.seat
+abbrev pub culprit_at : Layout → List ℕ → ℕ → Option Entry → List ℕ
+culprit_at l ranks number None = []
+culprit_at l ranks number (Some e) = exclamation_at l number (slice_index ranks e.seat)
 
 -- the field of an illegal entry through all rows, with its tooltip
 abbrev pub field_at : Layout → ℕ → List Entry → ℕ → List ℕ
 field_at l folded entries number =
     open_rect (codes "<rect class='e' x='")
-    (record { x = x_of l number; y = l.top; width = l.step; height = l.seats * 40 })
+    (record { x = x_of l number; y = l.top; width = l.step; height = l.rows * 40 })
     ++ wrong_title folded entries number
 
 -- the culprit and the field of an illegal entry
-abbrev pub wrong_at : Layout → ℕ → List Entry → ℕ → List ℕ
-wrong_at l folded entries number =
-    culprit_at l number (slice_get entries number) ++ field_at l folded entries number
+abbrev pub wrong_at : Layout → List ℕ → ℕ → List Entry → ℕ → List ℕ
+wrong_at l ranks folded entries number =
+    culprit_at l ranks number (slice_get entries number) ++ field_at l folded entries number

@@ -49,9 +49,14 @@ abbrev pub wrong_part : ℕ → List Entry → Option ℕ → List ℕ
 wrong_part folded entries None = []
 wrong_part folded entries (Some number) = wrong_words number (slice_get entries (number - folded))
 
+-- how many seats have no row
+abbrev pub left_out : ℕ → ℕ → List ℕ
+left_out seats rows = if seats - rows == 0 then [] else named (codes "; seats without a row: ") (seats - rows)
+
 abbrev pub shown_line : Layout → View → List Entry → List ℕ
 shown_line l p entries =
-    codes "<text x='8' y='36'>" ++ shown_part l p ++ wrong_part p.folded entries p.wrong ++ codes "</text>\n"
+    codes "<text x='8' y='36'>" ++ shown_part l p ++ left_out p.header.seats l.rows
+    ++ wrong_part p.folded entries p.wrong ++ codes "</text>\n"
 
 unfoldable pub head : Layout → View → List Entry → List ℕ
 head l p entries =

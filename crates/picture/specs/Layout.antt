@@ -13,12 +13,12 @@ use Rattle.picture.specs.declared.layout.Rect.{Rect}
 abbrev pub x_of : Layout → ℕ → ℕ
 x_of l number = 72 + (number - l.from) * l.step
 
--- the upper edge of a seat's row, and the lower edge of all rows
+-- the upper edge of a row, and the lower edge of all rows
 abbrev pub y_of : Layout → ℕ → ℕ
-y_of l seat = l.top + seat * 40
+y_of l row = l.top + row * 40
 
 abbrev pub bottom_of : Layout → ℕ
-bottom_of l = l.top + l.seats * 40
+bottom_of l = l.top + l.rows * 40
 
 -- the right edge of all entries, with room for an illegal one after them
 abbrev pub right_of : Layout → ℕ
@@ -37,12 +37,12 @@ lower_by Shared = 17
 lower_by InLine = 3
 lower_by (Asleep condition) = 3
 
--- a bar, from the left edge of its first entry to the right edge of its last
-abbrev pub rect_of : Layout → Bar → Rect
-rect_of l b =
+-- a bar in a row, from the left edge of its first entry to the right edge of its last
+abbrev pub rect_of : Layout → ℕ → Bar → Rect
+rect_of l row b =
     record {
       x = x_of l b.first;
-      y = y_of l b.seat + lower_by b.kind;
+      y = y_of l row + lower_by b.kind;
       width = (b.last + 1 - b.first) * l.step;
       height = 12;
     }
@@ -58,15 +58,15 @@ top_of (ReadWrite policy) = 92
 top_of (Semaphore policy permits) = 180
 top_of (Latch count) = 180
 
--- the layout of the entries from `from` on, before `to`
-abbrev pub layout_of : Header → ℕ → ℕ → Layout
-layout_of k from to =
+-- the layout of the entries from `from` on, before `to`, in so many rows
+abbrev pub layout_of : Header → ℕ → ℕ → ℕ → Layout
+layout_of k from to rows =
     record {
       from = min from to;
       shown = to - min from to;
       step = step_of (to - min from to);
       top = top_of k.object;
-      seats = k.seats;
+      rows = rows;
     }
 
 -- a bar of entries that a history can have

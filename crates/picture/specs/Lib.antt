@@ -1,4 +1,5 @@
 pub mod View
+pub mod Rows
 pub mod Layout
 pub mod Pieces
 pub mod Titles

@@ -5,11 +5,12 @@ ghost use Rattle.std.specs.List.{All};
 ghost use Rattle.history.specs.Entry.{same_mode};
 ghost use Rattle.history.specs.declared.entry.Mode.TheVariants.{S};
 ghost use Rattle.picture.specs.Layout.{IsShort};
-ghost use Rattle.picture.specs.inner.{IsLayout};
-ghost use Rattle.picture.specs.Bars.{bar_line, bar_lines, inside, is_of_line, label, only_shares, says_shared, shape_of, waits_to_share};
+ghost use Rattle.picture.specs.inner.{AreRanks, IsLayout};
+ghost use Rattle.picture.specs.Bars.{bar_in, bar_line, bar_lines, inside, is_of_line, label, only_shares, says_shared, shape_of, waits_to_share};
 
 use crate::layout::{Layout, Rect};
 use crate::pieces::{put_open_rect, put_placed};
+use crate::rows::row_of;
 use crate::titles::{entry_at, put_bar_title};
 use drawing::bar::Bar;
 use drawing::kind::Kind;
@@ -22,47 +23,68 @@ use std::alloc::AllocError;
 pub(crate) fn put_bars(
     out: &mut Vec<u8>,
     layout: Layout,
+    ranks: &[u64],
     object: Object,
     folded: u64,
     entries: &[Entry],
     bars: &[Bar],
 ) -> Result<(), AllocError>
     requires layout { IsLayout layout }
+    requires ranks { AreRanks ranks.now }
     requires folded { folded < 2 ^ 63 }
     requires short { All IsShort bars.now }
     ensures { OnOk result (out.new.items
-        ≡ out.old.items ++ bar_lines layout object folded entries.now bars.now) }
+        ≡ out.old.items ++ bar_lines layout ranks.now object folded entries.now bars.now) }
 {
     for bar in bars {
-        put_bar(out, layout, object, folded, entries, *bar)?;
+        put_bar(out, layout, ranks, object, folded, entries, *bar)?;
     }
     Ok(())
 }
 
-/// Appends a bar with its tooltip, and the text in it.
+/// Appends a bar in the row of its seat.
 fn put_bar(
     out: &mut Vec<u8>,
     layout: Layout,
+    ranks: &[u64],
     object: Object,
     folded: u64,
     entries: &[Entry],
     bar: Bar,
 ) -> Result<(), AllocError>
     requires layout { IsLayout layout }
+    requires ranks { AreRanks ranks.now }
     requires folded { folded < 2 ^ 63 }
     requires short { IsShort bar }
     ensures { OnOk result (out.new.items
-        ≡ out.old.items ++ bar_line layout object folded entries.now bar) }
+        ≡ out.old.items ++ bar_line layout ranks.now object folded entries.now bar) }
 {
-    let area = layout.rect(bar);
+    let area = layout.rect(row_of(ranks, bar.seat), bar);
+    put_bar_in(out, area, object, folded, entries, bar)
+}
+
+/// Appends a bar with its tooltip, and the text in it.
+fn put_bar_in(
+    out: &mut Vec<u8>,
+    area: Rect,
+    object: Object,
+    folded: u64,
+    entries: &[Entry],
+    bar: Bar,
+) -> Result<(), AllocError>
+    requires area { (area.x < 2 ^ 40) × (area.y < 2 ^ 25) }
+    requires folded { folded < 2 ^ 63 }
+    requires short { IsShort bar }
+    ensures { OnOk result (out.new.items ≡ out.old.items ++ bar_in area object folded entries.now bar) }
+{
     let to_share = waits_to_share(object, entries, bar);
     put_open_rect(out, shape_of(bar.kind, to_share), area)?;
     put_bar_title(out, folded, entries, bar)?;
     put_label(out, area, bar)
 }
 
-/// Returns whether a wait in line is to share, as the entry says that begins it or the one that ends it. Nothing is
-/// known of a wait that begins before the first entry that is drawn and has not ended at the last.
+/// Returns whether a wait in line is to share, as the entry says that begins it or the one that ends it.
+/// Nothing is known of a wait that begins before the first entry that is drawn and has not ended at the last.
 fn waits_to_share(object: Object, entries: &[Entry], bar: Bar) -> bool
     requires { IsShort bar }
     ensures { result ≡ waits_to_share object entries.now bar }

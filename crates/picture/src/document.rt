@@ -1,8 +1,8 @@
 //! The SVG document.
 
 ghost use Rattle.std.specs.Prelude.{◌≡◌, ◌<◌, ◌≤◌, ◌^◌, ◌++◌, IfOk, OnOk};
-ghost use Rattle.picture.specs.inner.{IsLayout};
-ghost use Rattle.picture.specs.Document.{IsPicture, ground, svg_text, wrong_mark};
+ghost use Rattle.picture.specs.inner.{AreRanks, IsLayout};
+ghost use Rattle.picture.specs.Document.{IsPicture, ground, svg_text, text_in_rows, wrong_mark};
 ghost use Rattle.picture.specs.View.{view_of};
 
 use crate::bars::put_bars;
@@ -12,46 +12,71 @@ use crate::head::put_head;
 use crate::layout::Layout;
 use crate::marks::put_marks;
 use crate::picture::Picture;
+use crate::rows::{ranks_of, row_of};
 use history::entry::Entry;
 use std::alloc::{AllocError, Global};
 
 /// Returns the SVG document of a picture. `entries` are those after the base, from the first one on. Tooltips say
 /// in words which entry a bar or a mark shows. The first illegal entry is told in words if it is among them.
+///
+/// A seat has a row if it has a bar, or made one of the entries that are drawn, or the first illegal one after them.
 pub fn svg_text(alloc: Global, picture: &Picture, entries: &[Entry]) -> Result<Vec<u8>, AllocError>
     requires { IsPicture (view_of picture.now) }
     ensures { IfOk result (λ text. text.items ≡ svg_text (view_of picture.now) entries.now) }
 {
-    let layout = Layout::of(picture.header, picture.from, picture.to);
+    let ranks = ranks_of(alloc, picture, entries)?;
     let mut out = Vec::new(alloc);
-    put_head(&mut out, layout, picture, entries)?;
-    put_ground(&mut out, layout, picture)?;
-    put_bars(
-        &mut out,
-        layout,
-        picture.header.object,
-        picture.folded,
-        entries,
-        &picture.drawn.bars,
-    )?;
-    put_marks(
-        &mut out,
-        layout,
-        picture.folded,
-        entries,
-        &picture.drawn.marks,
-    )?;
-    put_wrong_mark(&mut out, layout, picture, entries)?;
-    out.extend_from_slice(b"</svg>\n")?;
+    put_in_rows(&mut out, &ranks, picture, entries)?;
     Ok(out)
 }
 
-/// Appends what is drawn below bars and marks: rows, scale and curve.
-fn put_ground(out: &mut Vec<u8>, layout: Layout, picture: &Picture) -> Result<(), AllocError>
-    requires layout { IsLayout layout }
-    requires folded { picture.now.folded < 2 ^ 63 }
-    ensures { OnOk result (out.new.items ≡ out.old.items ++ ground layout (view_of picture.now)) }
+/// Appends the document. `ranks` say which seats have a row, and where.
+fn put_in_rows(
+    out: &mut Vec<u8>,
+    ranks: &[u64],
+    picture: &Picture,
+    entries: &[Entry],
+) -> Result<(), AllocError>
+    requires picture { IsPicture (view_of picture.now) }
+    requires ranks { AreRanks ranks.now }
+    ensures { OnOk result (out.new.items
+        ≡ out.old.items ++ text_in_rows ranks.now (view_of picture.now) entries.now) }
 {
-    put_rows(out, layout, picture.header.seats)?;
+    let rows = row_of(ranks, picture.header.seats);
+    let layout = Layout::of(picture.header, picture.from, picture.to, rows);
+    let folded = picture.folded;
+    let drawn = &picture.drawn;
+    put_head(out, layout, picture, entries)?;
+    put_ground(out, layout, ranks, picture)?;
+    put_bars(
+        out,
+        layout,
+        ranks,
+        picture.header.object,
+        folded,
+        entries,
+        &drawn.bars,
+    )?;
+    put_marks(out, layout, ranks, folded, entries, &drawn.marks)?;
+    put_wrong_mark(out, layout, ranks, picture, entries)?;
+    out.extend_from_slice(b"</svg>\n")?;
+    Ok(())
+}
+
+/// Appends what is drawn below bars and marks: rows, scale and curve.
+fn put_ground(
+    out: &mut Vec<u8>,
+    layout: Layout,
+    ranks: &[u64],
+    picture: &Picture,
+) -> Result<(), AllocError>
+    requires layout { IsLayout layout }
+    requires ranks { AreRanks ranks.now }
+    requires folded { picture.now.folded < 2 ^ 63 }
+    ensures { OnOk result (out.new.items
+        ≡ out.old.items ++ ground layout ranks.now (view_of picture.now)) }
+{
+    put_rows(out, layout, ranks, picture.header.seats)?;
     put_scale(out, layout, picture.folded)?;
     put_curve(
         out,
@@ -65,17 +90,19 @@ fn put_ground(out: &mut Vec<u8>, layout: Layout, picture: &Picture) -> Result<()
 fn put_wrong_mark(
     out: &mut Vec<u8>,
     layout: Layout,
+    ranks: &[u64],
     picture: &Picture,
     entries: &[Entry],
 ) -> Result<(), AllocError>
     requires layout { IsLayout layout }
+    requires ranks { AreRanks ranks.now }
     requires few { (picture.now.to < 2 ^ 32) × (picture.now.folded < 2 ^ 63) }
     ensures { OnOk result (out.new.items
-        ≡ out.old.items ++ wrong_mark layout (view_of picture.now) entries.now) }
+        ≡ out.old.items ++ wrong_mark layout ranks.now (view_of picture.now) entries.now) }
 {
     match picture.wrong {
         Some(number) if number == picture.folded + picture.to && picture.from <= picture.to => {
-            put_wrong(out, layout, picture.folded, entries, picture.to)
+            put_wrong(out, layout, ranks, picture.folded, entries, picture.to)
         }
         _ => Ok(()),
     }

@@ -1,47 +1,72 @@
 //! The rows of the seats, the scale below them, and the place of an illegal entry.
 
 ghost use Rattle.std.specs.Prelude.{◌≡◌, ◌<◌, ◌≤◌, ◌+◌, ◌^◌, ◌++◌, OnOk, zero};
-ghost use Rattle.picture.specs.inner.{IsLayout};
-ghost use Rattle.picture.specs.Grid.{culprit_at, exclamation_at, field_at, pitch_of, row, rows, shade, tick, ticks, wrong_at};
+ghost use Rattle.picture.specs.inner.{AreRanks, IsLayout};
+ghost use Rattle.picture.specs.Grid.{culprit_at, exclamation_at, field_at, pitch_of, row_if_any, row_line, rows, shade, tick, ticks, wrong_at};
 
 use crate::layout::{Layout, Rect};
 use crate::marks::put_mark_place;
 use crate::pieces::{put_number_at, put_open_rect, put_rect, put_upright};
+use crate::rows::row_of;
 use crate::titles::{entry_at, put_wrong_title};
 use history::entry::Entry;
 use std::alloc::AllocError;
 
-/// Appends the rows of all seats.
-pub(crate) fn put_rows(out: &mut Vec<u8>, layout: Layout, seats: u16) -> Result<(), AllocError>
-    requires { IsLayout layout }
-    ensures { OnOk result (out.new.items ≡ out.old.items ++ rows layout seats) }
+/// Appends the rows of the seats that have one.
+pub(crate) fn put_rows(
+    out: &mut Vec<u8>,
+    layout: Layout,
+    ranks: &[u64],
+    seats: u16,
+) -> Result<(), AllocError>
+    requires layout { IsLayout layout }
+    requires ranks { AreRanks ranks.now }
+    ensures { OnOk result (out.new.items ≡ out.old.items ++ rows layout ranks.now seats) }
 {
     for seat in 0..seats {
-        put_row(out, layout, seat)?;
+        let row = row_of(ranks, seat);
+        put_row_if_any(out, layout, row, row_of(ranks, seat + 1), seat)?;
     }
     Ok(())
 }
 
-/// Appends a seat's row, with its name.
-fn put_row(out: &mut Vec<u8>, layout: Layout, seat: u16) -> Result<(), AllocError>
-    requires { IsLayout layout }
-    ensures { OnOk result (out.new.items ≡ out.old.items ++ row layout seat) }
+/// Appends the row of a seat, if it has one: then the rank of the next seat is another.
+fn put_row_if_any(
+    out: &mut Vec<u8>,
+    layout: Layout,
+    row: u64,
+    next: u64,
+    seat: u16,
+) -> Result<(), AllocError>
+    requires { IsLayout layout × (row < 2 ^ 16) }
+    ensures { OnOk result (out.new.items ≡ out.old.items ++ row_if_any layout row next seat) }
 {
-    put_shade(out, layout, seat)?;
-    put_number_at(out, 8, layout.y(seat) + 20, b"'>seat ", u64::from(seat))
+    if row == next {
+        return Ok(());
+    }
+    put_row(out, layout, row, seat)
 }
 
-/// Appends the background of a seat's row. Every other one is shaded.
-fn put_shade(out: &mut Vec<u8>, layout: Layout, seat: u16) -> Result<(), AllocError>
-    requires { IsLayout layout }
-    ensures { OnOk result (out.new.items ≡ out.old.items ++ shade layout seat) }
+/// Appends a row, with the name of its seat.
+fn put_row(out: &mut Vec<u8>, layout: Layout, row: u64, seat: u16) -> Result<(), AllocError>
+    requires { IsLayout layout × (row < 2 ^ 16) }
+    ensures { OnOk result (out.new.items ≡ out.old.items ++ row_line layout row seat) }
 {
-    if seat % 2 == 1 {
+    put_shade(out, layout, row)?;
+    put_number_at(out, 8, layout.y(row) + 20, b"'>seat ", u64::from(seat))
+}
+
+/// Appends the background of a row. Every other one is shaded.
+fn put_shade(out: &mut Vec<u8>, layout: Layout, row: u64) -> Result<(), AllocError>
+    requires { IsLayout layout × (row < 2 ^ 16) }
+    ensures { OnOk result (out.new.items ≡ out.old.items ++ shade layout row) }
+{
+    if row % 2 == 1 {
         return Ok(());
     }
     let area = Rect {
         x: 0,
-        y: layout.y(seat),
+        y: layout.y(row),
         width: layout.right(),
         height: 40,
     };
@@ -88,16 +113,18 @@ fn pitch_of(step: u64) -> u64
 pub(crate) fn put_wrong(
     out: &mut Vec<u8>,
     layout: Layout,
+    ranks: &[u64],
     folded: u64,
     entries: &[Entry],
     number: u64,
 ) -> Result<(), AllocError>
     requires layout { IsLayout layout × (number < 2 ^ 33) }
+    requires ranks { AreRanks ranks.now }
     requires folded { folded < 2 ^ 63 }
     ensures { OnOk result (out.new.items
-        ≡ out.old.items ++ wrong_at layout folded entries.now number) }
+        ≡ out.old.items ++ wrong_at layout ranks.now folded entries.now number) }
 {
-    put_culprit(out, layout, number, entry_at(entries, number))?;
+    put_culprit(out, layout, ranks, number, entry_at(entries, number))?;
     put_field(out, layout, folded, entries, number)
 }
 
@@ -105,29 +132,32 @@ pub(crate) fn put_wrong(
 fn put_culprit(
     out: &mut Vec<u8>,
     layout: Layout,
+    ranks: &[u64],
     number: u64,
     entry: Option<Entry>,
 ) -> Result<(), AllocError>
-    requires { IsLayout layout × (number < 2 ^ 33) }
-    ensures { OnOk result (out.new.items ≡ out.old.items ++ culprit_at layout number entry) }
+    requires layout { IsLayout layout × (number < 2 ^ 33) }
+    requires ranks { AreRanks ranks.now }
+    ensures { OnOk result (out.new.items
+        ≡ out.old.items ++ culprit_at layout ranks.now number entry) }
 {
     match entry {
         None => Ok(()),
-        Some(entry) => put_exclamation(out, layout, number, entry.seat),
+        Some(entry) => put_exclamation(out, layout, number, row_of(ranks, entry.seat)),
     }
 }
 
-/// Appends an exclamation mark in the row of a seat.
+/// Appends an exclamation mark in a row.
 fn put_exclamation(
     out: &mut Vec<u8>,
     layout: Layout,
     number: u64,
-    seat: u16,
+    row: u64,
 ) -> Result<(), AllocError>
-    requires { IsLayout layout × (number < 2 ^ 33) }
-    ensures { OnOk result (out.new.items ≡ out.old.items ++ exclamation_at layout number seat) }
+    requires { IsLayout layout × (number < 2 ^ 33) × (row < 2 ^ 16) }
+    ensures { OnOk result (out.new.items ≡ out.old.items ++ exclamation_at layout number row) }
 {
-    put_mark_place(out, layout, number, seat)?;
+    put_mark_place(out, layout, number, row)?;
     out.extend_from_slice(b"m0 -5v5m0 2v2'/>\n")
 }
 
@@ -148,7 +178,7 @@ fn put_field(
         x: layout.x(number),
         y: layout.top,
         width: layout.step,
-        height: layout.seats * 40,
+        height: layout.rows * 40,
     };
     put_open_rect(out, b"<rect class='e' x='", area)?;
     put_wrong_title(out, folded, entries, number)

@@ -3,7 +3,7 @@
 ghost use Rattle.std.specs.Prelude.{◌≡◌, ◌<◌, ◌++◌, ◌^◌, OnOk};
 ghost use Rattle.history.specs.Header.{IsInRange};
 ghost use Rattle.history.specs.Spelling.{part_of};
-ghost use Rattle.picture.specs.Head.{chosen, cut, head, opening_tag, shown_line, shown_part, title, wrong_part, wrong_words};
+ghost use Rattle.picture.specs.Head.{chosen, cut, head, left_out, opening_tag, shown_line, shown_part, title, wrong_part, wrong_words};
 ghost use Rattle.picture.specs.inner.{IsLayout};
 ghost use Rattle.picture.specs.View.{view_of};
 
@@ -16,8 +16,8 @@ use history::header::Header;
 use std::alloc::AllocError;
 
 /// The style sheet. Exclusive holds are dark and shared ones light, so that they differ in print too. A wait
-/// in the queue has an outline, one to share is hatched too, and a wait on a condition has a dotted outline. A label
-/// lets the pointer through to the tooltip of its bar.
+/// in the queue has an outline, one to share is hatched too, and a wait on a condition has a dotted outline.
+/// A label lets the pointer through to the tooltip of its bar.
 pub(crate) const STYLE: &[u8] = b"<style type='text/css'>\n\
     text{font-family:sans-serif;font-size:11px;fill:#222}\n\
     .h{font-size:14px;font-weight:bold}\n\
@@ -45,7 +45,8 @@ pub(crate) const LEGEND: &[u8] = b"<rect class='x' x='8' y='48' width='24' heigh
     <text x='37' y='58'>exclusive</text>\n\
     <rect class='s' x='96' y='48' width='24' height='12'/><text x='125' y='58'>shared</text>\n\
     <rect class='w' x='172' y='48' width='24' height='12'/><text x='201' y='58'>in line</text>\n\
-    <rect class='v' x='248' y='48' width='24' height='12'/><text x='277' y='58'>in line to share</text>\n\
+    <rect class='v' x='248' y='48' width='24' height='12'/>\
+    <text x='277' y='58'>in line to share</text>\n\
     <rect class='z' x='368' y='48' width='24' height='12'/>\
     <text x='397' y='58'>asleep on a condition</text>\n\
     <path class='m' d='M12 74m-4 0l3 3l5 -6'/><text x='21' y='78'>granted</text>\n\
@@ -57,7 +58,8 @@ pub(crate) const LEGEND: &[u8] = b"<rect class='x' x='8' y='48' width='24' heigh
     <path class='m' d='M372 74m0 -4l3 7h-6z'/><text x='381' y='78'>signal</text>\n\
     <path class='m' d='M430 74m0 4l3 -7h-6z'/><text x='439' y='78'>drained</text>\n\
     <path class='m' d='M496 74m-3 -4v8m3 -8v8m3 -8v8'/><text x='507' y='78'>counted</text>\n\
-    <path class='m' d='M564 74m0 -5v5m0 2v2'/><text x='570' y='78'>not legal</text>\n";
+    <path class='m' d='M564 74m0 -5v5m0 2v2'/><text x='570' y='78'>not legal</text>\n\
+    <path class='m' d='M634 74m-4 -4l4 4l-4 4m4 -8l4 4l-4 4'/><text x='643' y='78'>barged</text>\n";
 
 /// Appends all that precedes the rows and the curve.
 pub(crate) fn put_head(
@@ -134,6 +136,7 @@ fn put_shown(
 {
     out.extend_from_slice(b"<text x='8' y='36'>")?;
     put_shown_part(out, layout, picture)?;
+    put_left_out(out, picture.header.seats, layout.rows)?;
     put_wrong_part(out, picture.folded, entries, picture.wrong)?;
     out.extend_from_slice(b"</text>\n")
 }
@@ -151,6 +154,16 @@ fn put_shown_part(out: &mut Vec<u8>, layout: Layout, picture: &Picture) -> Resul
     } else {
         let first = picture.folded + layout.from;
         put_chosen(out, first, first + (shown - 1), picture.entries)
+    }
+}
+
+/// Appends how many seats have no row, if there are any.
+fn put_left_out(out: &mut Vec<u8>, seats: u16, rows: u64) -> Result<(), AllocError>
+    ensures { OnOk result (out.new.items ≡ out.old.items ++ left_out seats rows) }
+{
+    match u64::from(seats).saturating_sub(rows) {
+        0 => Ok(()),
+        number => put(out, b"; seats without a row: ", number),
     }
 }
 

@@ -19,7 +19,7 @@ pub(crate) struct Layout {
     pub(crate) step: u64,
     /// The upper edge of the first row.
     pub(crate) top: u64,
-    pub(crate) seats: u64,
+    pub(crate) rows: u64,
 }
 
 /// The position and the size of a rectangle.
@@ -32,10 +32,10 @@ pub(crate) struct Rect {
 }
 
 impl Layout {
-    /// Returns the layout of the entries from `from` on, before `to`.
-    pub(crate) fn of(header: Header, from: u64, to: u64) -> Self
-        requires { to < 2 ^ 32 }
-        ensures is { result ≡ layout_of header from to }
+    /// Returns the layout of the entries from `from` on, before `to`, in so many rows.
+    pub(crate) fn of(header: Header, from: u64, to: u64, rows: u64) -> Self
+        requires { (to < 2 ^ 32) × (rows < 2 ^ 16) }
+        ensures is { result ≡ layout_of header from to rows }
         ensures sound { IsLayout result }
     {
         let first = from.min(to);
@@ -45,7 +45,7 @@ impl Layout {
             shown,
             step: step_of(shown),
             top: top_of(header.object),
-            seats: u64::from(header.seats),
+            rows,
         }
     }
 
@@ -58,13 +58,13 @@ impl Layout {
         72 + number.saturating_sub(self.from) * self.step
     }
 
-    /// Returns the upper edge of a seat's row.
-    pub(crate) fn y(self, seat: u16) -> u64
-        requires { IsLayout self }
-        ensures is { result ≡ y_of self seat }
+    /// Returns the upper edge of a row.
+    pub(crate) fn y(self, row: u64) -> u64
+        requires { IsLayout self × (row < 2 ^ 16) }
+        ensures is { result ≡ y_of self row }
         ensures bound { result < 2 ^ 24 }
     {
-        self.top + u64::from(seat) * 40
+        self.top + row * 40
     }
 
     /// Returns the lower edge of all rows.
@@ -73,7 +73,7 @@ impl Layout {
         ensures is { result ≡ bottom_of self }
         ensures bound { result < 2 ^ 24 }
     {
-        self.top + self.seats * 40
+        self.top + self.rows * 40
     }
 
     /// Returns the right edge of all entries, with room for an illegal one after them.
@@ -99,16 +99,17 @@ impl Layout {
         self.bottom() + 24
     }
 
-    /// Returns the rectangle of a bar, from the left edge of its first entry to the right edge of its last.
-    pub(crate) fn rect(self, bar: Bar) -> Rect
-        requires layout { IsLayout self }
+    /// Returns the rectangle of a bar in a row, from the left edge of its first entry to the right edge of
+    /// its last.
+    pub(crate) fn rect(self, row: u64, bar: Bar) -> Rect
+        requires layout { IsLayout self × (row < 2 ^ 16) }
         requires short { IsShort bar }
-        ensures is { result ≡ rect_of self bar }
+        ensures is { result ≡ rect_of self row bar }
         ensures bound { (result.x < 2 ^ 40) × (result.y < 2 ^ 25) }
     {
         Rect {
             x: self.x(bar.first),
-            y: self.y(bar.seat) + lower_by(bar.kind),
+            y: self.y(row) + lower_by(bar.kind),
             width: (bar.last + 1 - bar.first) * self.step,
             height: 12,
         }

@@ -17,4 +17,5 @@ mod layout;
 mod marks;
 pub mod picture;
 mod pieces;
+mod rows;
 mod titles;

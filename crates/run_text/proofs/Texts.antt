@@ -20,14 +20,19 @@ use Rattle.history_text.proofs.Lists.{each-reverse}
 use Rattle.history_text.proofs.Spelt.{all_spelt_on}
 use Rattle.script.specs.Script.{Named}
 use Rattle.workers.specs.declared.report.ObjectReport.{ObjectReport}
-use Rattle.run_text.specs.RunText.{base_of, name_line, part_text, parts_text, shares_line}
-use Rattle.run_text.specs.inner.{IsJudged, foot_text, head_text}
+use Rattle.workers.specs.Reports.{IsSound}
+use Rattle.run_text.specs.RunText.{base_of, history_of, name_line, part_text, parts_text, shares_line}
+use Rattle.run_text.specs.inner.{IsJudged, end_text, foot_text, head_text, history_head}
 use Rattle.run_text.proofs.Written.{concat_last}
 
 regrouped : (name first base entries end audit shares : List ℕ) →
     ((name ++ first) ++ base) ++ entries ++ ((end ++ audit) ++ shares)
     ≡ (name ++ (first ++ (base ++ (entries ++ end)))) ++ audit ++ shares
 regrouped name first base entries end audit shares = simp append_assoc
+
+regrouped_history : (first base entries end : List ℕ) →
+    ((first ++ base) ++ entries) ++ end ≡ first ++ (base ++ (entries ++ end))
+regrouped_history first base entries end = simp append_assoc
 
 abbrev pub good_base : (part : ObjectReport) → IsJudged part → IsGood (base_of part)
 good_base part is = good_from part.header part.history.base is.0.0 is.0.1
@@ -45,12 +50,29 @@ part_is name part is =
     (audit_text b part.history.entries (verdict_of part.judgement)) (ended (shares_line part.share))
 
 -- each entry has a line
-pub lines_spelt : (part : ObjectReport) → IsJudged part → All IsSpelt (reverse part.history.entries)
-lines_spelt part is =
+pub sound_spelt : (part : ObjectReport) → IsSound part → All IsSpelt (reverse part.history.entries)
+sound_spelt part is =
     let h = part.history.entries in
     let s = based (base_of part) in
     All-from_recursion IsSpelt (reverse h)
-    (each-reverse IsSpelt h (all_spelt_on s h (good_waits (base_of part) (good_base part is)) is.0.2))
+    (each-reverse IsSpelt h (all_spelt_on s h
+    (good_waits (base_of part) (good_from part.header part.history.base is.0 is.1)) is.2))
+
+pub lines_spelt : (part : ObjectReport) → IsJudged part → All IsSpelt (reverse part.history.entries)
+lines_spelt part is = sound_spelt part is.0
+
+-- the pieces of a history text
+pub history_is : (part : ObjectReport) (first : ℕ) (head end : List ℕ) →
+    head ≡ history_head (base_of part) → first ≡ (base_of part).entries → end ≡ end_text part →
+    head ++ entry_lines first (reverse part.history.entries) ++ end ≡ history_of part
+history_is part first head end is from ends =
+    let b = base_of part in
+    let h = part.history.entries in
+    ap (λ (t : List ℕ). t ++ entry_lines first (reverse h) ++ end) is
+    ∙ ap (λ (n : ℕ). history_head b ++ entry_lines n (reverse h) ++ end) from
+    ∙ ap (λ (t : List ℕ). history_head b ++ entry_lines b.entries (reverse h) ++ t) ends
+    ∙ regrouped_history (ended (head_line (head_of b))) (lines_text (lines_told b))
+    (entry_lines b.entries (reverse h)) (end_text part)
 
 -- the lines after the entries, one after another
 pub foot_lines : (part : ObjectReport) (n c : ℕ) (counted broken said new : List ℕ) →
@@ -66,6 +88,16 @@ foot_lines part n c counted broken said new p q r s t u =
     ∙ ap (counts_line ((base_of part).entries + length part.history.entries)) q in
     u ∙ ap (λ (z : List ℕ). z ++ shares) (t ∙ ap (λ (z : List ℕ). z ++ audit) (s
     ∙ ap (λ (z : List ℕ). z ++ 10 ∷ []) line))
+
+-- the end line
+pub end_lines : (part : ObjectReport) (n c : ℕ) (counted broken : List ℕ) →
+    n ≡ (base_of part).entries + length part.history.entries →
+    c ≡ calls (based (base_of part)) part.history.entries →
+    counted ≡ counts_line n c → broken ≡ counted ++ 10 ∷ [] → broken ≡ end_text part
+end_lines part n c counted broken p q r s =
+    let line = r ∙ ap (λ (m : ℕ). counts_line m c) p
+    ∙ ap (counts_line ((base_of part).entries + length part.history.entries)) q in
+    s ∙ ap (λ (z : List ℕ). z ++ 10 ∷ []) line
 
 -- one more text of an object
 pub parts_more : (objects objects' : List Named) (o : Named) (rest rest' : List ObjectReport)

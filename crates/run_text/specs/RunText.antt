@@ -1,5 +1,6 @@
 -- The text of a run.
-use Rattle.std.specs.Prelude.{ℕ, List, [], ◌∷◌, ◌++◌, codes}
+use Rattle.std.specs.Prelude.{ℕ, List, [], ◌∷◌, ◌++◌, codes, Option, Result, Ok, Err}
+use Rattle.std.specs.Io.KnownBytes.{Appends, Keeps}
 use Rattle.audit.specs.Verdict.{verdict_of}
 use Rattle.driver.specs.AuditText.{audit_text, number_line}
 use Rattle.history.specs.Base.{Base}
@@ -7,6 +8,9 @@ use Rattle.history.specs.Entries.{base_on}
 use Rattle.history.specs.Text.{ended}
 use Rattle.history_text.specs.Pieces.{history_text}
 use Rattle.script.specs.Script.{Named}
+use Rattle.streams.specs.declared.stream_fault.StreamFault.{StreamFault}
+use Rattle.streams.specs.declared.stream_fault.StreamFault.TheVariants.{Text, ReadFailed, WriteFailed, Memory}
+use Rattle.streams.specs.Writing.{AppendsFront}
 use Rattle.workers.specs.declared.report.ObjectReport.{ObjectReport}
 
 -- the base that the object's folded entries left
@@ -31,6 +35,19 @@ part_text name part =
     ++ history_text (base_of part) part.history.entries
     ++ audit_text (base_of part) part.history.entries (verdict_of part.judgement)
     ++ ended (shares_line part.share)
+
+-- the history text of one object
+abbrev pub history_of : ObjectReport → List ℕ
+history_of part = history_text (base_of part) part.history.entries
+
+-- what is written of it, or why it is not; what the sink held before and holds after
+abbrev pub WritesHistory : ObjectReport → Option (List ℕ) → Option (List ℕ) → Result (Unit {0}) StreamFault →
+    Type 0
+WritesHistory part old new (Ok done) = Appends old new (history_of part)
+WritesHistory part old new (Err WriteFailed) = AppendsFront old new (history_of part)
+WritesHistory part old new (Err Memory) = Keeps old new
+WritesHistory part old new (Err ReadFailed) = ⊥
+WritesHistory part old new (Err (Text fault)) = ⊥
 
 -- the texts of objects, in order
 abbrev pub parts_text : List Named → List ObjectReport → List ℕ

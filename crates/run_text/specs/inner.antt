@@ -32,3 +32,12 @@ foot_text part =
     (calls (based (base_of part)) part.history.entries))
     ++ audit_text (base_of part) part.history.entries (verdict_of part.judgement)
     ++ ended (shares_line part.share)
+
+-- the same of a history text alone
+abbrev pub history_head : Base → List ℕ
+history_head b = ended (head_line (head_of b)) ++ lines_text (lines_told b)
+
+abbrev pub end_text : ObjectReport → List ℕ
+end_text part =
+    ended (counts_line ((base_of part).entries + length part.history.entries)
+    (calls (based (base_of part)) part.history.entries))

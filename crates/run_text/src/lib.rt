@@ -3,11 +3,13 @@
 //! For each object of a script, in order, it has the object's name, its history text, the audit's lines on
 //! that history, and the merged share of its passes. The last line has the number of results that no history
 //! records. [`RunText::of`] allocates all memory. [`RunText::write`] allocates nothing, and writes the lines
-//! piece by piece.
+//! piece by piece. [`write_history`] writes the history text of one object alone.
 #![tactic(auto)]
 
 mod entry_lines;
+mod history_part;
 mod part;
 mod report_text;
 
+pub use history_part::write_history;
 pub use report_text::RunText;

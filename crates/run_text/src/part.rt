@@ -52,10 +52,10 @@ impl Model for PartText {
 
 /// The lines before the entries, and what they count.
 #[derive(Drop)]
-struct Head {
-    lines: Vec<u8>,
+pub(crate) struct Head {
+    pub lines: Vec<u8>,
     /// How many entries were folded.
-    entries: u64,
+    pub entries: u64,
 }
 
 /// Returns the line of a name, the first line of a history text and the lines of the base.

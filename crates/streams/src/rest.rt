@@ -8,7 +8,7 @@ use crate::source::Source;
 use crate::stream_fault::StreamFault;
 use std::alloc::Global;
 
-/// Reads the rest of a source. If an allocation fails, nothing more is read.
+/// Reads the rest of a source. If it returns `Memory`, no clause says how much was read.
 pub fn read_all<R: Source>(alloc: Global, reader: &mut R) -> Result<Vec<u8>, StreamFault>
     requires { R.failed reader.old ≡ false }
     ensures all { IfOk result (λ bytes. Consumes (R.left reader.old) (R.left reader.new) bytes.items) }

@@ -1,2 +1,3 @@
 pub mod Lines
 pub mod Document
+pub mod Json

@@ -3,4 +3,3 @@ pub mod SeatsFollow
 pub mod PassingsFollow
 pub mod ConditionsFollow
 pub mod SummaryIs
-pub mod Prefixes

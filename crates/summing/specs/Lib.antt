@@ -5,4 +5,5 @@ pub mod Peak
 pub mod Tallies
 pub mod Summary
 pub mod Summing
+pub mod Judging
 pub mod inner

@@ -1,3 +1,5 @@
+mod ExplainingJson
 pub mod OpenGates
+pub mod Runners
 pub mod Runs
 mod Explaining

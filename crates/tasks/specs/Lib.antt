@@ -1,7 +1,9 @@
 pub mod Explain
+pub mod ExplainJson
 pub mod Fault
 pub mod StreamFault
 pub mod Perform
+pub mod Ran
 pub mod RunScript
 pub mod Tell
-pub mod inner
+pub mod Timed

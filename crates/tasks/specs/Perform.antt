@@ -3,16 +3,16 @@ use Rattle.std.specs.Prelude.{◌≡◌, ℕ, List, Option, Result, Ok, Err}
 use Rattle.std.specs.Io.KnownBytes.{IsAtEnd}
 use Rattle.audit.specs.declared.verdict.Verdict.{Verdict}
 use Rattle.audit.specs.declared.verdict.Verdict.TheVariants.{Legal, NotLegal}
-use Rattle.driver.specs.AuditStream.{Audits, HistoryReadOut}
+use Rattle.driver.specs.AuditStream.{AuditsIn, HistoryReadOut}
 use Rattle.driver.specs.DrawStream.{Draws}
 use Rattle.driver.specs.ExplainStream.{Explains}
 use Rattle.driver.specs.PageStream.{Pages}
 use Rattle.driver.specs.ReplayStream.{Replays, StepsReadOut}
-use Rattle.driver.specs.SummaryStream.{Summarises}
+use Rattle.driver.specs.SummaryStream.{SummarisesIn}
 use Rattle.tasks.specs.declared.task.Task.{Task}
 use Rattle.tasks.specs.declared.task.Task.TheVariants.{Replay, Audit, Draw, Explain, Page, Summary}
 use Rattle.tasks.specs.declared.fault.Fault.{Fault}
-use Rattle.tasks.specs.declared.fault.Fault.TheVariants.{Usage, BadFrom, BadTo, BadAt, Memory, Stream, Script, Run}
+use Rattle.tasks.specs.declared.fault.Fault.TheVariants.{Usage, BadFrom, BadTo, BadAt, BadRunOption, Memory, Stream, Script, Run}
 
 -- a history that isn't legal ends the program with status 1
 abbrev pub status_for : Verdict → ℕ
@@ -27,19 +27,21 @@ Performs (Replay form) left old new (Err Usage) = ⊥
 Performs (Replay form) left old new (Err BadFrom) = ⊥
 Performs (Replay form) left old new (Err BadTo) = ⊥
 Performs (Replay form) left old new (Err BadAt) = ⊥
+Performs (Replay form) left old new (Err (BadRunOption option)) = ⊥
 Performs (Replay form) left old new (Err Memory) = ⊥
 Performs (Replay form) left old new (Err (Script fault)) = ⊥
 Performs (Replay form) left old new (Err (Run fault)) = ⊥
-Performs Audit left old new (Ok status) =
-    (verdict : Verdict) × (status ≡ status_for verdict) × Audits left old new (Ok verdict)
-Performs Audit left old new (Err (Stream fault)) = Audits left old new (Err fault)
-Performs Audit left old new (Err Usage) = ⊥
-Performs Audit left old new (Err BadFrom) = ⊥
-Performs Audit left old new (Err BadTo) = ⊥
-Performs Audit left old new (Err BadAt) = ⊥
-Performs Audit left old new (Err Memory) = ⊥
-Performs Audit left old new (Err (Script fault)) = ⊥
-Performs Audit left old new (Err (Run fault)) = ⊥
+Performs (Audit notation) left old new (Ok status) =
+    (verdict : Verdict) × (status ≡ status_for verdict) × AuditsIn notation left old new (Ok verdict)
+Performs (Audit notation) left old new (Err (Stream fault)) = AuditsIn notation left old new (Err fault)
+Performs (Audit notation) left old new (Err Usage) = ⊥
+Performs (Audit notation) left old new (Err BadFrom) = ⊥
+Performs (Audit notation) left old new (Err BadTo) = ⊥
+Performs (Audit notation) left old new (Err BadAt) = ⊥
+Performs (Audit notation) left old new (Err (BadRunOption option)) = ⊥
+Performs (Audit notation) left old new (Err Memory) = ⊥
+Performs (Audit notation) left old new (Err (Script fault)) = ⊥
+Performs (Audit notation) left old new (Err (Run fault)) = ⊥
 Performs (Draw choice) left old new (Ok status) =
     (verdict : Verdict) × (status ≡ status_for verdict) × Draws choice left old new (Ok verdict)
 Performs (Draw choice) left old new (Err (Stream fault)) = Draws choice left old new (Err fault)
@@ -47,6 +49,7 @@ Performs (Draw choice) left old new (Err Usage) = ⊥
 Performs (Draw choice) left old new (Err BadFrom) = ⊥
 Performs (Draw choice) left old new (Err BadTo) = ⊥
 Performs (Draw choice) left old new (Err BadAt) = ⊥
+Performs (Draw choice) left old new (Err (BadRunOption option)) = ⊥
 Performs (Draw choice) left old new (Err Memory) = ⊥
 Performs (Draw choice) left old new (Err (Script fault)) = ⊥
 Performs (Draw choice) left old new (Err (Run fault)) = ⊥
@@ -57,6 +60,7 @@ Performs (Page choice) left old new (Err Usage) = ⊥
 Performs (Page choice) left old new (Err BadFrom) = ⊥
 Performs (Page choice) left old new (Err BadTo) = ⊥
 Performs (Page choice) left old new (Err BadAt) = ⊥
+Performs (Page choice) left old new (Err (BadRunOption option)) = ⊥
 Performs (Page choice) left old new (Err Memory) = ⊥
 Performs (Page choice) left old new (Err (Script fault)) = ⊥
 Performs (Page choice) left old new (Err (Run fault)) = ⊥
@@ -67,33 +71,36 @@ Performs (Explain at) left old new (Err Usage) = ⊥
 Performs (Explain at) left old new (Err BadFrom) = ⊥
 Performs (Explain at) left old new (Err BadTo) = ⊥
 Performs (Explain at) left old new (Err BadAt) = ⊥
+Performs (Explain at) left old new (Err (BadRunOption option)) = ⊥
 Performs (Explain at) left old new (Err Memory) = ⊥
 Performs (Explain at) left old new (Err (Script fault)) = ⊥
 Performs (Explain at) left old new (Err (Run fault)) = ⊥
-Performs Summary left old new (Ok status) =
-    (verdict : Verdict) × (status ≡ status_for verdict) × Summarises left old new (Ok verdict)
-Performs Summary left old new (Err (Stream fault)) = Summarises left old new (Err fault)
-Performs Summary left old new (Err Usage) = ⊥
-Performs Summary left old new (Err BadFrom) = ⊥
-Performs Summary left old new (Err BadTo) = ⊥
-Performs Summary left old new (Err BadAt) = ⊥
-Performs Summary left old new (Err Memory) = ⊥
-Performs Summary left old new (Err (Script fault)) = ⊥
-Performs Summary left old new (Err (Run fault)) = ⊥
+Performs (Summary notation) left old new (Ok status) =
+    (verdict : Verdict) × (status ≡ status_for verdict) × SummarisesIn notation left old new (Ok verdict)
+Performs (Summary notation) left old new (Err (Stream fault)) = SummarisesIn notation left old new (Err fault)
+Performs (Summary notation) left old new (Err Usage) = ⊥
+Performs (Summary notation) left old new (Err BadFrom) = ⊥
+Performs (Summary notation) left old new (Err BadTo) = ⊥
+Performs (Summary notation) left old new (Err BadAt) = ⊥
+Performs (Summary notation) left old new (Err (BadRunOption option)) = ⊥
+Performs (Summary notation) left old new (Err Memory) = ⊥
+Performs (Summary notation) left old new (Err (Script fault)) = ⊥
+Performs (Summary notation) left old new (Err (Run fault)) = ⊥
 
 -- How far a task reads: as its stream does. The arguments are what the source had left and what it has left.
 abbrev pub IsReadOutFor : Task → Option (List ℕ) → Result ℕ Fault → Option (List ℕ) → Type 0
 IsReadOutFor task text (Ok status) left = IsAtEnd left
 IsReadOutFor (Replay form) text (Err (Stream fault)) left = StepsReadOut text (Err fault) left
-IsReadOutFor Audit text (Err (Stream fault)) left = HistoryReadOut text (Err fault) left
+IsReadOutFor (Audit notation) text (Err (Stream fault)) left = HistoryReadOut text (Err fault) left
 IsReadOutFor (Draw choice) text (Err (Stream fault)) left = HistoryReadOut text (Err fault) left
 IsReadOutFor (Page choice) text (Err (Stream fault)) left = HistoryReadOut text (Err fault) left
 IsReadOutFor (Explain at) text (Err (Stream fault)) left = HistoryReadOut text (Err fault) left
-IsReadOutFor Summary text (Err (Stream fault)) left = HistoryReadOut text (Err fault) left
+IsReadOutFor (Summary notation) text (Err (Stream fault)) left = HistoryReadOut text (Err fault) left
 IsReadOutFor task text (Err Usage) left = ⊥
 IsReadOutFor task text (Err BadFrom) left = ⊥
 IsReadOutFor task text (Err BadTo) left = ⊥
 IsReadOutFor task text (Err BadAt) left = ⊥
+IsReadOutFor task text (Err (BadRunOption option)) left = ⊥
 IsReadOutFor task text (Err Memory) left = ⊥
 IsReadOutFor task text (Err (Script fault)) left = ⊥
 IsReadOutFor task text (Err (Run fault)) left = ⊥

@@ -7,7 +7,7 @@ use Rattle.script.specs.Script.{ScriptView}
 use Rattle.streams.specs.declared.stream_fault.StreamFault.TheVariants.{Text, ReadFailed, WriteFailed, Memory as StreamMemory}
 use Rattle.streams.specs.Writing.{AppendsFront}
 use Rattle.tasks.specs.declared.fault.Fault.{Fault}
-use Rattle.tasks.specs.declared.fault.Fault.TheVariants.{Usage, BadFrom, BadTo, BadAt, Memory, Stream, Script, Run}
+use Rattle.tasks.specs.declared.fault.Fault.TheVariants.{Usage, BadFrom, BadTo, BadAt, BadRunOption, Memory, Stream, Script, Run}
 use Rattle.workers.specs.declared.fault.RunFault.TheVariants.{GateShut, NotStarted, Memory as RunMemory}
 use Rattle.workers.specs.Refused.{WasRefused}
 use Rattle.workers.specs.declared.report.Report.{Report}
@@ -44,6 +44,7 @@ Runs left old new (Err Usage) = ⊥
 Runs left old new (Err BadFrom) = ⊥
 Runs left old new (Err BadTo) = ⊥
 Runs left old new (Err BadAt) = ⊥
+Runs left old new (Err (BadRunOption option)) = ⊥
 Runs left old new (Err Memory) = Keeps old new
 
 -- a script was read to its end, unless reading failed or an allocation for its text did
@@ -53,3 +54,18 @@ IsReadOut (Err (Stream WriteFailed)) left = IsAtEnd left
 IsReadOut (Err (Script fault)) left = IsAtEnd left
 IsReadOut (Err (Run fault)) left = IsAtEnd left
 IsReadOut (Err fault) left = Unit {0}
+
+-- why a script can't be read
+abbrev pub IsFaultOfScript : Option (List ℕ) → Fault → Type 0
+IsFaultOfScript left (Script fault) = IfSome left (λ text. IsFault text fault)
+IsFaultOfScript left (Stream ReadFailed) = Unit {0}
+IsFaultOfScript left (Stream StreamMemory) = Unit {0}
+IsFaultOfScript left (Stream WriteFailed) = ⊥
+IsFaultOfScript left (Stream (Text fault)) = ⊥
+IsFaultOfScript left (Run fault) = ⊥
+IsFaultOfScript left Usage = ⊥
+IsFaultOfScript left BadFrom = ⊥
+IsFaultOfScript left BadTo = ⊥
+IsFaultOfScript left BadAt = ⊥
+IsFaultOfScript left (BadRunOption option) = ⊥
+IsFaultOfScript left Memory = ⊥

@@ -18,7 +18,7 @@ use streams::stream_fault::StreamFault;
 use streams::writing::write_all;
 
 /// Writes what is said of a text, and returns the status.
-fn write_told<W: Sink>(writer: &mut W, told: &[u8], status: u8) -> Result<u8, Fault>
+pub(crate) fn write_told<W: Sink>(writer: &mut W, told: &[u8], status: u8) -> Result<u8, Fault>
     requires { W.failed writer.old ≡ false }
     ensures says { Says status told.now (W.held writer.old) (W.held writer.new) result }
     ensures write { IsErrOf result (Stream WriteFailed) ↔ IsTrue (W.failed writer.new) }

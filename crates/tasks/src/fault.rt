@@ -9,6 +9,20 @@ use std::alloc::AllocError;
 use streams::stream_fault::StreamFault;
 use workers::RunFault;
 
+/// An option of a run.
+#[derive(Clone, Copy, Debug, PartialEq, Eq, thiserror::Error)]
+pub enum RunOption {
+    /// The name of the object whose history is written.
+    #[error("object")]
+    Object,
+    /// The folder in which the histories are left.
+    #[error("dir")]
+    Dir,
+    /// The milliseconds after which the run is late.
+    #[error("timeout")]
+    Timeout,
+}
+
 /// A fault, which the program prints in one line.
 #[derive(Clone, Copy, Debug, PartialEq, Eq, thiserror::Error)]
 pub enum Fault {
@@ -24,6 +38,10 @@ pub enum Fault {
     /// The entry to explain is no number.
     #[error("bad --at")]
     BadAt,
+    /// An option of a run can't be met: no object has the name, or the folder has a file of an object's name, or
+    /// is none, or the time is none.
+    #[error("bad --{0}")]
+    BadRunOption(RunOption),
     #[error("out of memory")]
     Memory,
     #[error("{0}")]
@@ -43,6 +61,7 @@ impl Fault {
         match self {
             Fault::Usage => 2,
             Fault::BadFrom | Fault::BadTo | Fault::BadAt => 2,
+            Fault::BadRunOption(_) => 2,
             Fault::Stream(StreamFault::Memory)
             | Fault::Memory
             | Fault::Script(ScriptFault::OutOfMemory)

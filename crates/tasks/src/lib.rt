@@ -2,11 +2,15 @@
 //! prints, and its exit status.
 #![tactic(auto)]
 
+pub mod as_json;
 pub mod ending;
 pub mod explain;
 pub mod fault;
 pub mod perform;
+pub mod ran;
 pub mod run_script;
 pub mod task;
 pub mod tell;
+mod text_sink;
 mod text_source;
+pub mod timed;

@@ -8,12 +8,12 @@ ghost use Rattle.tasks.specs.declared.fault.Fault.TheVariants.{Stream};
 use crate::fault::Fault;
 use crate::task::Task;
 use audit::verdict::Verdict;
-use driver::audit_stream::audit_stream;
+use driver::audit_stream::audit_stream_in;
 use driver::draw_stream::draw_stream;
 use driver::explain_stream::explain_stream;
 use driver::page_stream::page_stream;
 use driver::replay_stream::replay_stream;
-use driver::summary_stream::summary_stream;
+use driver::summary_stream::summary_stream_in;
 use std::alloc::Global;
 use streams::sink::Sink;
 use streams::source::Source;
@@ -50,10 +50,12 @@ pub fn perform<R: Source, W: Sink>(
             replay_stream(alloc, reader, writer, form)?;
             Ok(0)
         }
-        Task::Audit => Ok(status_for(audit_stream(alloc, reader, writer)?)),
+        Task::Audit(notation) => Ok(status_for(audit_stream_in(alloc, reader, writer, notation)?)),
         Task::Draw(choice) => Ok(status_for(draw_stream(alloc, reader, writer, choice)?)),
         Task::Page(choice) => Ok(status_for(page_stream(alloc, reader, writer, choice)?)),
         Task::Explain(at) => Ok(status_for(explain_stream(alloc, reader, writer, at)?)),
-        Task::Summary => Ok(status_for(summary_stream(alloc, reader, writer)?)),
+        Task::Summary(notation) => {
+            Ok(status_for(summary_stream_in(alloc, reader, writer, notation)?))
+        }
     }
 }

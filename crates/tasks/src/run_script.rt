@@ -5,8 +5,7 @@ ghost use Rattle.std.specs.Io.KnownBytes.{IsAtEnd};
 ghost use Rattle.run_text.specs.inner.{IsLegalPart};
 ghost use Rattle.script.specs.Reading.{Reads};
 ghost use Rattle.streams.specs.declared.stream_fault.StreamFault.TheVariants.{ReadFailed, WriteFailed};
-ghost use Rattle.tasks.specs.RunScript.{IsReadOut, Runs};
-ghost use Rattle.tasks.specs.inner.{IsFaultOfScript};
+ghost use Rattle.tasks.specs.RunScript.{IsFaultOfScript, IsReadOut, Runs};
 ghost use Rattle.tasks.specs.declared.fault.Fault.TheVariants.{Stream};
 
 use crate::fault::Fault;
@@ -22,8 +21,8 @@ use streams::source::Source;
 use streams::stream_fault::StreamFault;
 use workers::{ObjectReport, OpenGate, run_threads};
 
-/// Returns the script that a source has.
-fn script_of<R: Source>(alloc: Global, reader: &mut R) -> Result<Script, Fault>
+/// Returns the script that a source has. It is read to its end.
+pub fn script_of<R: Source>(alloc: Global, reader: &mut R) -> Result<Script, Fault>
     requires { R.failed reader.old ≡ false }
     ensures ok { IfOk result (λ script. IfSome (R.left reader.old) (λ text. Reads text (Ok script))) }
     ensures err { IfErr result (IsFaultOfScript (R.left reader.old)) }

@@ -2,6 +2,7 @@
 
 use driver::choice::Choice;
 use driver::form::Form;
+use driver::notation::Notation;
 use manual::page::Page;
 
 /// What is done for a command line.
@@ -10,7 +11,7 @@ pub enum Job {
     /// A text is read and another written, by one thread.
     Answer(Task),
     /// The entry of a number in a history text is explained, or where another text is wrong.
-    Explain(Option<u64>),
+    Explain(Option<u64>, Notation),
     /// The threads of a script are run.
     Run,
     /// A page of the manual is written.
@@ -23,7 +24,7 @@ pub enum Task {
     /// A steps text is replayed.
     Replay(Form),
     /// A history text is audited.
-    Audit,
+    Audit(Notation),
     /// The history of a history text is drawn.
     Draw(Choice),
     /// A page is written that steps through the history of a history text.
@@ -31,5 +32,5 @@ pub enum Task {
     /// The entry of a number in a history text is explained; without a number the first illegal one.
     Explain(Option<u64>),
     /// A history text is summed up.
-    Summary,
+    Summary(Notation),
 }

@@ -171,11 +171,11 @@ const NARROW: [(Stream, &[u8], u32, u32); 8] = [
     (Stream::Replay, STEPS, 980, 1070),
     (Stream::History, STEPS, 980, 1070),
     (Stream::Audit, HISTORY, 830, 3000),
-    (Stream::Draw, HISTORY, 830, 3000),
+    (Stream::Draw, HISTORY, 830, 3400),
     (Stream::Audit, ON_SLEEPER, 830, 3000),
-    (Stream::Draw, ON_SLEEPER, 830, 3000),
+    (Stream::Draw, ON_SLEEPER, 830, 3400),
     (Stream::Audit, ON_COUNT, 830, 3000),
-    (Stream::Draw, ON_COUNT, 830, 3000),
+    (Stream::Draw, ON_COUNT, 830, 3400),
 ];
 
 /// Nothing is written before there is memory for all: for the window, which takes most, and then for each

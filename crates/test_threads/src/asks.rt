@@ -1,5 +1,6 @@
 //! Calls of the front types and of their monitors as data, and their results.
-ghost use Rattle.std.specs.Prelude.{◌≡◌, ◌<◌, ◌≤◌};
+ghost use Rattle.std.specs.Prelude.{◌<◌};
+ghost use Rattle.monitor.specs.Calling.{CanCall};
 ghost use Rattle.monitor.specs.Stepping.{IsSame};
 
 use counting::latch::LatchHooks;
@@ -132,8 +133,7 @@ pub trait Front: Hooks + Drop {
         pass: &mut Pass,
         ask: Ask,
     ) -> Reply
-        requires is_of { pass.old.lock ≡ monitor.now }
-        requires places { monitor.now.header.seats ≤ P.seats parking.now }
+        requires can { CanCall monitor.now (P.seats parking.now) pass.old }
         ensures { IsSame pass.old pass.new };
 }
 
@@ -169,8 +169,7 @@ fn ask_to_read<P: Parking, R: Wait + Clock>(
     pass: &mut Pass,
     ask: Ask,
 ) -> Reply
-    requires is_of { pass.old.lock ≡ monitor.now }
-    requires places { monitor.now.header.seats ≤ P.seats parking.now }
+    requires can { CanCall monitor.now (P.seats parking.now) pass.old }
     ensures { IsSame pass.old pass.new }
 {
     let lock = ReadWriteLock::of(monitor);
@@ -283,8 +282,7 @@ fn observe_or_ask<H: Front, P: Parking, R: Wait + Clock>(
     pass: &mut Pass,
     ask: Ask,
 ) -> Reply
-    requires is_of { pass.old.lock ≡ monitor.now }
-    requires places { monitor.now.header.seats ≤ P.seats parking.now }
+    requires can { CanCall monitor.now (P.seats parking.now) pass.old }
     ensures { IsSame pass.old pass.new }
 {
     pass.is_true();
@@ -309,8 +307,7 @@ pub fn perform<H: Front, P: Parking, R: Wait + Clock>(
     pass: &mut Pass,
     ask: Ask,
 ) -> Reply
-    requires is_of { pass.old.lock ≡ monitor.now }
-    requires places { monitor.now.header.seats ≤ P.seats parking.now }
+    requires can { CanCall monitor.now (P.seats parking.now) pass.old }
     ensures { IsSame pass.old pass.new }
 {
     pass.is_true();

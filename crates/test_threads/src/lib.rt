@@ -6,11 +6,15 @@ mod asks;
 #[cfg(test)]
 mod chance;
 #[cfg(test)]
+mod memory;
+#[cfg(test)]
 mod noted;
 #[cfg(test)]
 mod parking;
 #[cfg(test)]
 mod plays;
+#[cfg(test)]
+mod predicates;
 #[cfg(test)]
 mod rounds;
 #[cfg(test)]

@@ -9,9 +9,6 @@ use std::sync::atomic::{AtomicU64, Ordering};
 use std::thread;
 use std::time::{Clock, Duration};
 
-/// The moment at which its clock stays.
-const NOW: u64 = 0;
-
 /// How many calls are recorded.
 const PLACES: u32 = 16;
 
@@ -26,15 +23,26 @@ pub struct NotedParking {
     parks: AtomicU64,
     /// How many parks may end.
     ends: AtomicU64,
+    clock: AtomicU64,
+    /// How far the clock goes on each time it is read.
+    tick: u64,
 }
 
 impl NotedParking {
+    /// Opens one whose clock stays at 0.
     pub fn open(alloc: Global, answers: &[Woke]) -> Result<NotedParking, Fault> {
+        NotedParking::open_ticking(alloc, answers, 0)
+    }
+
+    /// Opens one whose clock starts at 0, and goes on by `tick` milliseconds each time it is read.
+    pub fn open_ticking(alloc: Global, answers: &[Woke], tick: u64) -> Result<NotedParking, Fault> {
         let answers = Vec::from_slice(alloc, answers)?;
         Ok(NotedParking {
             notes: ScriptedParking::open(alloc, answers, PLACES)?,
             parks: AtomicU64::new(0),
             ends: AtomicU64::new(0),
+            clock: AtomicU64::new(0),
+            tick,
         })
     }
 
@@ -75,7 +83,7 @@ impl Parking for NotedParking {
     ghost did = { λ place deed. IsDone place deed };
 
     fn now<R: Clock>(&self, _rt: &R) -> u64 {
-        NOW
+        self.clock.fetch_add(self.tick, Ordering::SeqCst)
     }
 
     fn park<R: Wait + Clock>(

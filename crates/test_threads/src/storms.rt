@@ -1,8 +1,11 @@
-//! Storms: one list of 10,000 steps of four seats at a lock, taken in each way. After a storm the history is
-//! legal, and each of its calls was counted by a pass.
+//! Storms: one list of 10,000 steps of four seats at a lock, taken in each way; and steps of each thread's own at
+//! each object. After a storm the history is legal, and each of its calls was counted by a pass.
 ghost use Rattle.std.specs.Prelude.{◌≡◌, ◌≤◌, All};
 ghost use Rattle.monitor.specs.Stepping.{IsSame};
 
+mod each_object;
+
+use crate::asks::Front;
 use crate::chance::Chance;
 use crate::plays::close_and_audit;
 use history::entries::History;
@@ -47,19 +50,19 @@ const STEPS: u32 = 10_000;
 const LEAST: u64 = 1000;
 
 /// How often a thread retries at a busy monitor, or checks for another thread, once a millisecond.
-const LOOKS: u32 = 10_000;
+pub const LOOKS: u32 = 10_000;
 
 /// How long a wait takes that a deadline ends, in milliseconds of a clock that stays.
 const TIME: u32 = 5;
 
-fn rest<R: Clock>(rt: &R) {
+pub fn rest<R: Clock>(rt: &R) {
     thread::sleep(rt, Duration::from_millis(1));
 }
 
 /// Steps when the monitor isn't busy.
-fn step_by_turn<R: Abort + Clock>(
+pub fn step_by_turn<H: Front, R: Abort + Clock>(
     rt: &R,
-    monitor: &Monitor<LockHooks>,
+    monitor: &Monitor<H>,
     pass: &mut Pass,
     step: Step,
 ) -> Result<Answer, Fault>
@@ -88,10 +91,10 @@ fn work<R: Abort + Wait + Clock>(
     ensures { IsSame pass result }
 {
     let mut own = pass;
-    start_together(rt, started);
+    start_together(rt, started, LOCK.seats);
     let mut list = Chance::of_list();
     for _ in 0..STEPS {
-        let (seat, step) = list.next_step();
+        let (seat, step) = list.listed_step();
         if seat == own.seat() {
             let _answer = if seat == 0 && way == Way::OneWaits {
                 monitor.step(rt, &mut own, step)
@@ -103,11 +106,11 @@ fn work<R: Abort + Wait + Clock>(
     own
 }
 
-/// Waits for a while until all threads have started.
-fn start_together<R: Clock>(rt: &R, started: &AtomicU32) {
+/// Waits for a while until `threads` threads have started.
+pub fn start_together<R: Clock>(rt: &R, started: &AtomicU32, threads: u16) {
     started.fetch_add(1, Ordering::SeqCst);
     for _ in 0..100 {
-        if u32::from(LOCK.seats) <= started.load(Ordering::SeqCst) {
+        if u32::from(threads) <= started.load(Ordering::SeqCst) {
             break;
         }
         rest(rt);
@@ -195,7 +198,7 @@ fn take_all<R: Abort + AllocGlobal + Wait + Clock>(
     let parking = ScriptedParking::open(rt.alloc(), ends, 0).expect(rt, "memory");
     let mut list = Chance::of_list();
     for _ in 0..STEPS {
-        let is_taken = take(rt, monitor, &parking, passes, way, list.next_step());
+        let is_taken = take(rt, monitor, &parking, passes, way, list.listed_step());
         assert!(rt; is_taken, "no reply");
     }
 }

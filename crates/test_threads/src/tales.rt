@@ -9,7 +9,7 @@ macro_rules! rows {
     };
 }
 
-mod fronts;
+pub mod fronts;
 mod known;
 mod woken;
 

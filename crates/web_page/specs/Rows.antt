@@ -6,7 +6,7 @@ use Rattle.drawing.specs.declared.kind.Kind.{Kind}
 use Rattle.drawing.specs.declared.kind.Kind.TheVariants.{Exclusive, Shared, InLine, Asleep}
 use Rattle.drawing.specs.declared.mark.Mark.{Mark}
 use Rattle.drawing.specs.declared.mark.Sign.{Sign}
-use Rattle.drawing.specs.declared.mark.Sign.TheVariants.{Missed, Refused, Signal, Drained, Counted, Granted, TimedOut, Interrupted}
+use Rattle.drawing.specs.declared.mark.Sign.TheVariants.{Missed, Refused, Signal, Drained, Counted, Granted, TimedOut, Interrupted, Barged}
 use Rattle.explain_text.specs.Words.{entry_text}
 use Rattle.history.specs.declared.entry.Entry.{Entry}
 use Rattle.web_page.specs.Escape.{escaped}
@@ -35,6 +35,7 @@ sign_part Counted = codes ",[\"counted\""
 sign_part Granted = codes ",[\"granted\""
 sign_part TimedOut = codes ",[\"timeout\""
 sign_part Interrupted = codes ",[\"interrupt\""
+sign_part Barged = codes ",[\"barged\""
 
 -- a mark: what it shows, its seat and its entry
 abbrev pub mark_row : Mark → List ℕ

@@ -60,6 +60,7 @@ fn sign_part(sign: Sign) -> &'static [u8]
         Sign::Granted => b",[\"granted\"",
         Sign::TimedOut => b",[\"timeout\"",
         Sign::Interrupted => b",[\"interrupt\"",
+        Sign::Barged => b",[\"barged\"",
     }
 }
 

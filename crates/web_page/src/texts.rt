@@ -9,7 +9,7 @@ pub const OPENING: &[u8] = b"\
     <html lang='en'>\n\
     <head>\n\
     <meta charset='utf-8'>\n\
-    <meta http-equiv='Content-Security-Policy' content=\"default-src 'none'; script-src 'sha256-9MJfwavx8vXidy8ItdUef6oNeVOhOcwfbpq6MBfv1lE='; style-src 'sha256-lAR4oZJmbvFLPLO4vxmxk2ouwdbq35Xk4u3a3RLGdSo='; base-uri 'none'; form-action 'none'\">\n\
+    <meta http-equiv='Content-Security-Policy' content=\"default-src 'none'; script-src 'sha256-uzUBdAXTqd4RzGMLyG7OZz9vUmM2dmLzeGwC2gdx8qg='; style-src 'sha256-lAR4oZJmbvFLPLO4vxmxk2ouwdbq35Xk4u3a3RLGdSo='; base-uri 'none'; form-action 'none'\">\n\
     <meta name='viewport' content='width=device-width'>\n\
     <title>aqs draw</title>\n\
     <style>\n\
@@ -76,7 +76,7 @@ pub const OPENING: &[u8] = b"\
     <li>An outlined bar with q: the seat waits in the queue. qx: to own or to write. qs: to read, for permits or for a latch.</li>\n\
     <li>A dotted bar with c and a number: the seat sleeps on that condition.</li>\n\
     <li>A circle: missed. A cross: refused. A triangle up: signal. A triangle down: drained. Three strokes: counted.</li>\n\
-    <li>A tick: granted, after a wait. A clock: a wait timed out. A zigzag: a wait was interrupted.</li>\n\
+    <li>A tick: granted, after a wait. A clock: a wait timed out. A zigzag: a wait was interrupted. Two arrowheads: barged, past a waiter.</li>\n\
     <li>A frame through all rows: the entry of the panel. A red field: the first entry that is not legal.</li>\n\
     <li>Arrow left and right: one entry back and forward. Home and End: the first and the last. + and -: zoom. A click on a bar goes to its first entry.</li>\n\
     </ul>\n\
@@ -174,10 +174,11 @@ pub const CLOSING: &[u8] = b"\
         counted: 'counted down',\n\
         drained: 'took all free permits',\n\
       };\n\
+      const barged = new Set(marks.filter((mark) => mark.sign === 'barged').map((mark) => mark.at));\n\
       const entryLine = (k) => {\n\
         const entry = entries[k - from];\n\
         const words = 'Entry ' + numberOf(k) + ': seat ' + entry.seat + ' ' + entry.words;\n\
-        return words + '. It ' + MEANING[entry.word] + '.';\n\
+        return words + '. It ' + MEANING[entry.word] + (barged.has(k) ? ', past a waiter in the queue.' : '.');\n\
       };\n\
     \n\
       // The picture: as many entries as have room, around the one that is chosen.\n\
@@ -193,6 +194,7 @@ pub const CLOSING: &[u8] = b"\
         granted: 'm-4 0l3 3l5 -6',\n\
         timeout: 'm-4 0a4 4 0 1 0 8 0a4 4 0 1 0 -8 0m4 -3v3h2',\n\
         interrupt: 'm1 -4l-3 4h4l-3 4',\n\
+        barged: 'm-4 -4l4 4l-4 4m4 -8l4 4l-4 4',\n\
       };\n\
     \n\
       // What a wait in the queue is for, if its first entry is shown: x to own or to write, s to read or for permits.\n\

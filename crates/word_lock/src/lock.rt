@@ -48,8 +48,8 @@ impl<T: Chronicle> Model for WordLock<T> {
 }
 
 impl<T: Chronicle> WordLock<T> {
-    /// Returns the lock, and a token for each seat below `seats`, in order. No seat may have an entry in the
-    /// value yet. If an allocation fails, the value is returned.
+    /// Returns the lock, and a token for each seat below `seats`, in order. No seat may have an entry, a call
+    /// that was folded, a hold or a wait in the value yet. If an allocation fails, the value is returned.
     pub fn open(
         alloc: Global,
         value: T,

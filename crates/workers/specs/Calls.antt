@@ -40,7 +40,7 @@ pub record ActsOn (place : ℕ) (action : Action) (old : List Shown) (u : ℕ) (
   pub there : slice_get old place ≡ Some before
   pub reply : Reply
   pub after : Shown
-  pub seats : ℕ  -- of the place to park
+  pub seats : ℕ  -- of a place to park: that of another call may have another number
   pub acted : IsActed seats action before reply after
   pub same : IsSame before after
   pub shows : IsSound after

@@ -3,4 +3,5 @@ pub mod Rows
 pub mod Gates
 pub mod Refused
 pub mod Reports
+pub mod Within
 pub mod inner

@@ -1,13 +1,11 @@
 //! A worker's call as a call of a monitor.
-ghost use Rattle.std.specs.Prelude.{◌≡◌, ◌≤◌};
-ghost use Rattle.monitor.specs.Shown.{IsSound};
-ghost use Rattle.monitor.specs.Stepping.{IsSame};
+ghost use Rattle.monitor.specs.Calling.{CanCall, Called};
 ghost use Rattle.workers.specs.Calls.{IsActed};
 
+use crate::post::Post;
 use crate::reply::Reply;
 use any_object::AnyHooks;
 use monitor::{Monitor, Pass};
-use permit::ThreadParking;
 use script::Action;
 use std::sync::Wait;
 use std::time::Clock;
@@ -15,15 +13,13 @@ use std::time::Clock;
 /// Makes the call of an object that a script asks for.
 pub(crate) fn act<R: Wait + Clock>(
     rt: &R,
-    parking: &ThreadParking,
+    parking: &Post,
     monitor: &Monitor<AnyHooks>,
     pass: &mut Pass,
     action: Action,
 ) -> Reply
-    requires is_of { pass.old.lock ≡ monitor.now }
-    requires places { monitor.now.header.seats ≤ parking.now }
-    ensures same { IsSame pass.old pass.new }
-    ensures shows { IsSound pass.new }
+    requires can { CanCall monitor.now parking.now pass.old }
+    ensures called { Called pass.old pass.new }
     ensures acted { IsActed parking.now action pass.old result pass.new }
 {
     match action {

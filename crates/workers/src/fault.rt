@@ -13,10 +13,11 @@ pub enum RunFault {
     /// An allocation failed.
     #[error("out of memory")]
     Memory,
-    /// The gate refused a call of this worker, the first such worker by number. The others ran to their ends.
+    /// The gate refused a call of this worker, and let all workers before it make all their calls.
     #[error("gate shut for worker {0}")]
     GateShut(u16),
-    /// The system refused the thread of this worker, the first such worker by number. No worker made a call.
+    /// The system refused a thread, and no worker made a call. The code names the first worker by number whose
+    /// thread was refused. The contract says only that this is one of the workers, and that a thread was refused.
     #[error("thread {0} not started")]
     NotStarted(u16),
 }

@@ -8,6 +8,9 @@
 //! When all have ended, each object is closed. The [`Report`] has what closing returns. Each history is
 //! proved to be legal, so none is audited.
 //!
+//! [`run_threads_within`] waits for the end at most a given time. After that it returns how each thread stands: how
+//! many of its calls have ended, whether it waits, and what it holds.
+//!
 //! Proved of a report: for each worker and object there is one pass, and that worker's calls produced it.
 //! Every call changed its pass as the monitor's call promises. Each object's history is legal from its base
 //! and agrees with the entries of each pass. The passes' merged share is the number of its calls, folded ones
@@ -19,16 +22,22 @@
 mod act;
 mod fault;
 mod gate;
+mod notes;
 mod opened;
 mod passes;
+mod post;
 mod reply;
 mod report;
 mod run;
+mod standing;
 mod start;
 mod threads;
+mod within;
 mod work;
 
 pub use fault::RunFault;
 pub use gate::{Gate, OpenGate};
 pub use report::{ObjectReport, Report};
 pub use run::run_threads;
+pub use standing::{Held, Standing};
+pub use within::{Outcome, run_threads_within};

@@ -10,8 +10,10 @@ ghost use Rattle.workers.specs.inner.Results.{AddUp, HasStopped, most_calls, pas
 
 use crate::fault::RunFault;
 use crate::gate::Gate;
+use crate::notes::Notes;
 use crate::opened::Opened;
 use crate::passes::{Passes, deal};
+use crate::post::Post;
 use crate::report::{ObjectReport, Report};
 use crate::start::Start;
 use crate::threads::run_all;
@@ -20,7 +22,7 @@ use history::header::Header;
 use permit::ThreadParking;
 use script::Script;
 use std::alloc::{AllocError, Global};
-use std::sync::Wait;
+use std::sync::{Arc, Wait};
 use std::thread::Threads;
 use std::time::Clock;
 
@@ -110,6 +112,46 @@ fn close_all<R: Wait>(
     Ok(parts)
 }
 
+/// Runs a script as [`run_threads`] does. Its threads make notes, if there are any to make.
+pub(crate) fn run_noted<G: Gate + Sync, R: Threads + Wait + Clock + Sync>(
+    rt: &R,
+    alloc: Global,
+    script: &Script,
+    gate: &G,
+    notes: Option<Arc<Notes>>,
+) -> Result<Report, RunFault>
+    ensures report { IfOk result (IsReport script.now) }
+    ensures sound { IfOk result (λ report. All IsSound report.objects.items) }
+    ensures asked { IfOk result (λ _. LetsAll (G.answers gate.now) 0 script.now.workers) }
+    ensures fault { IfErr result (IsFaultOfRun (G.answers gate.now) script.now.workers) }
+{
+    let workers = script.workers();
+    let (objects, rows) = open_all(alloc, script)?;
+    let mut columns = empty_rows(alloc, objects.len())?;
+    let parking = match ThreadParking::open(rt, alloc, workers.len() as u16) {
+        Ok(parking) => Post { parking, notes },
+        Err(_) => return Err(RunFault::Memory),
+    };
+    let start = Start::new();
+    let shared = Shared {
+        parking,
+        objects,
+        start,
+    };
+    let worked = run_all(rt, alloc, &shared, gate, workers, rows)?;
+    let unrecorded = settle(worked, &mut columns)?;
+    let Shared {
+        parking: _,
+        objects,
+        start: _,
+    } = shared;
+    let objects = close_all(rt, alloc, objects, columns)?;
+    Ok(Report {
+        objects,
+        unrecorded,
+    })
+}
+
 /// Runs a script, with a thread for each worker, and returns the report of all objects.
 ///
 /// No worker makes its first call before all threads are started. `gate` is asked before each call, and
@@ -134,29 +176,5 @@ pub fn run_threads<G: Gate + Sync, R: Threads + Wait + Clock + Sync>(
     ensures asked { IfOk result (λ _. LetsAll (G.answers gate.now) 0 script.now.workers) }
     ensures fault { IfErr result (IsFaultOfRun (G.answers gate.now) script.now.workers) }
 {
-    let workers = script.workers();
-    let (objects, rows) = open_all(alloc, script)?;
-    let mut columns = empty_rows(alloc, objects.len())?;
-    let parking = match ThreadParking::open(rt, alloc, workers.len() as u16) {
-        Ok(parking) => parking,
-        Err(_) => return Err(RunFault::Memory),
-    };
-    let start = Start::new();
-    let shared = Shared {
-        parking,
-        objects,
-        start,
-    };
-    let worked = run_all(rt, alloc, &shared, gate, workers, rows)?;
-    let unrecorded = settle(worked, &mut columns)?;
-    let Shared {
-        parking: _,
-        objects,
-        start: _,
-    } = shared;
-    let objects = close_all(rt, alloc, objects, columns)?;
-    Ok(Report {
-        objects,
-        unrecorded,
-    })
+    run_noted(rt, alloc, script, gate, None)
 }

@@ -36,7 +36,7 @@ impl<'s, G: Gate> Promise<Worked> for Works<'s, G> {
 
 /// Returns the fault of a worker whose thread the system refused.
 #[tactic(auto, using(crate::specs::Refused::refused))]
-fn not_started<F: Drop>(_refused: SpawnError<F>, worker: u16) -> RunFault
+pub(crate) fn not_started<F: Drop>(_refused: SpawnError<F>, worker: u16) -> RunFault
     ensures fault { result ≡ NotStarted worker }
     ensures refused { WasRefused worker }
 {

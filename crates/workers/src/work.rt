@@ -11,8 +11,9 @@ use crate::fault::RunFault;
 use crate::gate::Gate;
 use crate::opened::Opened;
 use crate::passes::Passes;
+use crate::post::Post;
 use crate::start::Start;
-use permit::{Parking, ThreadParking};
+use permit::Parking;
 use script::{Call, Worker};
 use std::sync::Wait;
 use std::time::Clock;
@@ -20,7 +21,7 @@ use std::time::Clock;
 /// What the workers of a run share.
 #[derive(Drop)]
 pub(crate) struct Shared {
-    pub parking: ThreadParking,
+    pub parking: Post,
     pub objects: Vec<Opened>,
     pub start: Start,
 }
@@ -46,6 +47,7 @@ fn make_call<R: Wait + Clock>(rt: &R, shared: &Shared, passes: &mut Passes, call
             let pass = &mut passes.list[place];
             let monitor = shared.objects[place].monitor();
             let reply = act(rt, &shared.parking, monitor, pass, action);
+            shared.parking.note_reply(pass.seat(), place, reply);
             reply.unrecorded()
         }
         Call::Interrupt(thread) => {
@@ -84,6 +86,7 @@ fn make_round<G: Gate, R: Wait + Clock>(
             return None;
         }
         unrecorded += make_call(rt, shared, passes, *call);
+        shared.parking.note_end(seat, number);
         gate.after(rt, seat, number);
         number += 1;
     }

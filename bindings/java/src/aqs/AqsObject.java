@@ -6,8 +6,8 @@ import java.util.concurrent.TimeUnit;
 /**
  * An object of the library: it records its calls.
  *
- * <p>Each constructor, and each call except `toString` and `isFair`, throws UnsupportedOperationException if
- * a virtual thread makes it. Each call may throw {@link AqsException}, for failures that the JDK's classes
+ * <p>Each constructor, and each call except `toString`, `isFair` and `policy`, throws
+ * UnsupportedOperationException if a virtual thread makes it. Each call may throw {@link AqsException}, for failures that the JDK's classes
  * don't have, or OutOfMemoryError. It throws IllegalStateException if the object is closed. After an
  * exception nothing has changed, unless the call says otherwise.
  */
@@ -15,17 +15,18 @@ public abstract class AqsObject implements AutoCloseable {
     private static final long NANOSECONDS = 1_000_000;
 
     private final int kind;
-    private final boolean fair;
+    private final AqsPolicy policy;
     private final Memory memory;
     private volatile long at;
 
     AqsObject(int kind, int number, AqsOptions how) {
         Callers.check();
         this.kind = kind;
-        fair = how.policy != 0;
+        policy = how.policy;
         boolean hasConditions = kind == Native.LOCK || kind == Native.READ_WRITE;
         int conditions = hasConditions ? how.mostConditions() : how.conditions;
-        at = checked(Native.open(kind, number, how.policy, how.keeps, how.entries, how.threads, conditions));
+        at = checked(Native.open(
+            kind, number, policy.ordinal(), how.keeps, how.entries, how.threads, conditions));
         memory = new Memory(this, kind, at);
     }
 
@@ -55,7 +56,16 @@ public abstract class AqsObject implements AutoCloseable {
      * @return whether the object was opened as fair or strict
      */
     public final boolean isFair() {
-        return fair;
+        return policy != AqsPolicy.NONFAIR;
+    }
+
+    /**
+     * Returns the policy that the object was opened with. A latch ignores it.
+     *
+     * @return which new calls queue up
+     */
+    public final AqsPolicy policy() {
+        return policy;
     }
 
     /**

@@ -4,7 +4,7 @@ package aqs;
 public final class AqsOptions {
     private static final int MOST_CONDITIONS = 16;
 
-    int policy;
+    AqsPolicy policy = AqsPolicy.NONFAIR;
     boolean keeps;
     int entries;
     int threads;
@@ -19,7 +19,7 @@ public final class AqsOptions {
      * @return this
      */
     public AqsOptions fair() {
-        policy = 1;
+        policy = AqsPolicy.FAIR;
         return this;
     }
 
@@ -29,7 +29,7 @@ public final class AqsOptions {
      * @return this
      */
     public AqsOptions strict() {
-        policy = 2;
+        policy = AqsPolicy.STRICT;
         return this;
     }
 

@@ -1,7 +1,11 @@
 package aqs;
 
+import java.io.IOException;
 import java.lang.invoke.MethodHandle;
 import java.lang.ref.WeakReference;
+import java.nio.charset.StandardCharsets;
+import java.nio.file.Files;
+import java.nio.file.Paths;
 import java.util.concurrent.CountDownLatch;
 import java.util.concurrent.TimeUnit;
 import java.util.concurrent.atomic.AtomicInteger;
@@ -174,6 +178,27 @@ final class InsideTest {
         }
     }
 
+    /** The native memory of a history's text is given back: all texts together would be twice what may be left. */
+    static void texts() throws IOException {
+        try (AqsSemaphore permits = new AqsSemaphore(1)) {
+            for (int i = 0; i < 2000; i++) {
+                permits.acquireUninterruptibly();
+                permits.release();
+            }
+            long before = resident();
+            long length = 0;
+            for (int i = 0; i < 20_000; i++) {
+                length += permits.history().length();
+            }
+            check(resident() - before - Runtime.getRuntime().totalMemory() < length / 2);
+        }
+    }
+
+    private static long resident() throws IOException {
+        String pages = new String(Files.readAllBytes(Paths.get("/proc/self/statm")), StandardCharsets.US_ASCII);
+        return Long.parseLong(pages.split(" ")[1]) * 4096;
+    }
+
     /**
      * The question that Thread.isVirtual answers, asked of another method, as not each JDK has virtual
      * threads.
@@ -198,6 +223,7 @@ final class InsideTest {
         racingInterrupts();
         unreachable();
         reachable();
+        texts();
         System.out.println("java, inside: good");
     }
 }

@@ -44,7 +44,7 @@ pub use condvar::{Condvar, WaitTimeoutResult};
 pub use error::Error;
 pub use latch::Latch;
 pub use mutex::{Entry, MappedMutexGuard, Mutex, MutexGuard};
-pub use options::Options;
+pub use options::{Options, Policy};
 pub use rwlock::{MappedReadGuard, MappedWriteGuard, ReadGuard, RwLock, WriteGuard};
 pub use semaphore::{Permits, Semaphore};
 pub use thread::{interrupted, Thread};

@@ -157,6 +157,12 @@ impl<T: ?Sized> Mutex<T> {
         self.raw.is_mine()
     }
 
+    /// How often the calling thread has the value: 1 if it has locked, and else as often as it has entered. It
+    /// records nothing.
+    pub fn holds(&self) -> u32 {
+        self.raw.holds()
+    }
+
     /// The value, which nobody else can reach.
     pub fn get_mut(&mut self) -> &mut T {
         self.value.get_mut()

@@ -1,7 +1,7 @@
 //! What all objects share: how they are opened, their histories, and calls that wait.
 
 use crate::error::{check, must, refused, Error};
-use crate::options::Options;
+use crate::options::{Options, Policy};
 use crate::sys;
 use std::ptr;
 use std::sync::OnceLock;
@@ -82,6 +82,11 @@ impl<K: Kind> Lazy<K> {
         }
     }
 
+    /// The object, if a call has opened it.
+    pub(crate) fn opened(&self) -> Option<*mut K::Raw> {
+        self.handle.get().map(|handle| handle.0)
+    }
+
     #[cold]
     #[track_caller]
     fn open_now(&self) -> *mut K::Raw {
@@ -116,6 +121,12 @@ impl<K: Kind> Lazy<K> {
         // SAFETY: the object is open.
         check(unsafe { sys::aqs_history_trim(K::object(self.get()), &mut count) })?;
         Ok(count)
+    }
+
+    /// The policy that it was opened with.
+    pub(crate) fn policy(&self) -> Policy {
+        // SAFETY: the object is open.
+        Policy::of(unsafe { sys::aqs_object_policy(K::object(self.get())) })
     }
 
     /// How many threads are in the queue.
@@ -154,6 +165,11 @@ macro_rules! calls_of_each_object {
         #[track_caller]
         pub fn waiters(&self) -> u32 {
             self.$($field).+.waiters()
+        }
+
+        /// The policy that it was opened with.
+        pub fn policy(&self) -> crate::Policy {
+            self.$($field).+.policy()
         }
 
         /// The text of the history since the last trim, as `aqs audit` and `aqs draw` read it.

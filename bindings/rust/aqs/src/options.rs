@@ -2,6 +2,27 @@
 
 use crate::sys;
 
+/// Which new calls queue up after those who wait.
+#[derive(Clone, Copy, Debug, PartialEq, Eq)]
+pub enum Policy {
+    /// None: a new call may take what is free before they do.
+    NonFair,
+    /// All but tries without a time.
+    Fair,
+    /// All: a try fails if others wait.
+    Strict,
+}
+
+impl Policy {
+    pub(crate) fn of(number: u32) -> Policy {
+        match number {
+            0 => Policy::NonFair,
+            1 => Policy::Fair,
+            _ => Policy::Strict,
+        }
+    }
+}
+
 /// How an object is opened: not fair, for 256 threads, with 16 conditions, and it trims its history, unless
 /// these calls say otherwise.
 ///
@@ -20,7 +41,14 @@ pub(crate) const CONDITIONS: u8 = 16;
 impl Options {
     /// The defaults.
     pub const fn new() -> Options {
-        Options(sys::Options { policy: 0, when_full: 0, history: 0, threads: 0, conditions: 0 })
+        Options(sys::Options {
+            policy: 0,
+            when_full: 0,
+            history: 0,
+            threads: 0,
+            conditions: 0,
+            heeds_handlers: false,
+        })
     }
 
     /// New calls queue up after those who wait. Tries without a time barge.

@@ -81,6 +81,11 @@ impl RawMutex {
         self.owner.load(Ordering::Relaxed) == me()
     }
 
+    pub(crate) fn holds(&self) -> u32 {
+        // SAFETY: the lock is open.
+        self.lock.opened().map_or(0, |lock| unsafe { sys::aqs_lock_holds(lock) })
+    }
+
     #[track_caller]
     pub(crate) fn is_locked(&self) -> bool {
         let mut is_locked = false;

@@ -53,6 +53,11 @@ impl RawRwLock {
         self.writer.load(Ordering::Relaxed) == me()
     }
 
+    fn read_holds(&self) -> u32 {
+        // SAFETY: the lock is open.
+        self.lock.opened().map_or(0, |lock| unsafe { sys::aqs_rwlock_read_holds(lock) })
+    }
+
     #[track_caller]
     fn is_write_locked(&self) -> bool {
         let mut is_locked = false;
@@ -306,6 +311,16 @@ impl<T: ?Sized> RwLock<T> {
     #[track_caller]
     pub fn is_locked_exclusive(&self) -> bool {
         self.raw.is_write_locked()
+    }
+
+    /// Whether the calling thread writes.
+    pub fn is_mine(&self) -> bool {
+        self.raw.writes()
+    }
+
+    /// How often the calling thread reads. It records nothing.
+    pub fn read_holds(&self) -> u32 {
+        self.raw.read_holds()
     }
 
     /// The value, which nobody else can reach.

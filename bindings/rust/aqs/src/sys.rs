@@ -10,6 +10,7 @@ pub struct Options {
     pub history: u32,
     pub threads: u16,
     pub conditions: u8,
+    pub heeds_handlers: bool,
 }
 
 macro_rules! opaque {
@@ -38,6 +39,7 @@ extern "C" {
     pub fn aqs_lock_timedlock(lock: *mut Lock, milliseconds: u32) -> Status;
     pub fn aqs_lock_trylock(lock: *mut Lock) -> Status;
     pub fn aqs_lock_unlock(lock: *mut Lock) -> Status;
+    pub fn aqs_lock_holds(lock: *mut Lock) -> u32;
     pub fn aqs_lock_is_locked(lock: *mut Lock, is_locked: *mut bool) -> Status;
     pub fn aqs_lock_wait(lock: *mut Lock, condition: u8) -> Status;
     pub fn aqs_lock_wait_interruptibly(lock: *mut Lock, condition: u8) -> Status;
@@ -58,6 +60,7 @@ extern "C" {
     pub fn aqs_rwlock_timedwrlock(lock: *mut RwLock, milliseconds: u32) -> Status;
     pub fn aqs_rwlock_trywrlock(lock: *mut RwLock) -> Status;
     pub fn aqs_rwlock_wrunlock(lock: *mut RwLock) -> Status;
+    pub fn aqs_rwlock_read_holds(lock: *mut RwLock) -> u32;
     pub fn aqs_rwlock_is_write_locked(lock: *mut RwLock, is_locked: *mut bool) -> Status;
     pub fn aqs_rwlock_object(lock: *mut RwLock) -> *mut Object;
 
@@ -81,6 +84,7 @@ extern "C" {
     pub fn aqs_latch_getcount(latch: *mut Latch, count: *mut u32) -> Status;
     pub fn aqs_latch_object(latch: *mut Latch) -> *mut Object;
 
+    pub fn aqs_object_policy(object: *const Object) -> u32;
     pub fn aqs_object_queue_length(object: *mut Object, count: *mut u32) -> Status;
     pub fn aqs_object_waiters(object: *mut Object, count: *mut u32) -> Status;
 

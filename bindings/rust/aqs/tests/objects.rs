@@ -2,7 +2,7 @@
 
 mod support;
 
-use aqs::{interrupted, Condvar, Error, Latch, Mutex, Options, RwLock, Semaphore, Thread};
+use aqs::{interrupted, Condvar, Error, Latch, Mutex, MutexGuard, Options, Policy, RwLock, Semaphore, Thread};
 use std::sync::mpsc::channel;
 use std::time::{Duration, Instant};
 use std::{panic, thread};
@@ -88,6 +88,47 @@ fn who_has_entered_enters_again() {
     drop(two);
     *mutex.lock() += 1;
     assert_eq!(*mutex.enter(), 6);
+}
+
+#[test]
+fn holds_of_a_thread_are_counted() {
+    static NEVER_USED: Mutex<u32> = Mutex::new(0);
+    let mutex = Mutex::with(5, kept()).unwrap();
+    let of_others = || thread::scope(|scope| scope.spawn(|| mutex.holds()).join().unwrap());
+    assert_eq!((NEVER_USED.holds(), mutex.holds()), (0, 0));
+    let (one, two) = (mutex.enter(), mutex.enter());
+    assert_eq!((mutex.holds(), of_others()), (2, 0));
+    drop(one);
+    assert_eq!(mutex.holds(), 1);
+    drop(two);
+    assert_eq!(mutex.holds(), 0);
+    let mut guard = mutex.lock();
+    assert_eq!((mutex.holds(), of_others()), (1, 0));
+    MutexGuard::unlocked(&mut guard, || assert_eq!(mutex.holds(), 0));
+    assert_eq!(mutex.holds(), 1);
+    drop(guard);
+    assert_eq!(mutex.trim(), Ok(8));
+}
+
+#[test]
+fn holds_of_a_reader_are_counted() {
+    static NEVER_USED: RwLock<u32> = RwLock::new(0);
+    let lock = RwLock::with(5, kept()).unwrap();
+    let of_this = || (lock.read_holds(), lock.is_mine());
+    let of_others = || thread::scope(|scope| scope.spawn(of_this).join().unwrap());
+    assert_eq!((NEVER_USED.read_holds(), of_this()), (0, (0, false)));
+    let (one, two) = (lock.read(), lock.try_read().unwrap());
+    assert_eq!((of_this(), of_others()), ((2, false), (0, false)));
+    drop(one);
+    assert_eq!(of_this(), (1, false));
+    drop(two);
+    let writer = lock.write();
+    assert_eq!((of_this(), of_others()), ((0, true), (0, false)));
+    let reader = writer.downgrade();
+    assert_eq!(of_this(), (1, false));
+    drop(reader);
+    assert_eq!(of_this(), (0, false));
+    assert_eq!(lock.trim(), Ok(8));
 }
 
 #[test]
@@ -320,6 +361,21 @@ fn semaphores_and_latches_count_their_queues() {
         latch.count_down();
     });
     assert_eq!(counts(), [0; 4]);
+}
+
+#[test]
+fn each_object_knows_its_policy() {
+    let ways = [
+        (Options::new(), Policy::NonFair),
+        (Options::new().fair(), Policy::Fair),
+        (Options::new().strict(), Policy::Strict),
+    ];
+    for (options, policy) in ways {
+        assert_eq!(Mutex::with(0, options).unwrap().policy(), policy);
+        assert_eq!(RwLock::with(0, options).unwrap().policy(), policy);
+        assert_eq!(Semaphore::with(1, options).unwrap().policy(), policy);
+    }
+    assert_eq!(Mutex::new(0).policy(), Policy::NonFair);
 }
 
 #[test]

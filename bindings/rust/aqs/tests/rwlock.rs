@@ -143,7 +143,9 @@ fn a_downgrade_comes_before_a_waiting_writer() {
     let writer = lock.write();
     thread::scope(|scope| {
         scope.spawn(|| *lock.write() += 1);
-        thread::sleep(SHORT * 5);
+        while lock.queue_length() == 0 {
+            thread::yield_now();
+        }
         let reader = writer.downgrade();
         thread::sleep(SHORT);
         assert_eq!(*reader, 0);

@@ -1,6 +1,7 @@
 //! The buffer, and the two threads at it.
-ghost use Rattle.std.specs.Prelude.{◌≡◌, ◌≤◌, ◌<◌, true, IfOk};
+ghost use Rattle.std.specs.Prelude.{◌≡◌, ◌<◌, true, IfOk};
 ghost use Rattle.history.specs.Object.{is_lock};
+ghost use Rattle.monitor.specs.Calling.{CanCall};
 ghost use Rattle.monitor.specs.Stepping.{IsSame};
 ghost use Rattle.monitor_fronts.specs.Holding.{holds};
 
@@ -78,8 +79,7 @@ fn put_alone<P: Parking, R: Wait + Clock>(
     pass: &mut Pass,
     item: u64,
 ) -> Result<bool, Fault>
-    requires is_of { pass.old.lock ≡ lock.now.monitor.now }
-    requires places { lock.now.monitor.now.header.seats ≤ P.seats parking.now }
+    requires can { CanCall lock.now.monitor.now (P.seats parking.now) pass.old }
     ensures same { IsSame pass.old pass.new }
     ensures keeps { holds pass.new ≡ holds pass.old }
 {
@@ -105,8 +105,7 @@ fn take_alone<P: Parking, R: Wait + Clock>(
     buffer: &Buffer,
     pass: &mut Pass,
 ) -> Result<Option<u64>, Fault>
-    requires is_of { pass.old.lock ≡ lock.now.monitor.now }
-    requires places { lock.now.monitor.now.header.seats ≤ P.seats parking.now }
+    requires can { CanCall lock.now.monitor.now (P.seats parking.now) pass.old }
     ensures same { IsSame pass.old pass.new }
     ensures keeps { holds pass.new ≡ holds pass.old }
 {
@@ -133,8 +132,7 @@ fn put<P: Parking, R: Wait + Clock>(
     pass: &mut Pass,
     item: u64,
 ) -> Result<bool, Fault>
-    requires is_of { pass.old.lock ≡ lock.now.monitor.now }
-    requires places { lock.now.monitor.now.header.seats ≤ P.seats parking.now }
+    requires can { CanCall lock.now.monitor.now (P.seats parking.now) pass.old }
     requires lock { is_lock lock.now.monitor.now.header.object ≡ true }
     ensures same { IsSame pass.old pass.new }
     ensures keeps { holds pass.new ≡ holds pass.old }
@@ -155,8 +153,7 @@ fn take<P: Parking, R: Wait + Clock>(
     buffer: &Buffer,
     pass: &mut Pass,
 ) -> Result<Option<u64>, Fault>
-    requires is_of { pass.old.lock ≡ lock.now.monitor.now }
-    requires places { lock.now.monitor.now.header.seats ≤ P.seats parking.now }
+    requires can { CanCall lock.now.monitor.now (P.seats parking.now) pass.old }
     requires lock { is_lock lock.now.monitor.now.header.object ≡ true }
     ensures same { IsSame pass.old pass.new }
     ensures keeps { holds pass.new ≡ holds pass.old }
@@ -178,8 +175,7 @@ pub fn produce<P: Parking, R: Wait + Clock>(
     pass: Pass,
     items: u64,
 ) -> Result<Pass, Fault>
-    requires is_of { pass.lock ≡ lock.now.monitor.now }
-    requires places { lock.now.monitor.now.header.seats ≤ P.seats parking.now }
+    requires can { CanCall lock.now.monitor.now (P.seats parking.now) pass }
     requires lock { is_lock lock.now.monitor.now.header.object ≡ true }
     ensures { IfOk result (IsSame pass) }
 {
@@ -206,8 +202,7 @@ pub fn consume<P: Parking, R: Wait + Clock>(
     pass: Pass,
     items: u64,
 ) -> Result<(Pass, u64), Fault>
-    requires is_of { pass.lock ≡ lock.now.monitor.now }
-    requires places { lock.now.monitor.now.header.seats ≤ P.seats parking.now }
+    requires can { CanCall lock.now.monitor.now (P.seats parking.now) pass }
     requires lock { is_lock lock.now.monitor.now.header.object ≡ true }
     ensures { IfOk result (λ r. IsSame pass r.0) }
 {

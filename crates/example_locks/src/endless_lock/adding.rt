@@ -1,6 +1,7 @@
 //! The number, and the threads that add to it.
-ghost use Rattle.std.specs.Prelude.{◌≡◌, ◌≤◌, true};
+ghost use Rattle.std.specs.Prelude.{◌≡◌, true};
 ghost use Rattle.history.specs.Object.{is_lock};
+ghost use Rattle.monitor.specs.Calling.{CanCall};
 ghost use Rattle.monitor.specs.Stepping.{IsSame};
 ghost use Rattle.monitor_fronts.specs.Holding.{holds};
 
@@ -54,8 +55,7 @@ fn turn<R: Wait + Clock>(
     sum: &Sum,
     pass: &mut Pass,
 ) -> Result<(), Fault>
-    requires is_of { pass.old.lock ≡ lock.now.monitor.now }
-    requires places { lock.now.monitor.now.header.seats ≤ parking.now }
+    requires can { CanCall lock.now.monitor.now parking.now pass.old }
     requires lock { is_lock lock.now.monitor.now.header.object ≡ true }
     ensures same { IsSame pass.old pass.new }
     ensures keeps { holds pass.new ≡ holds pass.old }
@@ -77,8 +77,7 @@ pub fn work<R: Wait + Clock>(
     pass: Pass,
     turns: u64,
 ) -> Pass
-    requires is_of { pass.lock ≡ lock.now.monitor.now }
-    requires places { lock.now.monitor.now.header.seats ≤ parking.now }
+    requires can { CanCall lock.now.monitor.now parking.now pass }
     requires lock { is_lock lock.now.monitor.now.header.object ≡ true }
     ensures same { IsSame pass result }
     ensures keeps { holds result ≡ holds pass }

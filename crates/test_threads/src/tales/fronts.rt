@@ -124,7 +124,7 @@ const COUNTED: Tale = Tale {
 };
 
 /// A tale of each object.
-static OF_EACH: [Tale; 4] = [LOCKED, WRITTEN, PERMITS, COUNTED];
+pub static OF_EACH: [Tale; 4] = [LOCKED, WRITTEN, PERMITS, COUNTED];
 
 #[test]
 fn each_call_of_each_front_type_and_each_observer_answers(rt: HostRuntime) {

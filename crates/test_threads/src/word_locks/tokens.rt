@@ -86,7 +86,7 @@ pub fn count_now(lock: &WordLock<Notes>, token: &mut Token, seat: u16, of: u16) 
 }
 
 /// Returns whether one token finds the value taken while the other, whose seat is 0, adds an entry.
-fn is_refused_meanwhile<R: Wait>(
+pub fn is_refused_meanwhile<R: Wait>(
     rt: &R,
     lock: &WordLock<Notes>,
     zero: &mut Token,

@@ -9,7 +9,7 @@ returns-clause-stands c =
     subst (λ (w : Option Waiting). StandsBy w c.begin_quietly-turn.new.pass) (sym c.begin_wait.ensures)
     (stands_begun c.args.pass.now c.begin_quietly-turn.new.pass c.in-Some.asked.request c.in-Some.asked.how
     c.args.call.moment c.in-Some.asked.interrupted c.in-Some-turn.turn c.in-Some-turn.ensures.begun
-    c.begin_quietly-turn.ensures.same)
+    c.begin_quietly-turn.ensures.called.same)
 
 pub returns-clause-begun : goal.returns-clause-begun
 returns-clause-begun c =

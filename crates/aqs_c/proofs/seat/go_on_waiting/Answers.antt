@@ -8,4 +8,4 @@ pub returns-clause-stands : goal.returns-clause-stands
 returns-clause-stands c =
     subst (λ (w : Option Waiting). StandsBy w c.go_on_quietly.new.pass) (sym c.waiting_in.ensures)
     (stands_gone c.args.pass.now c.go_on_quietly.new.pass c.args.was c.in-Some.woke c.in-Some-go_on_quietly.turn
-    c.is_true.ensures c.requires.stands c.go_on_quietly.ensures.same c.in-Some-go_on_quietly.ensures.gone_on)
+    c.is_true.ensures c.requires.stands c.go_on_quietly.ensures.called.same c.in-Some-go_on_quietly.ensures.gone_on)

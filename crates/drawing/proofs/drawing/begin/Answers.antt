@@ -6,12 +6,13 @@ use Rattle.drawing.proofs.StretchesFollow.{map_same, not_yet}
 use Rattle.drawing.proofs.drawing.begin.Goals as goal
 
 pub returns : goal.returns
-returns c = λ s header standing numbers.
+returns c = λ s header standing asking numbers.
     record {
       header = sym header;
       begins = refl;
       count = refl;
       standing = standing;
+      asking = asking;
       under_way = c.in_ok-stretches.ensures ∙ ap (λ (k : Header). map (fresh c.args.from) (tracks k))
           (sym header)
           ∙ sym (map_same (stretch s c.args.from []) (fresh c.args.from) (tracks s.header)

@@ -3,7 +3,7 @@ use Rattle.streams.specs.declared.stream_fault.StreamFault.TheVariants.{Memory}
 use Rattle.history.specs.declared.header.Header.{Header}
 use Rattle.history.specs.Base.{Base}
 use Rattle.line_text.proofs.Faults.{err_is}
-use Rattle.driver.specs.AuditText.{audit_text}
+use Rattle.driver.specs.AuditJson.{audit_in}
 use Rattle.driver.specs.HistoryReader.{base_held}
 use Rattle.driver.proofs.Audits.{is_verdict_text}
 use Rattle.driver.proofs.Judging.{base_kept}
@@ -38,7 +38,7 @@ returns-clause-ok g c =
     ap (λ (a : Base). a.header.object) (sym kept)
     ∙ ap (λ (h : Header). h.object) (same ∙ sym c.header.ensures.value) in
     let folded = c.folded-folded.ensures.value ∙ k.folded in
-    is_verdict_text audit_text left b k.entries c.in_ok-judged.judged.judgement c.verdict.result
+    is_verdict_text (audit_in c.args.notation) left b k.entries c.in_ok-judged.judged.judgement c.verdict.result
     c.in_ok-text.text.items (k.is left c.in_ok-entries.ensures.ok) k.judged c.verdict.ensures
     (c.in_ok-text.ensures b k.entries object folded
     (omega (arith, folded, c.count.ensures.value, k.count)) (c.calls.ensures ∙ k.calls) k.judged)

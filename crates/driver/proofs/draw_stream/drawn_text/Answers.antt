@@ -24,5 +24,5 @@ svg_text-requires c =
           (all_short start c.first-from.result (reverse front) turned
           (c.bars_are_the_longest_stretches.ensures start c.first-from.result (reverse front)));
       marks = subst (All IsEarly) (sym c.in_ok-drawn.ensures.marks)
-          (all_early c.first-from.result (reverse front) turned);
+          (all_early start c.first-from.result (reverse front) turned);
     }

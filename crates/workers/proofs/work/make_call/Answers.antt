@@ -17,7 +17,7 @@ returns-in-On-clause-same g c =
     place_below ps c.args.shared.now.objects.items c.in-On.place (search rules) place in
     let here : ps ≡ c.args.passes.now = search rules in
     set_homes ps c.in-On.place _ c.act-reply.new.pass below c.index_mut-pass.ensures.value
-    c.act-reply.ensures.same ∙ ap homes here
+    c.act-reply.ensures.called.same ∙ ap homes here
 
 pub returns-in-On-clause-called : goal.returns-in-On-clause-called
 returns-in-On-clause-called g c =
@@ -34,4 +34,4 @@ returns-in-On-clause-called g c =
     (subst (λ z. IsCalled c.args.call ps z (set ps c.in-On.place c.act-reply.new.pass)) count
     (acts_on c.args.call c.in-On.place c.in-On.action ps _ c.act-reply.new.pass c.act-reply.result
     c.args.shared.now.parking c.in-On.is below c.index_mut-pass.ensures.value c.act-reply.ensures.acted
-    c.act-reply.ensures.same c.act-reply.ensures.shows))
+    c.act-reply.ensures.called.same c.act-reply.ensures.called.shows))

@@ -6,5 +6,5 @@ pub invariant_of-self : goal.invariant_of-self
 invariant_of-self c =
     let looked = c.count_quietly.ensures in
     seat_read (arc_value c.self.inside.monitor) c.self.inside.pass c.count_quietly.new.pass
-    c.self.inside.waiting c.count_quietly.result c.is_true.ensures looked.shows looked.busy looked.looked
+    c.self.inside.waiting c.count_quietly.result c.is_true.ensures looked.busy looked.looked
     c.self.invariant

@@ -17,7 +17,7 @@ use Rattle.history.specs.Sleepers.{sleepers}
 use Rattle.history.specs.Start.{Start}
 use Rattle.drawing.proofs.StretchesFollow.{all_end, all_go_on, none_ends, none_goes_on}
 use Rattle.drawing.specs.Curve.{amount_of, curve, point}
-use Rattle.drawing.specs.Marks.{mark_of, marks, sign_of}
+use Rattle.drawing.specs.Marks.{mark_of, marks, sign_at}
 use Rattle.drawing.proofs.MarksFollow.{no_mark, no_point, one_mark, one_point}
 use Rattle.drawing.proofs.TracksSeated.{stretches_before, stretches_seated}
 use Rattle.drawing.proofs.drawing.Drawing.follow.Goals as goal
@@ -83,10 +83,11 @@ returns-then-number-self c = λ s from h was seat.
       begins = was.begins;
       count = omega (arith, was.count);
       standing = c.in_ok-note.ensures s h was.standing (ap (λ (x : Header). x.object) (sym was.header)) seat;
+      asking = c.note_queued.ensures s h was.asking seat;
       numbers = c.note-2.ensures s h was.numbers;
       under_way = was.under_way ∙ none_goes_on s from e h less;
       ended = was.ended ∙ none_ends s from e h less;
-      marked = was.marked ∙ no_mark from e h less;
+      marked = was.marked ∙ no_mark s from e h less;
       points = was.points ∙ no_point s from e h less;
     }
 
@@ -114,11 +115,15 @@ returns c = λ s from h was seat.
           ∙ ap (λ xs. ended s from h ++ flat_map (ending s (e ∷ h) old.count) xs) was.under_way
           ∙ ap (λ n. ended s from h ++ flat_map (ending s (e ∷ h) n) (stretches s from h)) was.count
           ∙ all_end s from e h drawn;
+      asking = c.note_queued.ensures s h was.asking seat;
       numbers = c.note-2.ensures s h was.numbers;
       marked = c.in_ok-put_mark.ensures
-          ∙ ap (λ xs. xs ++ mark_of old.count e.seat (sign_of e.word e.end)) was.marked
-          ∙ ap (λ n. marks from h ++ mark_of n e.seat (sign_of e.word e.end)) was.count
-          ∙ one_mark from e h drawn;
+          ∙ ap (λ xs. xs ++ mark_of old.count e.seat (sign_at c.barges-is_barging.result e.word e.end)) was.marked
+          ∙ ap (λ n. marks s from h ++ mark_of n e.seat (sign_at c.barges-is_barging.result e.word e.end)) was.count
+          ∙ ap (λ b. marks s from h ++ mark_of (length h) e.seat (sign_at b e.word e.end))
+          (c.barges-is_barging.ensures s h was.standing was.asking
+          (ap (λ (x : Header). x.object) (sym was.header)) seat)
+          ∙ one_mark s from e h drawn;
       points = c.in_ok-put_point.ensures s (e ∷ h) (c.note-2.ensures s h was.numbers)
           (ap (λ (x : Header). x.object) (sym was.header))
           ∙ ap (λ xs. xs ++ point (amount_of old.header.object s (e ∷ h))) was.points
@@ -129,3 +134,11 @@ returns c = λ s from h was seat.
 pub note-requires-2 : goal.note-requires-2
 note-requires-2 c =
     let r = c.requires in (r.start, r.entries, r.drawn.numbers, r.room)
+
+pub note_queued-requires : goal.note_queued-requires
+note_queued-requires c =
+    let r = c.requires in (r.start, r.entries, r.drawn.asking, r.seat)
+
+pub barges-is_barging-requires : goal.barges-is_barging-requires
+barges-is_barging-requires c =
+    let r = c.requires in (r.start, r.entries, r.drawn.standing, r.drawn.asking, r.seat)

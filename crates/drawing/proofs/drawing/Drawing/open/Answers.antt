@@ -7,5 +7,6 @@ pub returns : goal.returns
 returns c =
     let k = c.args.header in
     IfOk-weaker c.begin.result _ _
-    (λ drawing draws. draws (opening k) refl (c.in_ok-standings.ensures k refl) (c.open-2.ensures k refl))
+    (λ drawing draws. draws (opening k) refl (c.in_ok-standings.ensures k refl) (c.in_ok-askers.ensures k refl)
+    (c.open-3.ensures k refl))
     c.begin.ensures

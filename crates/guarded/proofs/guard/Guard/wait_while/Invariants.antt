@@ -1,7 +1,11 @@
 use Rattle.std.proofs.Common.{◌≡◌}
+use Rattle.std.specs.Fn.{FnReturnsAt}
 use Rattle.monitor.specs.Stepping.{IsSame}
+use Rattle.monitor.specs.declared.how.How.TheVariants.{Interruptible}
 use Rattle.monitor_fronts.specs.Holding.{holds}
+use Rattle.guarded.specs.Asking.{CallReturns, awaits}
 use Rattle.guarded.specs.Guarding.{Guards}
+use Rattle.guarded.specs.Waiting.{Waited, WaitsWhile, owner}
 use Rattle.guarded.proofs.guard.Guard.wait_while.Given as goal
 
 abbrev pub invariant-loop : goal.invariant-loop
@@ -11,3 +15,7 @@ invariant-loop g l =
     × (l.self.lock.now ≡ l.fn.self.lock.now) × (l.self.parking.now ≡ l.fn.self.parking.now)
     × Guards l.self.lock.now (g.P.Parking.seats l.self.parking.now) l.self.pass.now l.self.slot
     × IsSame l.fn.self.pass.now l.self.pass.now × (holds l.self.pass.now ≡ holds l.fn.self.pass.now)
+    × Waited
+    (WaitsWhile (FnReturnsAt g.F.Fn l.fn.predicate) (CallReturns l.fn.self.lock.now.when_full
+    (awaits (g.P.Parking.did l.fn.self.parking.now) l.fn.condition Interruptible)))
+    (owner l.fn.self.pass.now l.fn.self.slot) (owner l.self.pass.now l.self.slot)

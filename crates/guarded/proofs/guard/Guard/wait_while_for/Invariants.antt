@@ -1,7 +1,10 @@
 use Rattle.std.proofs.Common.{◌≡◌}
+use Rattle.std.specs.Fn.{FnReturnsAt}
+use Rattle.monitor.specs.Acquire.{moment_after}
 use Rattle.monitor.specs.Stepping.{IsSame}
 use Rattle.monitor_fronts.specs.Holding.{holds}
 use Rattle.guarded.specs.Guarding.{Guards}
+use Rattle.guarded.specs.Waiting.{AwaitsUntil, Waited, WaitsWhile, owner}
 use Rattle.guarded.proofs.guard.Guard.wait_while_for.Given as goal
 
 abbrev pub invariant-loop : goal.invariant-loop
@@ -11,3 +14,7 @@ invariant-loop g l =
     × (l.self.lock.now ≡ l.fn.self.lock.now) × (l.self.parking.now ≡ l.fn.self.parking.now)
     × Guards l.self.lock.now (g.P.Parking.seats l.self.parking.now) l.self.pass.now l.self.slot
     × IsSame l.fn.self.pass.now l.self.pass.now × (holds l.self.pass.now ≡ holds l.fn.self.pass.now)
+    × Waited
+    (WaitsWhile (FnReturnsAt g.F.Fn l.fn.predicate) (AwaitsUntil (g.P.Parking.did l.fn.self.parking.now)
+    l.fn.self.lock.now.when_full l.fn.condition (moment_after l.begun l.fn.ms)))
+    (owner l.fn.self.pass.now l.fn.self.slot) (owner l.self.pass.now l.self.slot)

@@ -1,31 +1,23 @@
-use Rattle.history.specs.declared.entry.Mode.TheVariants.{X}
-use Rattle.history.specs.declared.step.Step.TheVariants.{Try}
-use Rattle.monitor_fronts.proofs.MakingRoom.{steps_begin}
 use Rattle.guarded.proofs.Calling.{call_gains, is_of_lock}
 use Rattle.guarded.proofs.mutex.Mutex.call.Goals as goal
 
 pub returns-in-Acquire-clause-gains : goal.returns-in-Acquire-clause-gains
 returns-in-Acquire-clause-gains g c =
     call_gains (g.P.Parking.did c.args.parking.now) c.self.inside.when_full c.args.asked _ c.args.pass.now
-    c.acquire_when_full.new.pass c.acquire_when_full.result c.in-Acquire.is
-    (is_of_lock c.self.view_is c.self.invariant c.requires.is_of)
-    c.acquire_when_full.ensures.same c.acquire_when_full.ensures.acquired
-
-pub returns-in-Try-clause-begins : goal.returns-in-Try-clause-begins
-returns-in-Try-clause-begins g c =
-    steps_begin c.self.inside.when_full (g.P.Parking.did c.args.parking.now) (Try X 1) c.args.pass.now
-    c.enter_when_full.new.pass c.enter_when_full.result c.enter_when_full.ensures.entered
+    c.acquire_with.new.pass c.acquire_with.result c.in-Acquire.is
+    (is_of_lock c.self.view_is c.self.invariant c.requires.can.is_of)
+    c.acquire_with.ensures.called.same c.acquire_with.ensures.acquired
 
 pub returns-in-Try-clause-gains : goal.returns-in-Try-clause-gains
 returns-in-Try-clause-gains g c =
     call_gains (g.P.Parking.did c.args.parking.now) c.self.inside.when_full c.args.asked _ c.args.pass.now
-    c.enter_when_full.new.pass c.enter_when_full.result c.in-Try.is
-    (is_of_lock c.self.view_is c.self.invariant c.requires.is_of)
-    c.enter_when_full.ensures.same c.enter_when_full.ensures.entered
+    c.enter.new.pass c.enter.result c.in-Try.is
+    (is_of_lock c.self.view_is c.self.invariant c.requires.can.is_of)
+    c.enter.ensures.called.same c.enter.ensures.entered
 
 pub returns-in-Await-clause-gains : goal.returns-in-Await-clause-gains
 returns-in-Await-clause-gains g c =
     call_gains (g.P.Parking.did c.args.parking.now) c.self.inside.when_full c.args.asked _ c.args.pass.now
-    c.await_when_full.new.pass c.await_when_full.result c.in-Await.is
-    (is_of_lock c.self.view_is c.self.invariant c.requires.is_of)
-    c.await_when_full.ensures.same c.await_when_full.ensures.awaited
+    c.await_on_with.new.pass c.await_on_with.result c.in-Await.is
+    (is_of_lock c.self.view_is c.self.invariant c.requires.can.is_of)
+    c.await_on_with.ensures.called.same c.await_on_with.ensures.awaited

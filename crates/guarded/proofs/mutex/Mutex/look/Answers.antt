@@ -6,7 +6,8 @@ pub unreachable-requires : goal.unreachable-requires
 unreachable-requires g c =
     let look = c.look_with-seen.ensures in
     let on = looks_on c.args.pass.now c.look_with-seen.new.pass look.looked in
-    value_lies c.look_with-seen.new.pass look.saw.0 look.shows (subst (λ (n : ℕ). 0 < n) (sym on.0) c.requires.reads)
+    value_lies c.look_with-seen.new.pass look.saw.0 look.looked.shows
+    (subst (λ (n : ℕ). 0 < n) (sym on.0) c.requires.reads)
     (on.1 ∙ c.requires.writes_not) look.saw.1 (sym look.saw.2.2 ∙ look.saw.2.1.1 c.in-None.is)
 
 pub returns-clause-saw : goal.returns-clause-saw

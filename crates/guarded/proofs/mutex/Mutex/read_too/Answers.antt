@@ -9,7 +9,7 @@ returns-clause-guards g c =
     let reading = c.start_reading.ensures in
     let some : 0 < holds c.start_reading.new.pass =
     subst (λ (n : ℕ). 0 < n) (sym reading.gains.writes) was.some in record {
-      lock = reading.same.lock ∙ was.lock;
+      lock = reading.called.same.lock ∙ was.lock;
       places = was.places;
       some = some;
       there = has_value (holds c.start_reading.new.pass) c.start_reading.new.slot reading.carries some;

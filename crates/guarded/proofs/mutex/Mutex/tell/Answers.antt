@@ -7,10 +7,10 @@ pub returns-then-all-clause-keeps : goal.returns-then-all-clause-keeps
 returns-then-all-clause-keeps g c =
     signals_keep c.self.inside.when_full (g.P.Parking.did c.args.parking.now) (SignalAll c.args.condition)
     c.args.pass.now c.signal_all_when_full.new.pass c.signal_all_when_full.result
-    c.signal_all_when_full.ensures.same c.signal_all_when_full.ensures.signalled refl
+    c.signal_all_when_full.ensures.called.same c.signal_all_when_full.ensures.signalled refl
 
 pub returns-else-all-clause-keeps : goal.returns-else-all-clause-keeps
 returns-else-all-clause-keeps g c =
     signals_keep c.self.inside.when_full (g.P.Parking.did c.args.parking.now) (Signal c.args.condition)
     c.args.pass.now c.signal_when_full.new.pass c.signal_when_full.result
-    c.signal_when_full.ensures.same c.signal_when_full.ensures.signalled refl
+    c.signal_when_full.ensures.called.same c.signal_when_full.ensures.signalled refl

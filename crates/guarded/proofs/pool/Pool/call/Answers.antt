@@ -1,24 +1,21 @@
 use Rattle.std.proofs.Common.{◌∙◌, ap}
-use Rattle.history.specs.declared.entry.Mode.TheVariants.{S}
-use Rattle.history.specs.declared.step.Step.TheVariants.{Give, Try}
 use Rattle.monitor_fronts.specs.Returned.{whether_of}
-use Rattle.monitor_fronts.proofs.MakingRoom.{steps_begin}
 use Rattle.guarded.specs.inner.Pooling.{brought_by}
 use Rattle.guarded.proofs.Fetching.{Ends, call_ends, is_of_semaphore}
 use Rattle.guarded.proofs.pool.Pool.call.Goals as goal
 
-pub acquire_when_full-requires-clause-brings : goal.acquire_when_full-requires-clause-brings
-acquire_when_full-requires-clause-brings g c = c.requires.brings ∙ ap brought_by c.in-Acquire.is
+pub acquire_with-requires-clause-brings : goal.acquire_with-requires-clause-brings
+acquire_with-requires-clause-brings g c = c.requires.brings ∙ ap brought_by c.in-Acquire.is
 
-acquired : (g : _) (c : goal.After-acquire_when_full g) →
-    Ends c.args.asked (whether_of c.acquire_when_full.result) c.args.shelf.now c.acquire_when_full.new.load
+acquired : (g : _) (c : goal.After-acquire_with g) →
+    Ends c.args.asked (whether_of c.acquire_with.result) c.args.shelf.now c.acquire_with.new.load
 acquired g c =
     call_ends (g.P.Parking.did c.args.parking.now) c.self.inside.when_full c.args.asked _ c.args.pass.now
-    c.acquire_when_full.new.pass c.acquire_when_full.result c.args.shelf.now
-    c.acquire_when_full.new.load c.in-Acquire.is
-    (is_of_semaphore c.self.view_is c.self.invariant c.requires.is_of) c.requires.brings
-    c.acquire_when_full.ensures.same c.acquire_when_full.ensures.shows
-    c.acquire_when_full.ensures.acquired c.acquire_when_full.ensures.moves
+    c.acquire_with.new.pass c.acquire_with.result c.args.shelf.now
+    c.acquire_with.new.load c.in-Acquire.is
+    (is_of_semaphore c.self.view_is c.self.invariant c.requires.can.is_of) c.requires.brings
+    c.acquire_with.ensures.called.same c.acquire_with.ensures.called.shows
+    c.acquire_with.ensures.acquired c.acquire_with.ensures.moves
 
 pub returns-in-Acquire-clause-answers : goal.returns-in-Acquire-clause-answers
 returns-in-Acquire-clause-answers g c = (acquired g c).answers
@@ -29,23 +26,18 @@ returns-in-Acquire-clause-has g c = (acquired g c).has
 pub returns-in-Acquire-clause-keeps : goal.returns-in-Acquire-clause-keeps
 returns-in-Acquire-clause-keeps g c = (acquired g c).keeps
 
-pub enter_when_full-requires-clause-brings : goal.enter_when_full-requires-clause-brings
-enter_when_full-requires-clause-brings g c = c.requires.brings ∙ ap brought_by c.in-Try.is
+pub enter-requires-clause-brings : goal.enter-requires-clause-brings
+enter-requires-clause-brings g c = c.requires.brings ∙ ap brought_by c.in-Try.is
 
-tried : (g : _) (c : goal.After-enter_when_full g) →
-    Ends c.args.asked (whether_of c.enter_when_full.result) c.args.shelf.now c.enter_when_full.new.load
+tried : (g : _) (c : goal.After-enter g) →
+    Ends c.args.asked (whether_of c.enter.result) c.args.shelf.now c.enter.new.load
 tried g c =
     call_ends (g.P.Parking.did c.args.parking.now) c.self.inside.when_full c.args.asked _ c.args.pass.now
-    c.enter_when_full.new.pass c.enter_when_full.result c.args.shelf.now
-    c.enter_when_full.new.load c.in-Try.is
-    (is_of_semaphore c.self.view_is c.self.invariant c.requires.is_of) c.requires.brings
-    c.enter_when_full.ensures.same c.enter_when_full.ensures.shows
-    c.enter_when_full.ensures.entered c.enter_when_full.ensures.moves
-
-pub returns-in-Try-clause-begins : goal.returns-in-Try-clause-begins
-returns-in-Try-clause-begins g c =
-    steps_begin c.self.inside.when_full (g.P.Parking.did c.args.parking.now) (Try S c.in-Try.n) c.args.pass.now
-    c.enter_when_full.new.pass c.enter_when_full.result c.enter_when_full.ensures.entered
+    c.enter.new.pass c.enter.result c.args.shelf.now
+    c.enter.new.load c.in-Try.is
+    (is_of_semaphore c.self.view_is c.self.invariant c.requires.can.is_of) c.requires.brings
+    c.enter.ensures.called.same c.enter.ensures.called.shows
+    c.enter.ensures.entered c.enter.ensures.moves
 
 pub returns-in-Try-clause-answers : goal.returns-in-Try-clause-answers
 returns-in-Try-clause-answers g c = (tried g c).answers
@@ -56,25 +48,19 @@ returns-in-Try-clause-has g c = (tried g c).has
 pub returns-in-Try-clause-keeps : goal.returns-in-Try-clause-keeps
 returns-in-Try-clause-keeps g c = (tried g c).keeps
 
-pub enter_when_full-requires-in-Release-clause-brings : goal.enter_when_full-requires-in-Release-clause-brings
-enter_when_full-requires-in-Release-clause-brings g c = c.requires.brings ∙ ap brought_by c.in-Release.is
+pub enter-requires-in-Release-clause-brings : goal.enter-requires-in-Release-clause-brings
+enter-requires-in-Release-clause-brings g c = c.requires.brings ∙ ap brought_by c.in-Release.is
 
-released : (g : _) (c : goal.After-enter_when_full-in-Release g) →
-    Ends c.args.asked (whether_of c.enter_when_full-in-Release.result) c.args.shelf.now
-    c.enter_when_full-in-Release.new.load
+released : (g : _) (c : goal.After-enter-in-Release g) →
+    Ends c.args.asked (whether_of c.enter-in-Release.result) c.args.shelf.now
+    c.enter-in-Release.new.load
 released g c =
     call_ends (g.P.Parking.did c.args.parking.now) c.self.inside.when_full c.args.asked _ c.args.pass.now
-    c.enter_when_full-in-Release.new.pass c.enter_when_full-in-Release.result c.args.shelf.now
-    c.enter_when_full-in-Release.new.load c.in-Release.is
-    (is_of_semaphore c.self.view_is c.self.invariant c.requires.is_of) c.requires.brings
-    c.enter_when_full-in-Release.ensures.same c.enter_when_full-in-Release.ensures.shows
-    c.enter_when_full-in-Release.ensures.entered c.enter_when_full-in-Release.ensures.moves
-
-pub returns-in-Release-clause-begins : goal.returns-in-Release-clause-begins
-returns-in-Release-clause-begins g c =
-    steps_begin c.self.inside.when_full (g.P.Parking.did c.args.parking.now) (Give S c.in-Release.n) c.args.pass.now
-    c.enter_when_full-in-Release.new.pass c.enter_when_full-in-Release.result
-    c.enter_when_full-in-Release.ensures.entered
+    c.enter-in-Release.new.pass c.enter-in-Release.result c.args.shelf.now
+    c.enter-in-Release.new.load c.in-Release.is
+    (is_of_semaphore c.self.view_is c.self.invariant c.requires.can.is_of) c.requires.brings
+    c.enter-in-Release.ensures.called.same c.enter-in-Release.ensures.called.shows
+    c.enter-in-Release.ensures.entered c.enter-in-Release.ensures.moves
 
 pub returns-in-Release-clause-answers : goal.returns-in-Release-clause-answers
 returns-in-Release-clause-answers g c = (released g c).answers

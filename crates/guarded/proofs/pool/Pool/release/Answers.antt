@@ -29,7 +29,7 @@ returns-in-Ok-true-clause-returned g c =
     let is : c.whether.result ≡ Ok true = search rules in (
       c.call-reply.result,
       subst (λ (n : ℕ). gives_back (g.P.Parking.did c.args.parking.now) n c.args.self.now.when_full
-          c.args.pass.now c.call-reply.result c.call-reply.new.pass) c.len-n.ensures.value c.call-reply.ensures.called,
+          c.args.pass.now c.call-reply.result c.call-reply.new.pass) c.len-n.ensures.value c.call-reply.ensures.made,
       sym is ∙ c.whether.ensures,
     )
 
@@ -37,6 +37,6 @@ pub returns-in-Err-clause-returned : goal.returns-in-Err-clause-returned
 returns-in-Err-clause-returned g c = (
   c.call-reply.result,
   subst (λ (n : ℕ). gives_back (g.P.Parking.did c.args.parking.now) n c.args.self.now.when_full
-      c.args.pass.now c.call-reply.result c.call-reply.new.pass) c.len-n.ensures.value c.call-reply.ensures.called,
+      c.args.pass.now c.call-reply.result c.call-reply.new.pass) c.len-n.ensures.value c.call-reply.ensures.made,
   sym c.in-Err.is ∙ c.whether.ensures,
 )

@@ -1,10 +1,10 @@
 use Rattle.std.proofs.Common.{inl, inr, refl}
-use Rattle.word_lock.proofs.PointLaws.{before_refl}
+use Rattle.monitor.proofs.Sections.{not_called}
 use Rattle.guarded.proofs.Fetching.{same_item}
 use Rattle.guarded.proofs.pool.Pool.release_one.Goals as goal
 
-pub returns-in-Err-clause-begins : goal.returns-in-Err-clause-begins
-returns-in-Err-clause-begins g c = before_refl c.args.pass.now.seen
+pub returns-in-Err-clause-called : goal.returns-in-Err-clause-called
+returns-in-Err-clause-called g c = not_called c.args.pass.now c.is_true.ensures
 
 pub returns-in-Err-clause-returned : goal.returns-in-Err-clause-returned
 returns-in-Err-clause-returned g c = inr (refl, refl)

@@ -1,11 +1,11 @@
 use Rattle.std.proofs.Common.{refl, sym}
-use Rattle.word_lock.proofs.PointLaws.{before_trans}
+use Rattle.monitor.proofs.Sections.{called_since}
 use Rattle.guarded.proofs.pool.Pool.with_item.Goals as goal
 
-pub returns-in-Ok-release_one-clause-begins : goal.returns-in-Ok-release_one-clause-begins
-returns-in-Ok-release_one-clause-begins g c =
-    before_trans c.args.pass.now.seen c.acquire_one.new.pass.seen c.release_one.new.pass.seen
-    c.acquire_one.ensures.begins c.release_one.ensures.begins
+pub returns-in-Ok-release_one-clause-called : goal.returns-in-Ok-release_one-clause-called
+returns-in-Ok-release_one-clause-called g c =
+    called_since c.args.pass.now c.acquire_one.new.pass c.release_one.new.pass c.acquire_one.ensures.called
+    c.release_one.ensures.called
 
 pub returns-in-Ok-release_one-clause-lent : goal.returns-in-Ok-release_one-clause-lent
 returns-in-Ok-release_one-clause-lent g c =
@@ -18,10 +18,10 @@ returns-in-Ok-release_one-clause-lent g c =
       released = c.in-Ok-release_one.ensures.returned;
     }
 
-pub returns-in-Err-release_one-clause-begins : goal.returns-in-Err-release_one-clause-begins
-returns-in-Err-release_one-clause-begins g c =
-    before_trans c.args.pass.now.seen c.acquire_one.new.pass.seen c.release_one.new.pass.seen
-    c.acquire_one.ensures.begins c.release_one.ensures.begins
+pub returns-in-Err-release_one-clause-called : goal.returns-in-Err-release_one-clause-called
+returns-in-Err-release_one-clause-called g c =
+    called_since c.args.pass.now c.acquire_one.new.pass c.release_one.new.pass c.acquire_one.ensures.called
+    c.release_one.ensures.called
 
 pub returns-in-Err-release_one-clause-lent : goal.returns-in-Err-release_one-clause-lent
 returns-in-Err-release_one-clause-lent g c =

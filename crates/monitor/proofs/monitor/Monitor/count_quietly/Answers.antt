@@ -18,6 +18,3 @@ invariant_of-pass-2 g c = (looked g c).pass
 
 pub returns-clause-looked : goal.returns-clause-looked
 returns-clause-looked g c = rw (← c.pass.view_is) ((looked g c).is)
-
-pub returns-clause-shows : goal.returns-clause-shows
-returns-clause-shows g c = (looked g c).shows

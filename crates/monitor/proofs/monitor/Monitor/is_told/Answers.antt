@@ -35,9 +35,6 @@ invariant_of-pass g c = (looked g c).pass
 pub returns-clause-looked : goal.returns-clause-looked
 returns-clause-looked g c = rw (← c.pass.view_is) ((looked g c).is)
 
-pub returns-clause-shows : goal.returns-clause-shows
-returns-clause-shows g c = (looked g c).shows
-
 -- the mark that the core has
 mark_of : (g : _) (c : goal.After-unlock g) →
     c.is_told-is_told.result ≡ marks_of c.lock-held.result.value.laden.value.core c.args.seat

@@ -22,9 +22,6 @@ invariant_of-pass g c = (looked g c).pass
 pub returns-clause-looked : goal.returns-clause-looked
 returns-clause-looked g c = rw (← c.pass.view_is) ((looked g c).is)
 
-pub returns-clause-shows : goal.returns-clause-shows
-returns-clause-shows g c = (looked g c).shows
-
 pub returns-clause-saw : goal.returns-clause-saw
 returns-clause-saw g c =
     let load = c.lock-held.result.value.laden.value.load in (

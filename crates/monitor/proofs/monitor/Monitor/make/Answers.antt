@@ -1,5 +1,4 @@
 use Rattle.std.proofs.Common.{rules, ◌≡◌, ◌≤◌, ◌∙◌, false, None, Ok, ℕ, ap, sym, subst}
-use Rattle.word_lock.proofs.PointLaws.{before_trans}
 use Rattle.word_lock.specs.Ticket.{LockId}
 use Rattle.monitor.specs.Acquire.{WasNotInterrupted}
 use Rattle.history.specs.declared.entry.Entry.{Entry}
@@ -16,7 +15,8 @@ use Rattle.monitor.specs.declared.machine.Waiting.{Waiting}
 use Rattle.monitor.proofs.Acquiring.{found_none, found_one}
 use Rattle.monitor.proofs.FastWay.{made_at_once}
 use Rattle.monitor.proofs.Freeing.{brings_still, moves_since, stays}
-use Rattle.monitor.proofs.RoomTurns.{after_in, awake_in, begun_after_in, ends_in, place_first_in, place_in, same_at, step_in_as, waited_in, waits_from}
+use Rattle.monitor.proofs.RoomTurns.{awake_in, ends_in, place_first_in, place_in, same_at, step_in_as, waited_in, waits_from}
+use Rattle.monitor.proofs.Sections.{called_since}
 use Rattle.monitor.proofs.TurnByTurn.{Begins, begun_free, begun_waits, may_wait, step_gives_none, waits_now}
 use Rattle.monitor.proofs.monitor.Monitor.make.Goals.{After-first_turn-turn, After-unpark-in-Otherwise, In-Done}
 use Rattle.monitor.proofs.monitor.Monitor.make.Goals as goal
@@ -49,23 +49,20 @@ pub unpark-requires-in-Otherwise : goal.unpark-requires-in-Otherwise
 unpark-requires-in-Otherwise g c =
     let seats = g.P.Parking.seats c.args.parking.now in
     let lock : c.step_first.new.pass.lock ≡ c.args.self.now =
-    c.step_first.ensures.same.lock ∙ c.requires.is_of in
+    c.step_first.ensures.called.same.lock ∙ c.requires.can.is_of in
     place_first_in c.args.when_full c.args.pass.now c.step_first.new.pass c.args.request c.args.how
-    c.moment-moment.result _ c.first_turn-turn.result seats (begun_so g (goal.at.unpark-requires-in-Otherwise g c).After-first_turn-turn)
-    c.step_first.ensures.shows
-    (subst (λ (l : LockId). l.header.seats ≤ seats) (sym lock) c.requires.places)
-
-pub returns-in-Ends-clause-begins : goal.returns-in-Ends-clause-begins
-returns-in-Ends-clause-begins g c =
-    begun_after_in c.args.when_full c.args.pass.now c.step_first.new.pass c.args.request c.args.how
-    c.moment-moment.result _ c.first_turn-turn.result (begun_so g (goal.at.returns-in-Ends-clause-begins g c).After-first_turn-turn)
+    c.moment-moment.result _ c.first_turn-turn.result seats
+    (begun_so g (goal.at.unpark-requires-in-Otherwise g c).After-first_turn-turn)
+    c.step_first.ensures.called.shows
+    (subst (λ (l : LockId). l.header.seats ≤ seats) (sym lock) c.requires.can.places)
 
 pub returns-in-Ends-clause-made : goal.returns-in-Ends-clause-made
 returns-in-Ends-clause-made g c =
     ends_in c.args.when_full (g.P.Parking.did c.args.parking.now) c.args.pass.now c.step_first.new.pass
     c.args.request c.args.how c.moment-moment.result c.first_turn-turn.result c.in-Ends.reply _
     (none g (goal.at.returns-in-Ends-clause-made g c).After-first_turn-turn)
-    (begun_so g (goal.at.returns-in-Ends-clause-made g c).After-first_turn-turn) c.unpark-in-Otherwise.ensures c.in-Ends.is
+    (begun_so g (goal.at.returns-in-Ends-clause-made g c).After-first_turn-turn) c.unpark-in-Otherwise.ensures
+    c.in-Ends.is
 
 -- where the call began, and with what it waits
 began : (g : _) (c : After-unpark-in-Otherwise g) (w : Waiting) →
@@ -90,7 +87,7 @@ wait-requires-clause-waits g c =
     (begun_so g (goal.at.wait-requires-clause-waits g c).After-first_turn-turn) c.in-Waits.is in
     waits_now (g.P.Parking.did c.args.parking.now) (at_point c.args.pass.now x.0) c.step_first.new.pass
     c.args.request c.args.how (none g (goal.at.wait-requires-clause-waits g c).After-first_turn-turn) x.1.0
-    (same_at c.args.pass.now c.step_first.new.pass x.0 c.step_first.ensures.same)
+    (same_at c.args.pass.now c.step_first.new.pass x.0 c.step_first.ensures.called.same)
 
 pub wait-requires-clause-first : goal.wait-requires-clause-first
 wait-requires-clause-first g c =
@@ -100,20 +97,18 @@ wait-requires-clause-first g c =
     (may_wait (g.P.Parking.did c.args.parking.now) c.args.request c.args.how c.moment-moment.result
     c.moment-moment.ensures)
 
-pub returns-in-Waits-clause-begins : goal.returns-in-Waits-clause-begins
-returns-in-Waits-clause-begins g c =
-    before_trans c.args.pass.now.seen c.step_first.new.pass.seen c.wait.new.pass.seen
-    (begun_after_in c.args.when_full c.args.pass.now c.step_first.new.pass c.args.request c.args.how
-    c.moment-moment.result _ c.first_turn-turn.result (begun_so g (goal.at.returns-in-Waits-clause-begins g c).After-first_turn-turn))
-    c.wait.ensures.begins
+pub returns-in-Waits-clause-called : goal.returns-in-Waits-clause-called
+returns-in-Waits-clause-called g c =
+    called_since c.args.pass.now c.step_first.new.pass c.wait.new.pass c.step_first.ensures.called c.wait.ensures.called
 
 pub returns-in-Waits-clause-made : goal.returns-in-Waits-clause-made
 returns-in-Waits-clause-made g c =
     waited_in c.args.when_full (g.P.Parking.did c.args.parking.now) c.args.pass.now c.step_first.new.pass
     c.args.request c.args.how c.moment-moment.result c.first_turn-turn.result c.wait.new.pass
     c.in-Waits.waiting c.wait.result (none g (goal.at.returns-in-Waits-clause-made g c).After-first_turn-turn)
-    (begun_so g (goal.at.returns-in-Waits-clause-made g c).After-first_turn-turn) c.unpark-in-Otherwise.ensures c.in-Waits.is c.step_first.ensures.same
-    c.step_first.ensures.shows c.moment-moment.ensures c.wait.ensures.begins c.wait.ensures.waited
+    (begun_so g (goal.at.returns-in-Waits-clause-made g c).After-first_turn-turn) c.unpark-in-Otherwise.ensures
+    c.in-Waits.is c.step_first.ensures.called.same
+    c.step_first.ensures.called.shows c.moment-moment.ensures c.wait.ensures.called.begins c.wait.ensures.waited
 
 pub wait-requires-clause-brings : goal.wait-requires-clause-brings
 wait-requires-clause-brings g c =
@@ -121,7 +116,7 @@ wait-requires-clause-brings g c =
     (begun_so g (goal.at.wait-requires-clause-brings g c).After-first_turn-turn) c.in-Waits.is in
     let same = begun_free (g.P.Parking.did c.args.parking.now) (at_point c.args.pass.now x.0)
     c.step_first.new.pass c.args.request c.args.how
-    (same_at c.args.pass.now c.step_first.new.pass x.0 c.step_first.ensures.same) x.1.0 in
+    (same_at c.args.pass.now c.step_first.new.pass x.0 c.step_first.ensures.called.same) x.1.0 in
     brings_still g.L.Load.is_counted g.L.Load.amount c.args.load.now c.step_first.new.load 0
     (stays g.L.Load.is_counted g.L.Load.amount c.args.load.now c.step_first.new.load
     (free_of c.args.pass.now) (free_of c.step_first.new.pass) same c.step_first.ensures.moves)
@@ -133,7 +128,7 @@ returns-in-Waits-clause-moves g c =
     (begun_so g (goal.at.returns-in-Waits-clause-moves g c).After-first_turn-turn) c.in-Waits.is in
     let same = begun_free (g.P.Parking.did c.args.parking.now) (at_point c.args.pass.now x.0)
     c.step_first.new.pass c.args.request c.args.how
-    (same_at c.args.pass.now c.step_first.new.pass x.0 c.step_first.ensures.same) x.1.0 in
+    (same_at c.args.pass.now c.step_first.new.pass x.0 c.step_first.ensures.called.same) x.1.0 in
     moves_since g.L.Load.is_counted g.L.Load.amount c.args.load.now c.step_first.new.load c.wait.new.load
     (free_of c.args.pass.now) (free_of c.step_first.new.pass) (free_of c.wait.new.pass)
     (stays g.L.Load.is_counted g.L.Load.amount c.args.load.now c.step_first.new.load
@@ -165,17 +160,12 @@ done_so g c =
 pub unpark-requires : goal.unpark-requires
 unpark-requires g c =
     let seats = g.P.Parking.seats c.args.parking.now in
-    let lock : c.step_first.new.pass.lock ≡ c.args.self.now = c.step_first.ensures.same.lock ∙ c.requires.is_of in
+    let lock : c.step_first.new.pass.lock ≡ c.args.self.now =
+    c.step_first.ensures.called.same.lock ∙ c.requires.can.is_of in
     place_in c.args.when_full c.args.pass.now c.step_first.new.pass (step_by c.args.request c.args.how false)
     (Ok (Recorded (entry_at_once c.args.pass.now.seat (step_by c.args.request c.args.how false)) c.in-Done.named))
-    seats (done_so g (goal.at.unpark-requires g c).In-Done) c.step_first.ensures.shows
-    (subst (λ (l : LockId). l.header.seats ≤ seats) (sym lock) c.requires.places)
-
-pub returns-in-Done-clause-begins : goal.returns-in-Done-clause-begins
-returns-in-Done-clause-begins g c =
-    after_in c.args.when_full c.args.pass.now c.step-step.result
-    (Ok (Recorded (entry_at_once c.args.pass.now.seat c.step-step.result) c.in-Done.named)) c.step_first.new.pass
-    c.in-Done.ensures.stepped
+    seats (done_so g (goal.at.unpark-requires g c).In-Done) c.step_first.ensures.called.shows
+    (subst (λ (l : LockId). l.header.seats ≤ seats) (sym lock) c.requires.can.places)
 
 pub returns-in-Done-clause-made : goal.returns-in-Done-clause-made
 returns-in-Done-clause-made g c =
@@ -185,7 +175,7 @@ returns-in-Done-clause-made g c =
     subst (λ (e : Entry). IsCallIn c.args.when_full did c.args.pass.now c.args.request c.args.how (Ok e)
     c.step_first.new.pass)
     (sym (c.entry_at_once.ensures
-    ∙ (ap (λ i. entry_at_once i c.step-step.result) (c.seat.ensures ∙ c.step_first.ensures.same.seat)
+    ∙ (ap (λ i. entry_at_once i c.step-step.result) (c.seat.ensures ∙ c.step_first.ensures.called.same.seat)
     ∙ ap (entry_at_once c.args.pass.now.seat) c.step-step.ensures)))
     (made_at_once c.args.when_full did c.args.pass.now c.step_first.new.pass c.args.request c.args.how c.in-Done.named
     (found_none did c.args.pass.now.seat c.args.how c.at_entry.result c.at_entry.ensures.asked is)

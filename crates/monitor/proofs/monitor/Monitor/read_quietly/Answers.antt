@@ -22,9 +22,6 @@ invariant_of-pass-2 g c = (looked g c).pass
 pub returns-clause-looked : goal.returns-clause-looked
 returns-clause-looked g c = rw (← c.pass.view_is) ((looked g c).is)
 
-pub returns-clause-shows : goal.returns-clause-shows
-returns-clause-shows g c = (looked g c).shows
-
 pub returns-clause-saw : goal.returns-clause-saw
 returns-clause-saw g c =
     let core = ap point_of c.core.ensures in

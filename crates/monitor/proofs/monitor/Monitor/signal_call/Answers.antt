@@ -6,10 +6,10 @@ use Rattle.monitor.proofs.monitor.Monitor.signal_call.Goals as goal
 pub unpark-requires : goal.unpark-requires
 unpark-requires g c =
     let seats = g.P.Parking.seats c.args.parking.now in
-    let lock : c.signal_step_when_full-told.new.pass.lock ≡ c.args.self.now =
-    c.signal_step_when_full-told.ensures.same.lock ∙ c.requires.is_of in
+    let lock : c.signal_step-told.new.pass.lock ≡ c.args.self.now =
+    c.signal_step-told.ensures.called.same.lock ∙ c.requires.can.is_of in
     subst (λ z. IfSome z (λ j. j < seats)) (sym c.named_in.ensures)
-    (place_in c.args.when_full c.args.pass.now c.signal_step_when_full-told.new.pass c.args.step
-    c.signal_step_when_full-told.result seats c.signal_step_when_full-told.ensures.stepped
-    c.signal_step_when_full-told.ensures.shows
-    (subst (λ (l : LockId). l.header.seats ≤ seats) (sym lock) c.requires.places))
+    (place_in c.args.when_full c.args.pass.now c.signal_step-told.new.pass c.args.step
+    c.signal_step-told.result seats c.signal_step-told.ensures.stepped
+    c.signal_step-told.ensures.called.shows
+    (subst (λ (l : LockId). l.header.seats ≤ seats) (sym lock) c.requires.can.places))

@@ -1,42 +1,37 @@
+use Rattle.std.proofs.Common.{subst}
 use Rattle.word_lock.specs.Held.{held_ticket}
-use Rattle.monitor.specs.Lawful.{point_of}
-use Rattle.monitor.specs.Shown.{IsSound, shown}
-use Rattle.monitor.proofs.Sections.{Section, owed_shown, section_pass, section_step, section_true}
-use Rattle.monitor.proofs.Taking.{follows_made, seat_taken, section_of, share_fits}
+use Rattle.monitor.specs.Calling.{Called}
+use Rattle.monitor.specs.Room.{IsStepIn}
+use Rattle.monitor.specs.Shown.{Shown, shown}
+use Rattle.monitor.specs.inner.Sections.{Taking}
+use Rattle.monitor.proofs.monitor.Monitor.signal_step.Goals.{After-lock-held}
 use Rattle.monitor.proofs.monitor.Monitor.signal_step.Goals as goal
 
-pub signal-answer-requires-clause-seat : goal.signal-answer-requires-clause-seat
-signal-answer-requires-clause-seat g c =
-    seat_taken c.pass.inside.token _ _ _ _ c.pass.inside.share _ c.pass.invariant c.lock-held.ensures.fact.0
-    c.lock-held.ensures.header c.self.view_is c.requires.is_of c.pass.view_is
-
-pub unlock-requires-clause-follows : goal.unlock-requires-clause-follows
-unlock-requires-clause-follows g c =
-    follows_made c.pass.inside.token _ c.lock-held.result.value.laden.value.core _ _ c.pass.inside.share
-    c.args.step _ c.lock-held.ensures.taken.1 c.pass.invariant c.lock-held.ensures.fact.0
-    c.signal-answer.ensures.kept c.signal-answer.ensures.answered
-
-pub share_behind-pass-inside-requires : goal.share_behind-pass-inside-requires
-share_behind-pass-inside-requires g c = share_fits _ _ _ c.pass.invariant
-
-went : (g : _) (c : goal.After-pass-1 g) → Section c.pass.inside.token (held_ticket c.lock-held.result)
-    c.unlock.new.token (point_of c.lock-held.result.value.laden.value.core)
-    (point_of c.signal-answer.new.self.laden.value.core) c.pass.inside.seat c.pass.inside.share c.args.step
-    c.signal-answer.result
-went g c =
+took : (g : _) (c : After-lock-held g) → Taking c.pass.inside.token (held_ticket c.lock-held.result)
+    c.lock-held.result.value.laden.value.core c.pass.inside.seat c.pass.inside.share
+took g c =
     let e = c.lock-held.ensures in
-    let s = c.signal-answer.ensures in
-    section_of _ _ c.lock-held.result.value.laden.value.core c.signal-answer.new.self.laden.value.core _ _ _ _ _
-    e.taken.1 c.unlock.ensures.token c.pass.invariant e.begins e.entries e.fact.0 s.kept s.answered s.told
+    record { taken = e.taken.1; was = c.pass.invariant; begins = e.begins; entries = e.entries; kept = e.fact.0 }
+
+pub signal_taken-answer-requires-clause-taken : goal.signal_taken-answer-requires-clause-taken
+signal_taken-answer-requires-clause-taken g c =
+    (c.pass.inside.token, took g (goal.at.signal_taken-answer-requires-clause-taken g c).After-lock-held)
 
 pub invariant_of-pass : goal.invariant_of-pass
-invariant_of-pass g c = section_pass _ _ _ _ _ _ _ _ _ (went g c) _ c.share_behind-pass-inside.ensures
+invariant_of-pass g c =
+    (c.signal_taken-answer.ensures.went c.pass.inside.token
+    (took g (goal.at.invariant_of-pass g c).After-lock-held)).pass
+
+pub returns-clause-called : goal.returns-clause-called
+returns-clause-called g c =
+    subst (λ (s : Shown). Called s (shown c.signal_taken-answer.new.token c.pass.inside.seat
+    c.signal_taken-answer.new.share))
+    c.pass.view_is (c.signal_taken-answer.ensures.went c.pass.inside.token
+    (took g (goal.at.returns-clause-called g c).After-lock-held)).called
 
 pub returns-clause-stepped : goal.returns-clause-stepped
 returns-clause-stepped g c =
-    rw (← c.pass.view_is) (section_step _ _ _ _ _ _ _ _ _ (went g c) _
-    (owed_shown c.lock-held.result.value.laden.value.core c.pass.inside.seat c.args.step c.signal-answer.result
-    c.lock-held.ensures.fact.0 c.signal-answer.ensures.owed))
-
-pub returns-clause-shows : goal.returns-clause-shows
-returns-clause-shows g c = section_true _ _ _ _ _ _ _ _ _ (went g c) _ c.share_behind-pass-inside.ensures
+    subst (λ (s : Shown). IsStepIn c.args.when_full s c.args.step c.signal_taken-answer.result
+    (shown c.signal_taken-answer.new.token c.pass.inside.seat c.signal_taken-answer.new.share))
+    c.pass.view_is (c.signal_taken-answer.ensures.went c.pass.inside.token
+    (took g (goal.at.returns-clause-stepped g c).After-lock-held)).stepped

@@ -3,6 +3,7 @@ use Rattle.monitor.specs.Load.{free_of}
 use Rattle.monitor.specs.Room.{IsStepIn}
 use Rattle.monitor.specs.Shown.{Shown}
 use Rattle.monitor.proofs.Freeing.{brings_still, moves_since}
+use Rattle.monitor.proofs.Sections.{called_since}
 use Rattle.monitor.proofs.monitor.Monitor.step_first.Goals as goal
 
 pub step_later-requires-clause-brings : goal.step_later-requires-clause-brings
@@ -20,3 +21,8 @@ returns-in-Busy-clause-moves g c =
     moves_since g.L.Load.is_counted g.L.Load.amount c.args.load.now c.step_at_once.new.load c.step_later.new.load
     (free_of c.args.pass.now) (free_of c.step_at_once.new.pass) (free_of c.step_later.new.pass)
     (λ _. c.in-Busy.ensures.busy tt) (ap free_of c.in-Busy.ensures.stepped) c.step_later.ensures.moves
+
+pub returns-in-Busy-clause-called : goal.returns-in-Busy-clause-called
+returns-in-Busy-clause-called g c =
+    called_since c.args.pass.now c.step_at_once.new.pass c.step_later.new.pass c.step_at_once.ensures.called
+    c.step_later.ensures.called

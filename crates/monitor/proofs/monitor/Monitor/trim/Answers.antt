@@ -1,6 +1,6 @@
 use Rattle.word_lock.specs.Held.{held_ticket}
 use Rattle.monitor.specs.Lawful.{point_of}
-use Rattle.monitor.proofs.Trims.{Trim, follows_trimmed, trim_is, trim_of, trim_pass, trim_true}
+use Rattle.monitor.proofs.Trims.{Trim, follows_trimmed, trim_called, trim_is, trim_of, trim_pass}
 use Rattle.monitor.proofs.monitor.Monitor.trim.Goals as goal
 
 pub unlock-requires-clause-follows : goal.unlock-requires-clause-follows
@@ -24,5 +24,5 @@ invariant_of-pass g c = trim_pass _ _ _ _ _ _ _ _ (trims g c)
 pub returns-clause-trimmed : goal.returns-clause-trimmed
 returns-clause-trimmed g c = rw (← c.pass.view_is) (trim_is _ _ _ _ _ _ _ _ (trims g c))
 
-pub returns-clause-shows : goal.returns-clause-shows
-returns-clause-shows g c = trim_true _ _ _ _ _ _ _ _ (trims g c)
+pub returns-clause-called : goal.returns-clause-called
+returns-clause-called g c = rw (← c.pass.view_is) (trim_called _ _ _ _ _ _ _ _ (trims g c))

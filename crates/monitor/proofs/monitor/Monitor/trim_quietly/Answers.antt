@@ -1,6 +1,11 @@
+use Rattle.std.proofs.Common.{rules, ◌≡◌, subst, sym}
 use Rattle.word_lock.specs.Held.{held_ticket}
+use Rattle.word_lock.specs.Ticket.{Ticket}
+use Rattle.monitor.specs.Calling.{Called}
 use Rattle.monitor.specs.Lawful.{point_of}
-use Rattle.monitor.proofs.Trims.{Trim, follows_trimmed, trim_is, trim_of, trim_pass, trim_true}
+use Rattle.monitor.specs.Shown.{Shown, shown}
+use Rattle.monitor.proofs.Sections.{not_called}
+use Rattle.monitor.proofs.Trims.{Trim, follows_trimmed, trim_called, trim_is, trim_of, trim_pass}
 use Rattle.monitor.proofs.monitor.Monitor.trim_quietly.Goals as goal
 
 pub unlock_quietly-requires-clause-follows : goal.unlock_quietly-requires-clause-follows
@@ -24,5 +29,12 @@ invariant_of-pass-2 g c = trim_pass _ _ _ _ _ _ _ _ (trims g c)
 pub returns-clause-trimmed : goal.returns-clause-trimmed
 returns-clause-trimmed g c = rw (← c.pass.view_is) (trim_is _ _ _ _ _ _ _ _ (trims g c))
 
-pub returns-clause-shows : goal.returns-clause-shows
-returns-clause-shows g c = trim_true _ _ _ _ _ _ _ _ (trims g c)
+pub returns-clause-called : goal.returns-clause-called
+returns-clause-called g c = rw (← c.pass.view_is) (trim_called _ _ _ _ _ _ _ _ (trims g c))
+
+pub returns-in_default-clause-called : goal.returns-in_default-clause-called
+returns-in_default-clause-called g c =
+    let same : c.lock_now.new.token ≡ c.pass.inside.token = search rules in
+    subst (λ (s : Shown). Called s (shown c.lock_now.new.token c.pass.inside.seat c.pass.inside.share)) c.pass.view_is
+    (subst (λ (t : Ticket). Called (shown c.pass.inside.token c.pass.inside.seat c.pass.inside.share)
+    (shown t c.pass.inside.seat c.pass.inside.share)) (sym same) (not_called _ c.pass.invariant.shows))

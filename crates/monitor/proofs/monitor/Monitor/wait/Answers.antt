@@ -7,7 +7,8 @@ use Rattle.monitor.specs.Machine.{step_of_waiting}
 use Rattle.monitor.specs.Waits.{ComesOf}
 use Rattle.monitor.proofs.StillWaiting.{AllStillWait}
 use Rattle.monitor.proofs.Freeing.{brings_still, moves_since, stays}
-use Rattle.monitor.proofs.TurnByTurn.{all_still_free, is_noted, later, place_later, replies, waits_on}
+use Rattle.monitor.proofs.Sections.{called_since, not_called}
+use Rattle.monitor.proofs.TurnByTurn.{all_still_free, is_noted, place_later, replies, waits_on}
 use Rattle.monitor.proofs.Turns.{all_still_as, waits_first}
 use Rattle.monitor.proofs.monitor.Monitor.wait.Goals.{After-go_on-turn}
 use Rattle.monitor.proofs.monitor.Monitor.wait.Goals as goal
@@ -22,6 +23,7 @@ loop-init g c = (
   c.none-interrupts.ensures.seat ∙ c.seat.ensures,
   c.requires.carries,
   λ _. refl,
+  not_called c.args.pass.now c.is_true.ensures,
 )
 
 pub go_on-turn-requires-clause-brings : goal.go_on-turn-requires-clause-brings
@@ -38,8 +40,8 @@ unpark-requires g c =
     let seats = g.P.Parking.seats c.args.parking.now in
     let lock : c.go_on-turn.new.pass.lock ≡ c.args.self.now = search rules in
     place_later c.loop.pass c.go_on-turn.new.pass c.loop.waiting c.next_woke-woke.result c.go_on-turn.result seats
-    c.go_on-turn.ensures.gone_on c.go_on-turn.ensures.shows
-    (subst (λ (l : LockId). l.header.seats ≤ seats) (sym lock) c.requires.places)
+    c.go_on-turn.ensures.gone_on c.go_on-turn.ensures.called.shows
+    (subst (λ (l : LockId). l.header.seats ≤ seats) (sym lock) c.requires.can.places)
 
 -- what the step comes of
 comes : (g : _) (c : After-go_on-turn g) →
@@ -66,14 +68,9 @@ noted g c =
     is_noted c.loop.waiting.limits c.loop.waiting.stage c.next_woke-woke.result (taken g c)
     c.next_woke-woke.ensures.noted
 
-pub returns-in-Ends-clause-begins : goal.returns-in-Ends-clause-begins
-returns-in-Ends-clause-begins g c =
-    let at = (goal.at.returns-in-Ends-clause-begins g c).After-go_on-turn in
-    later (g.P.Parking.did c.args.parking.now) c.args.pass.now c.loop.pass c.go_on-turn.new.pass
-    c.args.waiting.stage c.args.waiting.limits (taken g at) c.loop.waiting c.next_woke-woke.result
-    c.go_on-turn.result c.requires.waits c.requires.first (still g at) c.loop.invariant.3
-    (comes g at) (noted g at) c.go_on-turn.ensures.same
-    c.go_on-turn.ensures.gone_on c.unpark.ensures
+pub returns-in-Ends-clause-called : goal.returns-in-Ends-clause-called
+returns-in-Ends-clause-called g c =
+    called_since c.args.pass.now c.loop.pass c.go_on-turn.new.pass c.loop.invariant.7 c.go_on-turn.ensures.called
 
 pub returns-in-Ends-clause-waited : goal.returns-in-Ends-clause-waited
 returns-in-Ends-clause-waited g c =
@@ -81,7 +78,7 @@ returns-in-Ends-clause-waited g c =
     replies (g.P.Parking.did c.args.parking.now) c.args.pass.now c.loop.pass c.go_on-turn.new.pass
     c.args.waiting.stage c.args.waiting.limits (taken g at) c.loop.waiting c.next_woke-woke.result
     c.go_on-turn.result c.requires.waits c.requires.first (still g at) c.loop.invariant.3
-    (comes g at) (noted g at) c.go_on-turn.ensures.same
+    (comes g at) (noted g at) c.go_on-turn.ensures.called.same
     c.go_on-turn.ensures.gone_on c.unpark.ensures c.in-Ends.reply _ c.in-Ends.is
     (λ was untold. subst (λ i. g.P.Parking.did c.args.parking.now (interrupted i))
     (c.next_woke-woke.ensures.seat ∙ c.loop.invariant.4) (c.settle.ensures.again was untold))
@@ -100,8 +97,8 @@ loop-preserved g c =
     let x = waits_on (g.P.Parking.did c.args.parking.now) c.args.pass.now c.loop.pass c.go_on-turn.new.pass
     c.args.waiting.stage c.args.waiting.limits (taken g at) c.loop.waiting c.next_woke-woke.result
     c.go_on-turn.result c.requires.waits c.requires.first (still g at) c.loop.invariant.3
-    (comes g at) (noted g at) c.go_on-turn.ensures.same
-    c.go_on-turn.ensures.gone_on c.unpark.ensures c.in-Waits.next c.go_on-turn.ensures.shows c.in-Waits.is in
+    (comes g at) (noted g at) c.go_on-turn.ensures.called.same
+    c.go_on-turn.ensures.gone_on c.unpark.ensures c.in-Waits.next c.go_on-turn.ensures.called.shows c.in-Waits.is in
     let free = all_still_free (g.P.Parking.did c.args.parking.now) c.args.pass.now c.args.waiting.stage
     c.args.waiting.limits in
     let same = free (taken g at) c.go_on-turn.new.pass c.in-Waits.next.stage c.requires.waits x.0
@@ -117,4 +114,5 @@ loop-preserved g c =
           stays g.L.Load.is_counted g.L.Load.amount c.loop.load c.go_on-turn.new.load (free_of c.loop.pass)
           (free_of c.go_on-turn.new.pass) same c.go_on-turn.ensures.moves counted
           ∙ c.loop.invariant.6 counted,
+      called_since c.args.pass.now c.loop.pass c.go_on-turn.new.pass c.loop.invariant.7 c.go_on-turn.ensures.called,
     )

@@ -1,8 +1,10 @@
 use Rattle.std.proofs.Common.{subst}
-use Rattle.frame.specs.Core.{CoreView, IsTold}
+use Rattle.frame.specs.Core.{CoreView}
+use Rattle.monitor.specs.inner.CoreSteps.{IsCoreStepBy, Unmoved}
 use Rattle.monitor.proofs.under_lock.UnderLock.signal.Goals as goal
 
-pub returns-clause-told : goal.returns-clause-told
-returns-clause-told g c =
-    subst (λ (v : CoreView). IsTold v c.args.seat c.signal_laden.result c.signal_laden.new.laden.core)
-    (λ d. (c.deref_mut.ensures.value d).core) c.signal_laden.ensures.told
+pub returns-clause-stepped : goal.returns-clause-stepped
+returns-clause-stepped g c =
+    subst (λ (v : CoreView). IsCoreStepBy c.args.when_full Unmoved v c.args.seat c.args.step c.signal_laden_by.result
+    c.signal_laden_by.new.laden.core)
+    (λ d. (c.deref_mut.ensures.value d).core) c.signal_laden_by.ensures.stepped

@@ -4,5 +4,5 @@ use Rattle.monitor_fronts.proofs.lock.ReentrantLock.acquire_as.Goals as goal
 pub returns-clause-gains : goal.returns-clause-gains
 returns-clause-gains g c =
     acquires_gain c.args.self.now.when_full (g.P.Parking.did c.args.parking.now) c.args.how c.args.pass.now
-    c.acquire_when_full.new.pass c.acquire_when_full.result c.acquire_when_full.ensures.same
-    c.acquire_when_full.ensures.acquired
+    c.acquire_with.new.pass c.acquire_with.result c.acquire_with.ensures.called.same
+    c.acquire_with.ensures.acquired

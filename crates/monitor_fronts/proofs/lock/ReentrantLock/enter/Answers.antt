@@ -1,19 +1,14 @@
-use Rattle.monitor_fronts.proofs.MakingRoom.{signals_keep, steps_begin, tries_gain}
+use Rattle.monitor_fronts.proofs.MakingRoom.{signals_keep, tries_gain}
 use Rattle.monitor_fronts.proofs.lock.ReentrantLock.enter.Goals as goal
-
-pub returns-clause-begins : goal.returns-clause-begins
-returns-clause-begins g c =
-    steps_begin c.args.self.now.when_full (g.P.Parking.did c.args.parking.now) c.args.step c.args.pass.now
-    c.enter_when_full.new.pass c.enter_when_full.result c.enter_when_full.ensures.entered
 
 pub returns-clause-gains : goal.returns-clause-gains
 returns-clause-gains g c =
     tries_gain c.args.self.now.when_full (g.P.Parking.did c.args.parking.now) c.args.step c.args.pass.now
-    c.enter_when_full.new.pass c.enter_when_full.result c.enter_when_full.ensures.same
-    c.enter_when_full.ensures.entered
+    c.enter.new.pass c.enter.result c.enter.ensures.called.same
+    c.enter.ensures.entered
 
 pub returns-clause-keeps : goal.returns-clause-keeps
 returns-clause-keeps g c =
     signals_keep c.args.self.now.when_full (g.P.Parking.did c.args.parking.now) c.args.step c.args.pass.now
-    c.enter_when_full.new.pass c.enter_when_full.result c.enter_when_full.ensures.same
-    c.enter_when_full.ensures.entered
+    c.enter.new.pass c.enter.result c.enter.ensures.called.same
+    c.enter.ensures.entered

@@ -7,4 +7,4 @@ pub returns-clause-gains : goal.returns-clause-gains
 returns-clause-gains g c =
     untimed_adds c.args.self.now.when_full (g.P.Parking.did c.args.parking.now) X Plain
     c.args.pass.now c.acquire_as.new.pass c.acquire_as.result _ (λ t. t)
-    c.acquire_as.ensures.same c.acquire_as.ensures.acquired c.done.ensures c.acquire_as.ensures.gains
+    c.acquire_as.ensures.called.same c.acquire_as.ensures.acquired c.done.ensures c.acquire_as.ensures.gains

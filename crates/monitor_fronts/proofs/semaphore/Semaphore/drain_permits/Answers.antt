@@ -9,10 +9,10 @@ returns-clause-takes g c =
     subst (λ (drained : Result ℕ Fault). DrainsPermits c.args.pass.now drained c.enter.new.pass)
     (sym c.number.ensures)
     (drains_take c.args.self.now.when_full (g.P.Parking.did c.args.parking.now) c.args.pass.now c.enter.new.pass
-    c.enter.result c.enter.ensures.same c.enter.ensures.entered)
+    c.enter.result c.enter.ensures.called.same c.enter.ensures.entered)
 
 pub returns-clause-free : goal.returns-clause-free
 returns-clause-free g c =
     subst (λ (drained : Result ℕ Fault). DrainsFree c.args.pass.now drained c.enter.new.pass) (sym c.number.ensures)
     (drains_take_free c.args.self.now.when_full (g.P.Parking.did c.args.parking.now) c.args.pass.now
-    c.enter.new.pass c.enter.result c.enter.ensures.same c.enter.ensures.entered)
+    c.enter.new.pass c.enter.result c.enter.ensures.called.same c.enter.ensures.entered)

@@ -9,11 +9,11 @@ returns-clause-takes g c =
     subst (λ (told : Result Bool Fault). TakesPermits c.args.n c.args.pass.now told c.enter.new.pass)
     (sym c.whether.ensures)
     (tries_take c.args.self.now.when_full (g.P.Parking.did c.args.parking.now) c.args.n c.args.pass.now
-    c.enter.new.pass c.enter.result c.enter.ensures.same c.enter.ensures.entered)
+    c.enter.new.pass c.enter.result c.enter.ensures.called.same c.enter.ensures.entered)
 
 pub returns-clause-free : goal.returns-clause-free
 returns-clause-free g c =
     subst (λ (told : Result Bool Fault). TakesFree c.args.n c.args.pass.now told c.enter.new.pass)
     (sym c.whether.ensures)
     (tries_take_free c.args.self.now.when_full (g.P.Parking.did c.args.parking.now) c.args.n c.args.pass.now
-    c.enter.new.pass c.enter.result c.enter.ensures.same c.enter.ensures.shows c.enter.ensures.entered)
+    c.enter.new.pass c.enter.result c.enter.ensures.called.same c.enter.ensures.called.shows c.enter.ensures.entered)

@@ -10,7 +10,7 @@ returns-clause-takes g c =
     subst (λ (told : Result Bool Fault). TakesPermits c.args.n c.args.pass.now told c.acquire_as.new.pass)
     (sym c.whether.ensures)
     (acquires_take c.args.self.now.when_full (g.P.Parking.did c.args.parking.now) c.args.n (Timed c.args.ms)
-    c.args.pass.now c.acquire_as.new.pass c.acquire_as.result c.acquire_as.ensures.same
+    c.args.pass.now c.acquire_as.new.pass c.acquire_as.result c.acquire_as.ensures.called.same
     c.acquire_as.ensures.acquired)
 
 pub returns-clause-free : goal.returns-clause-free
@@ -18,5 +18,6 @@ returns-clause-free g c =
     subst (λ (told : Result Bool Fault). TakesFree c.args.n c.args.pass.now told c.acquire_as.new.pass)
     (sym c.whether.ensures)
     (acquires_take_free c.args.self.now.when_full (g.P.Parking.did c.args.parking.now) c.args.n (Timed c.args.ms)
-    c.args.pass.now c.acquire_as.new.pass c.acquire_as.result c.acquire_as.ensures.same c.acquire_as.ensures.shows
+    c.args.pass.now c.acquire_as.new.pass c.acquire_as.result c.acquire_as.ensures.called.same
+    c.acquire_as.ensures.called.shows
     c.acquire_as.ensures.acquired)

@@ -1,0 +1,15 @@
+-- Acquires that pass a waiter.
+use Rattle.std.specs.Prelude.{ℕ, zero, suc, nat_lt, Bool, List}
+use Rattle.history.specs.declared.entry.Entry.{Entry}
+use Rattle.history.specs.Start.{Start}
+use Rattle.summing.specs.Counting.{more}
+use Rattle.summing.specs.Passing.{is_passed}
+
+-- how many of the first n seats an entry passes, as a summary counts it
+abbrev pub passes : Start → Entry → List Entry → ℕ → ℕ
+passes s e h zero = 0
+passes s e h (suc i) = more (passes s e h i) (is_passed s e h i)
+
+-- an entry barges if it passes a seat
+abbrev pub barges : Start → Entry → List Entry → Bool
+barges s e h = nat_lt 0 (passes s e h s.header.seats)

@@ -1,0 +1,26 @@
+use Rattle.std.proofs.Common.{subst, ℕ, sym, ap, ◌∙◌}
+use Rattle.monitor.specs.Load.{Brings, given_by}
+use Rattle.monitor.proofs.RoomTurns.{awake_in, step_in_as}
+use Rattle.monitor.proofs.TurnByTurn.{step_gives_none}
+use Rattle.monitor.proofs.monitor.Monitor.begin.Goals as goal
+
+pub first_turn-requires : goal.first_turn-requires
+first_turn-requires g c =
+    awake_in c.args.when_full c.args.pass.now c.step_with-answer.new.pass c.args.request c.args.how
+    c.args.interrupted c.step_with-answer.result
+    (step_in_as c.args.when_full c.args.pass.now c.step_with-answer.new.pass c.step-step.result _ _
+    c.step-step.ensures c.step_with-answer.ensures.stepped)
+
+pub returns-clause-begun : goal.returns-clause-begun
+returns-clause-begun g c = (
+  c.step_with-answer.result,
+  step_in_as c.args.when_full c.args.pass.now c.step_with-answer.new.pass c.step-step.result _ _
+      c.step-step.ensures c.step_with-answer.ensures.stepped,
+  c.first_turn.ensures,
+)
+
+pub step_with-answer-requires-clause-brings : goal.step_with-answer-requires-clause-brings
+step_with-answer-requires-clause-brings g c =
+    subst (λ (n : ℕ). Brings g.L.Load.is_counted (g.L.Load.amount c.args.load.now) n)
+    (sym (ap given_by c.step-step.ensures ∙ step_gives_none c.args.request c.args.how c.args.interrupted))
+    c.requires.brings

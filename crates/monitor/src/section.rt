@@ -1,0 +1,79 @@
+//! The sections of the lock in which a seat makes a step.
+//!
+//! There are three ways to take the object: to wait for it, to take it if nobody has it, and to do so in a
+//! program where nobody waits, and so nobody is woken either. What is done between the object is taken and it
+//! is put back is the same for all of them, and stands here.
+ghost use Rattle.std.specs.Prelude.{◌≡◌, false, true};
+ghost use Rattle.frame.specs.Core.{counts_of};
+ghost use Rattle.monitor.specs.Load.{Brings, Moves, free_of, given_by, holds_of};
+ghost use Rattle.monitor.specs.Shown.{shown};
+ghost use Rattle.monitor.specs.inner.Load.{is_signal};
+ghost use Rattle.monitor.specs.inner.Sections.{Taking, Went};
+ghost use Rattle.word_lock.specs.Held.{held_ticket};
+ghost use Rattle.word_lock.specs.Ticket.{Ticket};
+
+use crate::load::Load;
+use crate::pass::share_behind;
+use crate::room::WhenFull;
+use crate::under_lock::UnderLock;
+use frame::hooks::Hooks;
+use history::fault::Fault;
+use history::step::{Answer, Step};
+use word_lock::{Held, Token, WordLock};
+
+// Makes a step of the seat with the object that its token took, and puts the object back. `when_full` says
+// what it does if the history is full. It wakes nobody.
+pub(crate) fn step_taken<H: Hooks + Drop, L: Load>(
+    lock: &WordLock<UnderLock<H, L>>,
+    token: &mut Token,
+    seat: u16,
+    share: &mut u64,
+    load: &mut L,
+    held: Held<UnderLock<H, L>>,
+    step: Step,
+    when_full: WhenFull,
+) -> Result<Answer, Fault>
+    requires own { (held_ticket held).lock ≡ lock.now }
+    requires without { token.old.free ≡ false }
+    requires taken { (t : Ticket) × Taking t (held_ticket held) held.value.laden.value.core seat share.old
+        × L.carries load.old (holds_of (shown t seat share.old)) }
+    requires rests { L.rests held.value.laden.value.load (counts_of held.value.laden.value.core) }
+    requires brings { Brings L.is_counted (L.amount load.old) (given_by step) }
+    ensures went { (t : Ticket) → Taking t (held_ticket held) held.value.laden.value.core seat share.old
+        → Went when_full t token.new seat share.old share.new step result }
+    ensures carries { L.carries load.new (holds_of (shown token.new seat share.new)) }
+    ensures moves { (t : Ticket) → Taking t (held_ticket held) held.value.laden.value.core seat share.old
+        → Moves L.is_counted L.amount load.old (free_of (shown t seat share.old))
+        load.new (free_of (shown token.new seat share.new)) }
+{
+    let mut held = held;
+    let answer = held.value.step(seat, step, load, when_full);
+    lock.unlock_quietly(token, held);
+    *share = share_behind(*share, &answer);
+    answer
+}
+
+// The same for a signal. It changes nobody's holds, so the load stays where it is.
+pub(crate) fn signal_taken<H: Hooks + Drop, L: Load>(
+    lock: &WordLock<UnderLock<H, L>>,
+    token: &mut Token,
+    seat: u16,
+    share: &mut u64,
+    held: Held<UnderLock<H, L>>,
+    step: Step,
+    when_full: WhenFull,
+) -> Result<Answer, Fault>
+    requires own { (held_ticket held).lock ≡ lock.now }
+    requires without { token.old.free ≡ false }
+    requires taken { (t : Ticket) × Taking t (held_ticket held) held.value.laden.value.core seat share.old }
+    requires rests { L.rests held.value.laden.value.load (counts_of held.value.laden.value.core) }
+    requires signals { is_signal step ≡ true }
+    ensures went { (t : Ticket) → Taking t (held_ticket held) held.value.laden.value.core seat share.old
+        → Went when_full t token.new seat share.old share.new step result }
+{
+    let mut held = held;
+    let told = held.value.signal(seat, step, when_full);
+    lock.unlock_quietly(token, held);
+    *share = share_behind(*share, &told);
+    told
+}

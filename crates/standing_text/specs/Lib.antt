@@ -1,0 +1,5 @@
+pub mod Waiting
+pub mod Lines
+pub mod Circle
+pub mod StandingText
+pub mod inner

@@ -1,0 +1,28 @@
+-- What a run for a limited time leaves.
+use Rattle.std.specs.Prelude.{◌≡◌, ℕ, List, length}
+use Rattle.script.specs.Script.{ScriptView, WorkerView}
+use Rattle.standing_text.specs.StandingText.{IsStandingText}
+use Rattle.tasks.specs.declared.fault.Fault.{Fault}
+use Rattle.tasks.specs.declared.fault.Fault.TheVariants.{Usage, BadFrom, BadTo, BadAt, BadRunOption, Memory, Stream, Script, Run}
+use Rattle.tasks.specs.declared.timed.Timed.{Timed}
+use Rattle.tasks.specs.declared.timed.Timed.TheVariants.{Ended, Late}
+use Rattle.tasks.specs.Ran.{IsFaultOfThreads}
+use Rattle.workers.specs.declared.standing.Standing.{Standing}
+
+-- what its threads left, or the text of how each of them stood
+abbrev pub IsTimed : ℕ → ScriptView → Timed → Type 0
+IsTimed ms s (Ended ran) = ran.script ≡ s
+IsTimed ms s (Late text) =
+    (ts : List Standing) × (length ts ≡ length s.workers) × IsStandingText ms s ts text.items
+
+-- as without a limit, or memory lacks for the text
+abbrev pub IsFaultOfTimed : List WorkerView → Fault → Type 0
+IsFaultOfTimed ws Memory = Unit {0}
+IsFaultOfTimed ws (Run fault) = IsFaultOfThreads ws (Run fault)
+IsFaultOfTimed ws (Stream fault) = ⊥
+IsFaultOfTimed ws (Script fault) = ⊥
+IsFaultOfTimed ws Usage = ⊥
+IsFaultOfTimed ws BadFrom = ⊥
+IsFaultOfTimed ws BadTo = ⊥
+IsFaultOfTimed ws BadAt = ⊥
+IsFaultOfTimed ws (BadRunOption option) = ⊥
