@@ -18,7 +18,7 @@ import re
 import sys
 from collections import namedtuple
 
-from items import FUNCTION, signature
+from items import FUNCTION, header_end, signature
 
 ROOT = pathlib.Path(__file__).resolve().parent.parent
 WORD = r"[^\s(){},.;:\[\]⟨⟩`]+"
@@ -100,8 +100,8 @@ def cited(text, is_program):
     lines, found, at, is_public = text.split("\n"), set(), 0, False
     while at < len(lines):
         line = lines[at]
-        if not line.startswith((" ", "}")) and line:
-            is_public = bool(OF_A_TRAIT.match(line))
+        if not line.startswith((" ", "}", ">")) and line:
+            is_public = bool(OF_A_TRAIT.match(" ".join(lines[at : header_end(lines, at) + 1])))
         function = FUNCTION.match(line)
         if function and (function[2] or is_public or is_program):
             found |= names(signature(lines, at))

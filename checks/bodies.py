@@ -12,10 +12,10 @@ from kit import rt
 
 FOLDER = "wrong-bodies"
 EDIT = re.compile(r"[A-Za-z0-9_-][A-Za-z0-9_.-]*\.edit")
-FUNCTION = re.compile(r"(?m)^( *)((?:pub(?:\([^)]*\))? |const |unsafe )*)fn (\w+)")
+FUNCTION = re.compile(r'(?m)^( *)((?:pub(?:\([^)]*\))? |const |unsafe |extern "C" )*)fn (\w+)')
 OWNER = re.compile(
     r"(?m)^(?:pub(?:\([^)]*\))? )?(?:unsafe )?(?:trait|impl(?:<[^{]*?>)?) "
-    r"(?:(?:\w+::)*(\w+(?:<[^{]*>)?) for )?&?(\w+)"
+    r"(?:(?:\w+::)*(\w+(?:<[^{]*>)?)\s+for )?&?(\w+)"
 )
 ABOVE = re.compile(r"(?:[^\n]*[^\n{};]\n)*\Z")  # what stands right above a function, as its attributes
 

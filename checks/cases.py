@@ -5,13 +5,15 @@ A file NAME.cases has blocks of lines, separated by blank lines. A block is a ca
 and all that it answers. A block of comments alone is a comment on what follows.
 
     # text        a comment; the first one of a case is its name, and says what it shows
-    $ words       the words of the command line; the word FILE stands for a file that has the input
+    $ words       the words of the command line; the word FILE stands for a file that has the input, and NAMES for one
+                  that has the names of seats and conditions
     < line        a line of input
     <| text       input without a line break at its end
     <\\ text       the same, with the escapes of a Python bytes literal
     <* N line     the line N times; \\n in it is a line break
     <# A B line   the line for each number from A to B, which # is in it; #*2+1 is twice that and one
     <@ NAME       the bytes of the file NAME of examples/
+    + line        a line of names; +| as above
     > line        a line of standard output; >|, >\\, >*, ># and >@ as above
     >~ line       a line of standard output in which each * stands for some number
     >...          any lines of standard output
@@ -40,7 +42,7 @@ SECONDS = 60
 SHOWN = 600
 TOP = pathlib.Path(__file__).resolve().parent.parent
 EXAMPLES = TOP / "examples"
-MARK = re.compile(r"(\$|!|=|[<>][|\\*#@]?|>~|>\.\.\.)(?: (.*))?")
+MARK = re.compile(r"(\$|!|=|[<>][|\\*#@]?|>~|>\.\.\.|\+\|?)(?: (.*))?")
 
 
 # Lines that stand for too much to spell it out before it is needed, and how they begin.
@@ -53,16 +55,19 @@ class Unreadable(Exception):
 
 
 class Case:
-    """One case: where it stands, its name, its words, its input, and what is expected. Input and output are
-    kept as their lines spell them, as marks and texts."""
+    """One case: where it stands, its name, its words, its input, its names, and what is expected. Texts are kept as
+    their lines spell them, as marks and texts."""
 
     def __init__(self, file, line):
         self.file, self.line, self.name = file, line, None
         self.words, self.status, self.error = None, 0, b""
-        self.given, self.expected = [], []
+        self.given, self.named, self.expected = [], [], []
 
     def input(self):
         return b"".join(bytes_of(mark, text) for mark, text in self.given)
+
+    def names(self):
+        return b"".join(bytes_of(mark, text) for mark, text in self.named)
 
     def output(self):
         return b"".join(bytes_of(mark, text) for mark, text in self.expected)
@@ -76,7 +81,8 @@ class Case:
     def is_run(self, text):
         """Whether a text may be that of a run, if this is a run."""
         is_other = self.words[:1] != ["run"] or "--object" in self.words or self.status != 0
-        return is_other or runs.judged(json.loads(self.input()), text) is None
+        is_listed = "--unrecorded" in self.words
+        return is_other or runs.judged(json.loads(self.input()), text, is_listed=is_listed) is None
 
     def is_answer(self, status, output, error):
         is_told = (status, error) == (self.status, self.error) and self.is_output(output)
@@ -143,7 +149,7 @@ def take(case, line):
     else:
         if mark[1:] not in MANY or not re.match(MANY[mark[1:]], text):
             bytes_of(mark, text)
-        (case.given if mark[0] == "<" else case.expected).append((mark, text))
+        {"<": case.given, "+": case.named, ">": case.expected}[mark[0]].append((mark, text))
 
 
 def read(text, file="cases"):
@@ -166,13 +172,15 @@ def read(text, file="cases"):
     return cases
 
 
-def run(program, words, given):
+def run(program, words, given, named=b""):
     """The exit status, what went to standard output, and what went to standard error."""
-    with tempfile.NamedTemporaryFile() as kept:
+    with tempfile.NamedTemporaryFile() as kept, tempfile.NamedTemporaryFile() as names:
+        for file, text in ((kept, given), (names, named)):
+            file.write(text)
+            file.flush()
         if "FILE" in words:
-            kept.write(given)
-            kept.flush()
-            words, given = [kept.name if word == "FILE" else word for word in words], b""
+            given = b""
+        words = [{"FILE": kept.name, "NAMES": names.name}.get(word, word) for word in words]
         done = subprocess.run([program, *words], input=given, capture_output=True, timeout=SECONDS)
     return done.returncode, done.stdout, done.stderr
 
@@ -196,7 +204,7 @@ def first_difference(expected, came):
 def failure(program, case):
     """None, or what differs: the case, what was expected and what came."""
     try:
-        answer = run(program, case.words, case.input())
+        answer = run(program, case.words, case.input(), case.names())
     except subprocess.TimeoutExpired:
         answer = (None, b"", b"no answer within a minute")
     if case.is_answer(*answer):

@@ -29,6 +29,8 @@ SAME_SIGN = {"signalall": "signal", "back": "granted"}
 STATES = {"x": ", exclusive holds: {}", "s": ", shared holds: {}", "w": ", in line", "z": ", asleep on condition {}"}
 # The rows begin here, below the title, what is shown, and the legend; those of a semaphore or a latch below the curve.
 TOP, TOP_WITH_CURVE = 92, 180
+# The entries begin here, the second if a seat has a name.
+LEFT, LEFT_OF_NAMES = 72, 200
 
 
 def sign_of(entry):
@@ -96,22 +98,43 @@ def is_to_share(kind, seat, first, last, entries):
     return said or kind in ("semaphore", "latch")
 
 
-def told(number, entry):
+def names_of(text):
+    """The names that a text gives, by ("seat", NUMBER) and ("condition", NUMBER), or its first wrong line."""
+    *lines, rest = text.split(b"\n")
+    names = {}
+    for number, line in enumerate(lines, 1):
+        found = re.fullmatch(rb"(condition )?(0|[1-9][0-9]{0,2}) ([!-~]{1,15})", line)
+        key = found and ("condition" if found[1] else "seat", int(found[2]))
+        if not found or key[1] >= (16 if found[1] else 256) or key in names:
+            return number
+        names[key] = found[3].decode()
+    return len(lines) + 1 if rest else names
+
+
+def called(names, kind, number):
+    """A seat or a condition by its number, with the name that it was given."""
+    name = names.get((kind, int(number)))
+    return f"{number} ({name})" if name else str(number)
+
+
+def told(number, entry, names):
     """An entry in words."""
-    return f"entry {number}: seat {entry.seat} {rules.spelt(entry)}"
+    return f"entry {number}: seat {called(names, 'seat', entry.seat)} {rules.spelt(entry)}"
 
 
 class Place:
     """Where the entries and the rows of a picture are. A seat that has no bar and made no entry has no row."""
 
-    def __init__(self, kind, entries, stretches, culprit):
+    def __init__(self, kind, entries, stretches, culprit, names):
+        self.given = names
+        self.left = LEFT_OF_NAMES if any(key[0] == "seat" for key in names) else LEFT
         self.step = 20 if len(entries) <= 200 else 8
         self.top = TOP if kind in ("lock", "rw") else TOP_WITH_CURVE
         seats = {seat for (seat, _, _), _, _, _ in stretches} | {entry.seat for entry in [*entries, *culprit]}
         self.rows = {seat: row for row, seat in enumerate(sorted(seats))}
 
     def x(self, number):
-        return 72 + number * self.step
+        return self.left + number * self.step
 
     def y(self, seat):
         return self.top + self.rows[seat] * 40
@@ -120,12 +143,12 @@ class Place:
         return f"M{self.x(number) + self.step // 2} {self.y(entry.seat) + 34}{SHAPES[sign]}"
 
     def names(self, seats):
-        """The names of the rows, and how many seats have none."""
-        names = {(self.y(seat) + 20, f"seat {seat}") for seat in self.rows}
+        """What the rows are called, and how many seats have none."""
+        names = {(self.y(seat) + 20, f"seat {called(self.given, 'seat', seat)}") for seat in self.rows}
         return names, seats - len(names)
 
 
-def wanted(text):
+def wanted(text, given):
     """The rows, bars, labels and marks by their places, with their tooltips, the field of the entry that is not legal,
     and what names it."""
     header, lines = rules.read_history(text)
@@ -134,24 +157,25 @@ def wanted(text):
     number = None if wrong is None else wrong - folded
     culprit = [] if number is None else kept[number:number + 1]
     stretches = bars(lines.start(), shown)
-    place = Place(header.kind, shown, stretches, culprit)
+    place = Place(header.kind, shown, stretches, culprit, given)
     rects, labels, marks, fields = set(), set(), set(), set()
     for (seat, kind, condition), count, first, last in stretches:
         x, width = place.x(first), (last + 1 - first) * place.step
         y = place.y(seat) + (17 if kind == "s" else 3)
         looks = "v" if kind == "w" and is_to_share(header.kind, seat, first, last, kept) else kind
         digits = str(count if condition is None else condition)
-        span = f"entries {folded + first} to {folded + last}; {told(folded + first, shown[first])}"
-        rects.add((looks, x, y, width, f"seat {seat}{STATES[kind].format(digits)}, {span}"))
+        span = f"entries {folded + first} to {folded + last}; {told(folded + first, shown[first], given)}"
+        state = STATES[kind].format(digits if condition is None else called(given, "condition", condition))
+        rects.add((looks, x, y, width, f"seat {called(given, 'seat', seat)}{state}, {span}"))
         if kind != "w" and width >= 6 * len(digits) + 4:
             labels.add((x + 4, y + 10, digits if condition is None else f"c{digits}"))
     for at, (entry, sign) in enumerate(zip(shown, signs(lines.start(), shown))):
         if sign is not None:
-            marks.add((place.mark(at, entry, sign), told(folded + at, entry)))
+            marks.add((place.mark(at, entry, sign), told(folded + at, entry, given)))
     names = place.names(header.seats)
     if number is None:
         return names, rects, labels, marks, fields, None
-    said = told(wrong, culprit[0]) if culprit else f"entry {wrong}"
+    said = told(wrong, culprit[0], given) if culprit else f"entry {wrong}"
     if number == len(shown):
         height = len(place.rows) * 40
         fields.add((place.x(number), place.top, place.step, height, f"not legal: {said}"))
@@ -190,9 +214,9 @@ def title_of(element):
     return None if title is None else title.text
 
 
-def is_drawn(picture, text):
-    """Whether a picture is an SVG document that shows of a history text what it is to."""
+def is_drawn(picture, text, names=None):
+    """Whether a picture is an SVG document that shows of a history text what it is to, with these names."""
     try:
-        return shown(picture) == wanted(text)
+        return shown(picture) == wanted(text, names or {})
     except xml.ParseError:
         return False

@@ -1,15 +1,15 @@
 #!/usr/bin/env python3
 """Runs every example and every case through the program: checks/examples.py PROGRAM [FOLDER].
 
-Each pair NAME.steps and NAME.answers is replayed, and each pair NAME.history and NAME.answers audited, from the
-file. Cut after any byte but the last, each of them is cut short. The history text of each steps text is legal,
-and a trim after each step changes no answer. Each NAME.svg is the picture of NAME.history, or of the history
-that a replay of NAME.steps gives, also in the folders of bindings/ that have pictures. The explanations and
-summaries of docs/AQS.md, and the examples of `aqs manual`, are what the program writes. The objects of `--json`
-say what the lines say (`objects.py`). Each NAME.script is run: the lines outside its histories are as
-NAME.answers has them, where * stands for a number that depends on the schedule, and `aqs audit` says the same of
-each history. Each NAME.late is a script that never ends, and is run with --timeout 2000. Texts of an enemy follow,
-the cases of cases/ (`cases.py`), long random lists of steps (`crowds.py`), and the times of common lines
+Each pair NAME.steps and NAME.answers is replayed, and each pair NAME.history and NAME.answers audited, from the file.
+Cut after any byte but the last, each of them is cut short. The history text of each steps text is legal, and a trim
+after each step changes no answer. Each NAME.svg is the picture of NAME.history, or of the history that a replay of
+NAME.steps gives, also in the folders of bindings/ that have pictures. With names each history is drawn as `drawn.py`
+says. The explanations and summaries of docs/AQS.md, and the examples of `aqs manual`, are what the program writes. The
+objects of `--json` say what the lines say (`objects.py`). Each NAME.script is run: the lines outside its histories are
+as NAME.answers has them, where * stands for a number that depends on the schedule, and `aqs audit` says the same of
+each history. Each NAME.late is a script that never ends, and is run with --timeout 2000. Texts of an enemy follow, the
+cases of cases/ (`cases.py`), long random lists of steps (`crowds.py`), and the times of common lines
 (`common_lines.py`).
 Compared are the exit status, standard output and standard error. The last line is 'N passed, M failed', and
 the status is 0 only if nothing failed and something passed.
@@ -25,6 +25,7 @@ import tempfile
 import cases
 import common_lines
 import crowds
+import drawn
 import objects
 from program import Program
 
@@ -144,6 +145,20 @@ def pictures(program, folder):
         yield f"draw {file.name}", history != b"" and drawn == (status, file.read_bytes(), b"")
 
 
+def named_pictures(program, folder, scratch):
+    """A picture of each history with names, those of half of its seats and conditions."""
+    given = scratch / "given.names"
+    names = {("seat", seat): f"{seat}<&>{'x' * (seat % 9)}" for seat in range(0, 256, 2)}
+    names.update({("condition", at): f"c'{at}\"" for at in range(0, 16, 2)})
+    lines = [f"{'condition ' * (kind == 'condition')}{number} {name}\n" for (kind, number), name in names.items()]
+    given.write_text("".join(sorted(lines)))
+    yield "the names that are given", drawn.names_of(given.read_bytes()) == names
+    for file in sorted(folder.glob("*.steps")):
+        history = run(program, ["replay", file, "--history"])[1]
+        picture = run(program, ["draw", "--names", given], history)
+        yield f"draw --names of {file.name}", picture[::2] == (0, b"") and drawn.is_drawn(picture[1], history, names)
+
+
 def trimmed(program, folder):
     """A trim after each step changes no answer, and folds as many entries as the step made."""
     for file in sorted(folder.glob("*.steps")):
@@ -223,6 +238,13 @@ def left_histories(program, scratch):
     yield "all files are as before", held(folder) == before
     for file in folder.iterdir():
         file.unlink()
+    refused = ONE_THREAD.replace(b'"-b trim"', b'"-b trim", "-b drain"')
+    told = run(program, ["run", "--unrecorded", "--dir", folder, "-o", kept], refused)
+    listed = whole[1].replace(b"unrecorded 0\n", b"unrecorded 1\nthread 0 call 3 WrongMode -b drain\n")
+    yield "a file, a folder and a list", told == (0, b"", b"") and kept.read_bytes() == listed
+    yield "the histories are as without the list", held(folder) == before
+    for file in folder.iterdir():
+        file.unlink()
     told = run(program, ["run", "--object=a", "--dir", folder, "-o", folder / "a"], ONE_THREAD)
     yield "a file, a folder and an object", told == (0, b"", b"")
     yield "the file has the object's history", held(folder) == {**before, "a": before["a.history"]}
@@ -285,6 +307,7 @@ def results(program, folder, scratch):
     yield from runs(program, folder, scratch)
     yield from late_runs(program, folder)
     yield from pictures(program, folder)
+    yield from named_pictures(program, folder, scratch)
     for place in PICTURED:
         yield from pictures(program, folder.parent / place)
     yield from named_files(program, folder)

@@ -7,8 +7,8 @@ histories that were, in their entries or in their bytes. Each history is drawn t
 status or the fault of `aqs audit`, and show what checks/drawn.py does. Each is explained, where it is not legal
 and at an entry: `aqs explain` must answer as checks/explained.py does, and `aqs summary` as checks/summed.py
 does. A fifth are scripts of one thread, of
-which one in four was spoilt: `aqs run` must answer as checks/runs.py does. The seed is the day if none is
-given, as 20261127. Whatever disagrees is printed, and the status is 1.
+which one in four was spoilt: `aqs run` must answer as checks/runs.py does, and so must `aqs run --unrecorded`.
+The seed is the day if none is given, as 20261127. Whatever disagrees is printed, and the status is 1.
 """
 
 import collections
@@ -223,9 +223,10 @@ def script_tries(chance):
     if fault is not None:
         yield ["run"], text, (3, b"", f"aqs: {fault}\n".encode())
         return
-    wanted = runs.alone(json.loads(text))
-    if wanted is not None:
-        yield ["run"], text, (0, wanted, b"")
+    for options in (), ("--unrecorded",):
+        wanted = runs.alone(json.loads(text), bool(options))
+        if wanted is not None:
+            yield ["run", *options], text, (0, wanted, b"")
 
 
 def explained_tries(chance, text):

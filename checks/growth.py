@@ -3,7 +3,7 @@
 
 Each command gets a text of some size and one four times as long. It may take five times as long at most. It has the
 memory that docs/PERFORMANCE.md says of each entry and answer, and no more. Then the same calls are made in an object
-of 2 seats and in one of 256, in which the others are idle, wait in line or sleep: that may take half as long again at
+of 2 seats and in one of 256, in which the others are idle, wait in line or sleep: that may take twice as long at
 most. At last threads wait for a second by the clock, at each kind of object, and each may take five thousandths of it
 at most, since a thread that waits sleeps. All other times are those of the processor. The two runs of a case are made
 by turns, three times each, and the least time of each counts. Other work on the machine makes some runs slower, so
@@ -30,7 +30,7 @@ TRIES = 5  # to see threads asleep
 SECONDS = 60
 LONGER = 4  # the longer text, in lengths of the shorter
 TIMES = 5  # as long as the shorter at most
-CROWDED = 1.5  # with 256 seats as long as with 2 at most
+CROWDED = 2  # with 256 seats as long as with 2 at most
 ENTRY = 12  # bytes of an entry in memory
 ANSWER = 16  # bytes of an answer that no entry says, a trim among them
 LISTED = 1.4  # answers, and entries that were folded, stand in lists, which have more room than they use

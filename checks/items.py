@@ -61,14 +61,20 @@ def signature(lines, at):
     return dedented(lines[at:])
 
 
+def header_end(lines, at):
+    """Returns the line in which an item's header ends: one with many type parameters takes several lines."""
+    return next((to for to in range(at, len(lines)) if lines[to].endswith(("{", ";", "}"))), at)
+
+
 def declared(lines, at):
-    """Returns a type's declaration: an enum whole, and of a struct or a trait its first line and public fields."""
-    end = at if lines[at].endswith((";", "}")) else lines.index("}", at)
+    """Returns a type's declaration: an enum whole, and of a struct or a trait its header and public fields."""
+    opens = header_end(lines, at)
+    end = opens if lines[opens].endswith((";", "}")) else lines.index("}", opens)
     if " enum " in lines[at]:
         return "\n".join(lines[at : end + 1])
-    first = lines[at].rstrip(" {;")
+    first = "\n".join(lines[at : opens + 1]).rstrip(" {;")
     fields, comment = [], []
-    for line in lines[at + 1 : end] if " struct " in lines[at] else []:
+    for line in lines[opens + 1 : end] if " struct " in lines[at] else []:
         if line.lstrip().startswith("///"):
             comment.append(line)
             continue
@@ -104,10 +110,15 @@ class Source:
             item = Item(found[2], plain(doc), declared(self.lines, at))
             self.items[found[2]] = item
             self.owner = item.functions if found[1] == "trait" else None
-        elif found := IMPL.match(line):
+        elif found := IMPL.match(self.header(at)):
             group = Group(found[2], found[1] or "", plain(doc))
             self.groups.append(group)
             self.owner = group.functions
+
+    def header(self, at):
+        """Returns in one line the header of the impl that begins in a line, or that line."""
+        end = header_end(self.lines, at) if self.lines[at].startswith("impl") else at
+        return " ".join(it.strip() for it in self.lines[at : end + 1])
 
     def add_function(self, found, doc, at):
         inside, is_public, name = bool(found[1]), bool(found[2]), found[3]

@@ -51,13 +51,15 @@ def library(folder):
     return made
 
 
-def counted(program, library, words, text, output=subprocess.PIPE, limit=None):
+def counted(program, library, words, text, output=subprocess.PIPE, limit=None, named=b""):
     """The counts of a run, or None if the system did not load the program."""
-    with tempfile.NamedTemporaryFile() as given, tempfile.NamedTemporaryFile() as told:
-        given.write(text)
-        given.flush()
-        given.seek(0)
-        words = [given.name if word == "FILE" else word for word in words]
+    files = tempfile.NamedTemporaryFile(), tempfile.NamedTemporaryFile(), tempfile.NamedTemporaryFile()
+    with files[0] as given, files[1] as names, files[2] as told:
+        for file, bytes_ in ((given, text), (names, named)):
+            file.write(bytes_)
+            file.flush()
+            file.seek(0)
+        words = [{"FILE": given.name, "NAMES": names.name}.get(word, word) for word in words]
         environment = {"LD_PRELOAD": library, "COUNTED": told.name}
         bound = limit and (lambda: resource.setrlimit(resource.RLIMIT_DATA, (limit, limit)))
         ran = subprocess.run(
@@ -85,7 +87,7 @@ def fault(counts, size, more=MORE):
 def of_case(program, library, case):
     """A run that is late leaves its threads, and so what they have."""
     text, more = case.input(), PARTS if "--object" in case.words else MORE
-    counts = counted(program, library, case.words, text)
+    counts = counted(program, library, case.words, text, named=case.names())
     if counts and "--timeout" in case.words and case.status == 1:
         counts = dataclasses.replace(counts, given=counts.taken)
     return f"{case.file}, line {case.line}: {case.name}", fault(counts, len(text), more)

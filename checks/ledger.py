@@ -13,8 +13,9 @@ in how they search. No sound search closes a false goal, so a line outlives such
 only not found could be found by another kit. So KITS names the kits with which every wrong body was tried, and the
 gate says if it runs with another.
 
-The programs that judged before 29 November 2026 read one line of each error. Their lines stand until their wrong bodies
-are tried again, and the gate says how many there are.
+Programs that judged before took some errors for refusals that are none: those before 29 November 2026 read one line of
+each error, and the next did not look for shifted names (shifts.py). Their lines stand until their wrong bodies are
+tried again, and the gate says how many there are.
 
 The lines stand in crates/NAME/wrong-bodies/refused.txt, a sum and a name each.
 """
@@ -26,8 +27,12 @@ from bodies import FOLDER, body_of, edits_of
 from kit import rt
 
 HERE = os.path.dirname(os.path.realpath(__file__))
-JUDGES = ("bodies.py", "kit.py", "ledger.py", "said.py", "trial.py")
-EARLIER = bytes.fromhex("0f5664c9e8583ace727f9f819fad5f329a226cb7bd2ec6bd2f8e11fb54638b95")  # the judges' sum before
+JUDGES = ("bodies.py", "kit.py", "ledger.py", "said.py", "shifts.py", "trial.py")
+# The judges' sums before: of those who read one line of each error, and of those who did not look for shifted names.
+EARLIER = (
+    bytes.fromhex("0f5664c9e8583ace727f9f819fad5f329a226cb7bd2ec6bd2f8e11fb54638b95"),
+    bytes.fromhex("0e6017b40dec5b265bd5aff2e0c46f786aaf6e955de3683f582427944ab6e603"),
+)
 KITS = f"{HERE}/kits.txt"
 SOURCES = ("src", "specs", "proofs")
 PROVED_BY = ("lang/antt/specs", "lang/antt/proofs")
@@ -163,8 +168,9 @@ def sums(crate, seen):
 
 
 def earlier_sums(crate, seen):
-    """Returns the sum of each of a crate's wrong bodies as the judges before made it. `seen` is what `sums` kept."""
-    return sums(crate, {**seen, "judges": EARLIER})
+    """Returns the sums of each of a crate's wrong bodies as the judges before made them. `seen` is what `sums` kept."""
+    made = [sums(crate, {**seen, "judges": it}) for it in EARLIER]
+    return {edit: {of[edit] for of in made} for edit in made[0]}
 
 
 def path_of(crate):

@@ -100,20 +100,27 @@ def commands():
         for name in ("audit", "explain", "summary"):
             yield [name, "--json"], text
         yield ["audit", "-o", "/dev/null"], text
+    yield ["draw", "--names", "/dev/stdin", str(EXAMPLES / "handed_over.history")], b"0 main\n1 parser\n"
     last = ["explain", "--at", str(2 * PAGE - 1)]  # its state is that after two pages of entries
     yield last, rules.replay(pairs(PAGE), True)[1]
     for text in wrong_texts():
         yield ["explain"], text
         yield ["explain", "--json"], text
     yield ["run"], json.dumps(SCRIPT).encode()
+    yield ["run", "--unrecorded"], json.dumps(SCRIPT).encode()
     yield ["run", "--object", "d"], json.dumps(NO_CALLS).encode()
     yield ["run", "--timeout", "60000"], json.dumps(NO_CALLS).encode()
 
 
+def makes_calls(words):
+    return words in (["run"], ["run", "--unrecorded"])
+
+
 def lacks_memory(words, answer):
     """Whether an answer is that of a run that was refused memory. A script's calls may have been."""
-    if words == ["run"] and answer[0] == 0:
-        return not answer[2] and runs.judged(SCRIPT, answer[1], lacks_memory=True) is None
+    if makes_calls(words) and answer[0] == 0:
+        is_listed = "--unrecorded" in words
+        return not answer[2] and runs.judged(SCRIPT, answer[1], lacks_memory=True, is_listed=is_listed) is None
     return answer == NO_MEMORY or words[0] == "run" and answer == (4, b"", b"aqs: thread 0 not started\n")
 
 
@@ -128,7 +135,7 @@ def refused(program, library, words, text):
         in_vain += answer == whole.answer
         if answer != whole.answer and not lacks_memory(words, answer):
             return f"request {number}: {answer}"
-    of_calls = CALLS if words == ["run"] else 0
+    of_calls = CALLS if makes_calls(words) else 0
     return f"{in_vain} requests in vain" if in_vain > IN_VAIN + of_calls or in_vain == whole.counts.requests else None
 
 

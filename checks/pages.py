@@ -47,7 +47,7 @@ HOMES = {
     "": ("examples/*.*", "cases/*.cases"),
 }
 # What a line of a case begins with, before what is asked or answered.
-ASKED = re.compile(r"^[<>] ?")
+ASKED = re.compile(r"^[<>+] ?")
 LINK = re.compile(r"\]\((?!\w+:)([^()\s#]*)(?:#([^()\s]*))?\)")
 HEADING = re.compile(r"(?m)^#+ (.*)$")
 ROW = re.compile(r"(?m)^\| \[(src/[\w/]+\.rt)\]\(\1\) \|.*\|$")

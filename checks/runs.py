@@ -3,8 +3,8 @@
 `alone(script)` is the whole run text of a script of one thread. `judged(script, text)` says what is wrong
 with the run text of any script: each history must be legal by `rules.py` and have the audit text that follows
 it, and the entries of each seat must be those of its thread's calls, in order. Only a call with a fault, or
-one for which there may be no room, has none. A script is the value of its JSON text. The program is asked
-nothing.
+one for which there may be no room, has none. With `is_listed` both are of a run with `--unrecorded`, whose text
+ends with a line for each of these. A script is the value of its JSON text. The program is asked nothing.
 """
 
 import collections
@@ -17,6 +17,7 @@ PART = re.compile(
     rb"object ([a-z0-9-]+)\n(aqs-history .*?\nend \d+ \d+\n)((?:not )?legal.*?\n)shares (\d+)\n", re.S
 )
 LAST = re.compile(rb"unrecorded (\d+)\n")
+ANSWER = re.compile(r"thread (\d+) call (\d+) .*")
 
 Part = collections.namedtuple("Part", "name history audit shares")
 
@@ -73,10 +74,11 @@ class Alone:
     def __init__(self, script):
         parts = [(name, rules.header_part(part.encode())) for name, part in script["objects"]]
         self.objects = {name: rules.Answers(header, True, True) for name, header in parts}
-        self.is_interrupted, self.unrecorded = False, 0
+        self.is_interrupted, self.made, self.unrecorded = False, 0, []
 
     def make(self, call):
         """Makes a call, and tells whether it ever ends."""
+        number, self.made = self.made, self.made + 1
         name, *words = call.split(" ")
         if name == "interrupt":
             self.is_interrupted = True
@@ -93,7 +95,7 @@ class Alone:
         else:
             answer = called.step(0, step)
         if isinstance(answer, str):
-            self.unrecorded += 1
+            self.unrecorded.append(b"thread 0 call %d %s %s\n" % (number, answer.encode(), call.encode()))
         elif answer[0].word in ("queued", "await"):
             return words[0].endswith("-timed") and self.times_out(called)
         return True
@@ -103,21 +105,22 @@ class Alone:
         entry, _ = called.step(0, rules.Step("expire", None, None, None))
         return entry.word == "left" or called.step(0, rules.Step("look", None, None, None)) != "sleep"
 
-    def text(self):
+    def text(self, is_listed):
         parts = []
         for name, called in self.objects.items():
             history, shares = called.text(), sum(called.state.calls)
             audit = rules.audit(history)[1]
             parts.append(b"object %s\n%s%sshares %d\n" % (name.encode(), history, audit, shares))
-        return b"".join(parts) + b"unrecorded %d\n" % self.unrecorded
+        parts.append(b"unrecorded %d\n" % len(self.unrecorded))
+        return b"".join(parts + self.unrecorded if is_listed else parts)
 
 
-def alone(script):
+def alone(script, is_listed=False):
     """The run text of a script of one thread; None if it waits for ever."""
     [thread] = script["threads"]
     run = Alone(script)
     made = (run.make(call) for _ in range(thread["repeat"]) for call in thread["calls"])
-    return run.text() if all(made) else None
+    return run.text(is_listed) if all(made) else None
 
 
 def read(text):
@@ -210,13 +213,43 @@ def by_object(thread):
     return calls, interrupts
 
 
-def judged(script, text, lacks_memory=False):
+def may_answer(header, words):
+    """The faults that no history records and that a call of an object may have."""
+    fault = None if words == ["trim"] else rules.State(header).fault_of(0, first_step(tuple(words)))
+    return [fault] if fault else ["HistoryFull", "OutOfMemory"]
+
+
+def are_listed(script, lines):
+    """Whether lines tell of answers to calls of the script, each at its place and none twice."""
+    headers = {name: rules.header_part(part.encode()) for name, part in script["objects"]}
+    calls, before = [thread["calls"] * thread["repeat"] for thread in script["threads"]], (-1, 0)
+    for line in lines:
+        found = ANSWER.fullmatch(line)
+        here = (int(found[1]), int(found[2])) if found else before
+        if here <= before or here[0] >= len(calls) or here[1] >= len(calls[here[0]]):
+            return False
+        before, call = here, calls[here[0]][here[1]]
+        name, *words = call.split(" ")
+        faults = may_answer(headers[name], words) if name in headers else []
+        if line not in [f"thread {here[0]} call {here[1]} {fault} {call}" for fault in faults]:
+            return False
+    return True
+
+
+def judged(script, text, lacks_memory=False, is_listed=False):
     """What is wrong with the run text of a script, if anything."""
-    run, threads = read(text), script["threads"]
+    threads = script["threads"]
+    if len(threads) == 1 and not lacks_memory:
+        return None if text == alone(script, is_listed) else "not the run text of this thread"
+    if is_listed:
+        end = text.find(b"\n", text.rfind(b"\nunrecorded ") + 1) + 1
+        text, lines = text[:end], text[end:].decode().split("\n")
+        is_told = text.endswith(b"\nunrecorded %d\n" % (len(lines) - 1))
+        if lines.pop() or not is_told or not are_listed(script, lines):
+            return "not the answers of this run"
+    run = read(text)
     if run is None or [part.name for part in run[0]] != [name for name, _ in script["objects"]]:
         return "no run text of these objects"
-    if len(threads) == 1 and not lacks_memory:
-        return None if text == alone(script) else "not the run text of this thread"
     rounds = [by_object(thread) for thread in threads]
     interrupts = sum((interrupted for _, interrupted in rounds), collections.Counter())
     unrecorded = 0

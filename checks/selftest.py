@@ -1,9 +1,9 @@
-"""Sees that the kit's messages still read as these checks expect, on a small crate with three wrong bodies.
+"""Sees that the kit's messages still read as these checks expect, on a small crate with four wrong bodies.
 
-The harmful one must be refused beside the others, by a goal of its own. The two others change nothing that their
-contracts say, so they must be told as not refused, though one of them takes away what a proof names. Where the messages
-of another kit read otherwise one of these fails, and with it the whole run: else a harmless wrong body could pass for a
-refused one.
+The harmful one must be refused beside the others, by a goal of its own. The three others change nothing that their
+contracts say, so they must be told as not refused, though one of them takes away what a proof names, and one shifts the
+name of a call that a proof cites. Where the messages of another kit read otherwise one of these fails, and with it the
+whole run: else a harmless wrong body could pass for a refused one.
 """
 import os
 import tempfile
@@ -13,7 +13,7 @@ from kit import rt
 from trial import tried, tried_by_itself
 
 SOURCE = """\
-//! Four functions.
+//! Five functions.
 #![tactic(auto)]
 
 ghost use Rattle.std.specs.Prelude.{◌≡◌, ◌≤◌};
@@ -49,6 +49,13 @@ pub fn at_most_seven(n: u32) -> u32
 {
     lower(n)
 }
+
+/// Each number lowered.
+pub fn lowered(a: u32, b: u32, c: u32) -> (u32, u32, u32)
+    ensures { result.1 ≤ b }
+{
+    (lower(a), lower(b), lower(c))
+}
 """
 OTHER = """\
 //! A function of the same name, whose promises have other names.
@@ -67,9 +74,16 @@ use Rattle.small.proofs.at_most_seven.Goals as goal
 pub returns : goal.returns
 returns c = c.lower.ensures.second
 """
+SHIFTING_ANSWER = """\
+use Rattle.small.proofs.lowered.Goals as goal
+
+pub returns : goal.returns
+returns c = c.lower-2.ensures.first
+"""
 HARMFUL = "file: src/lib.rt\nold:     if a < b { a } else { b }\nnew:     if a < b { b } else { a }\n"
 HARMLESS = "file: src/lib.rt\nold:     let kept = a;\nnew:     let kept = a / 1;\n"
 GONE = "file: src/lib.rt\nold:     lower(n)\nnew:     other::lower(n)\n"
+SHIFTING = "file: src/lib.rt\nold: (lower(a),\nnew: (a / 1,\n"
 
 
 def write(path, text):
@@ -85,7 +99,9 @@ def failure(tell):
         write(f"{root}/crates/small/src/lib.rt", SOURCE)
         write(f"{root}/crates/small/src/other.rt", OTHER)
         write(f"{root}/crates/small/proofs/at_most_seven/Answers.antt", ANSWER)
+        write(f"{root}/crates/small/proofs/lowered/Answers.antt", SHIFTING_ANSWER)
         write(f"{root}/crates/small/{FOLDER}/at_most_seven.calls_another.edit", GONE)
+        write(f"{root}/crates/small/{FOLDER}/lowered.keeps_the_first.edit", SHIFTING)
         write(f"{root}/crates/small/{FOLDER}/same.is_the_same.edit", HARMLESS)
         write(f"{root}/crates/small/{FOLDER}/smaller.is_the_larger.edit", HARMFUL)
         os.makedirs(f"{root}/.git")
@@ -93,9 +109,9 @@ def failure(tell):
         os.chdir(root)
         try:
             [crate] = rt.rtlib.crates_below(root)
-            gone, harmless, harmful = tried(crate, edits_of(crate)[0], tell)
-            alone = tried_by_itself(crate, edits_of(crate)[0][2])
-            gone_alone = tried_by_itself(crate, edits_of(crate)[0][0])
+            edits = edits_of(crate)[0]
+            gone, shifting, harmless, harmful = tried(crate, edits, tell)
+            gone_alone, shifting_alone, alone = (tried_by_itself(crate, edits[it]) for it in (0, 1, 3))
         finally:
             os.chdir(at)
     if not harmful.is_refused or harmful.is_alone:
@@ -106,4 +122,6 @@ def failure(tell):
         return f"a harmless wrong body is told as refused: {harmless.text}"
     if gone.is_refused or gone_alone.is_refused:
         return f"a wrong body is told as refused for a name that it took from a proof: {gone.text}, {gone_alone.text}"
+    if shifting.is_refused or shifting_alone.is_refused:
+        return f"a wrong body is told as refused for a name that it shifted: {shifting.text}, {shifting_alone.text}"
     return None

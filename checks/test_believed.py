@@ -66,6 +66,12 @@ class Names(unittest.TestCase):
         self.assertTrue({"IsFirst", "IsAsked", "IsAskedAgain"} <= found)
         self.assertFalse({"IsHidden", "Unseen", "hidden"} & found)
 
+    def test_the_functions_of_a_traits_impl_cite_whose_header_takes_several_lines(self):
+        head = "impl<T: Drop, U: Drop> Drop\n    for Two<T, U> {{\n    fn drop(self)\n        ensures {{ {} }}\n    {{}}\n}}\n"
+        self.assertIn("IsGone", believed.cited(head.format("IsGone"), False))
+        head = head.replace("\n    for Two<T, U> {{", " for Two<\n    T,\n    U,\n> {{")
+        self.assertIn("IsGone", believed.cited(head.format("IsGone"), False))
+
     def test_all_functions_of_a_program_cite(self):
         self.assertIn("IsHidden", believed.cited(SOURCE, True))
 

@@ -4,8 +4,9 @@ import tempfile
 import types
 import unittest
 
-from bodies import Body, body_of, composed, function_at, symbol_of
+from bodies import Body, body_of, composed, function_at, owner_of, symbol_of
 from said import Said
+from shifts import MARK, marked, shifted
 from trial import picked
 
 TEXT = """\
@@ -26,6 +27,15 @@ impl Two {
     }
 }
 """
+EXPORT = """\
+/// A function that C calls.
+#[no_mangle]
+pub extern "C" fn low_first(two: &Two) -> u32
+    ensures { result ≡ two.now.a }
+{
+    two.first()
+}
+"""
 REFUSED = """\
 note: ./src/two.rt:10:9: it is not proved that `result ≡ self.now.a`
 proofs/two/Two/more/Answers.antt:3:1: error: the field has no field named b
@@ -41,11 +51,11 @@ def body(name, edit, at):
 
 
 class Texts(unittest.TestCase):
-    def crate(self, edit):
+    def crate(self, edit, source=TEXT):
         room = tempfile.TemporaryDirectory()
         self.addCleanup(room.cleanup)
         os.makedirs(f"{room.name}/src")
-        for path, text in (("src/two.rt", TEXT), ("one.edit", edit)):
+        for path, text in (("src/two.rt", source), ("one.edit", edit)):
             with open(f"{room.name}/{path}", "w", encoding="utf-8") as it:
                 it.write(text)
         return types.SimpleNamespace(folder=room.name, name="low"), f"{room.name}/one.edit"
@@ -55,6 +65,11 @@ class Texts(unittest.TestCase):
         self.assertEqual((place.name, TEXT[place.opens : place.end]), ("first", "\n        self.a\n    }"))
         self.assertIsNone(function_at(TEXT, 3))
 
+    def test_a_header_may_take_several_lines(self):
+        text = "impl<T: Drop> Drop\n    for Mug<T> {\n    fn drop(self) {\n        pour(self);\n    }\n}\n"
+        place = function_at(text, text.index("pour"))
+        self.assertEqual(owner_of(text, place), ["MugDrop"])
+
     def test_a_wrong_body_stands_in_place_of_its_function_with_its_attributes(self):
         crate, edit = self.crate("file: src/two.rt\nold:         self.a\nnew: self.a / 1\n")
         found = body_of(crate, edit)
@@ -62,6 +77,14 @@ class Texts(unittest.TestCase):
         halved = TEXT.replace("        self.a\n", "self.a / 1\n")
         self.assertEqual(composed(crate, [found])["src/two.rt"], halved)
         self.assertTrue(found.text.startswith("    #[inline]\n"))
+
+    def test_a_function_that_c_calls_is_a_function(self):
+        source = TEXT + EXPORT
+        crate, edit = self.crate("file: src/two.rt\nold:     two.first()\nnew:     two.first() / 1\n", source)
+        found = body_of(crate, edit)
+        self.assertEqual((found.name, found.owner), ("low_first", []))
+        self.assertEqual(symbol_of(found, ["low::two::low_first"]), "low::two::low_first")
+        self.assertTrue(composed(crate, [found])["src/two.rt"].endswith("    two.first() / 1\n}\n"))
 
     def test_an_edit_of_a_type_or_a_contract_is_no_wrong_body(self):
         of_a_field = "old:     a: u32,\nnew:     a: u64,"
@@ -86,6 +109,61 @@ class Messages(unittest.TestCase):
         self.assertEqual(len(picked([first, more], {})), 2)
         more.times = 1
         self.assertEqual(picked([first, more], {more.symbol: {first.symbol}}), [more])
+
+
+MADE = """\
+pub fn made(alloc: Global) -> Made
+    ensures { result.second ≡ [] }
+{
+    Made {
+        first: Vec::new(alloc),
+        second: Vec::new(alloc),
+        third: Vec::new(alloc),
+    }
+}
+"""
+ANSWERS = """\
+use Rattle.low.proofs.made.Goals as goal
+
+pub returns : goal.returns
+returns c = c.new-2.ensures.items
+"""
+MISFIT = "proofs/made/Answers.antt:4:13: error: `returns`: expected type `x ≡ []`, but this has type `y ≡ []`"
+
+
+class Shifts(unittest.TestCase):
+    def said(self, new, error=MISFIT):
+        """Returns what is made of an error when a text of the crate is new."""
+        with tempfile.TemporaryDirectory() as room:
+            for path, text in (("src/lib.rt", MADE), ("proofs/made/Answers.antt", ANSWERS)):
+                os.makedirs(os.path.dirname(f"{room}/{path}"), exist_ok=True)
+                with open(f"{room}/{path}", "w", encoding="utf-8") as it:
+                    it.write(text)
+            return marked(types.SimpleNamespace(folder=room, name="low"), {"src/lib.rt": new}, error)
+
+    def test_names_are_shifted_by_a_call_more_or_fewer_of_several(self):
+        self.assertEqual(shifted("a(b(1), b(2))", "a(b(1), 2)"), {"b"})
+        self.assertEqual(shifted("a(b(1))", "a(b(1), b::<u8>(2))"), {"b"})
+        self.assertEqual(shifted("a(b(1))", "a(c(2))"), set())
+        self.assertEqual(shifted("a(b(1), b(2))", "a(b(2), b(1))"), set())
+
+    def test_a_type_that_does_not_fit_since_a_name_was_shifted_refuses_nothing(self):
+        shifting = MADE.replace("Vec::new(alloc)", "Vec::with_capacity(alloc, 9)", 1)
+        said = self.said(shifting)
+        self.assertEqual(said, MISFIT + MARK)
+        it = Body("1", "src/lib.rt", 0, 0, [], ["low"], "made", "", "low::made", 0, 1, 10)
+        after = "\nfn low::made: not proved: 1 goal\nlogic=not-proved functions=1\n"
+        self.assertEqual(Said(said + after, 1).refused([it]), {})
+        self.assertEqual([*Said(MISFIT + after, 1).refused([it])], [it])
+
+    def test_other_errors_and_other_edits_refuse(self):
+        self.assertEqual(self.said(MADE.replace("Vec::new(alloc)", "Vec::new(other)", 1)), MISFIT)
+        shifting = MADE.replace("Vec::new(alloc)", "Vec::with_capacity(alloc, 9)", 1)
+        of_no_type = MISFIT.replace("but this has type", "which is not")
+        of_no_call = MISFIT.replace(":4:", ":3:")
+        of_another = MISFIT.replace("proofs/made/", "proofs/others/made_up/")
+        for error in (of_no_type, of_no_call, of_another):
+            self.assertEqual(self.said(shifting, error), error)
 
 
 if __name__ == "__main__":

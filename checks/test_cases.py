@@ -33,9 +33,13 @@ class Reading(unittest.TestCase):
         [case] = cases.read(text.replace("\n<", "\n>"))
         self.assertEqual(case.output(), wanted)
 
+    def test_names_are_a_text_of_their_own(self):
+        [case] = cases.read("# a\n$ NAMES\n< x\n+ 0 é\n+| 1 b\n> y\n")
+        self.assertEqual((case.input(), case.names(), case.output()), (b"x\n", "0 é\n1 b".encode(), b"y\n"))
+
     def test_other_lines_are_refused(self):
         blocks = ["# a\n> x", "$ replay"]
-        blocks += [f"# a\n$\n{line}" for line in ("x", "<~ x", "$", "= x", "<x", "<* x", "<@ missing")]
+        blocks += [f"# a\n$\n{line}" for line in ("x", "<~ x", "$", "= x", "<x", "<* x", "<@ missing", "+* 2 x")]
         for block in blocks:
             with self.assertRaises(cases.Unreadable, msg=block):
                 cases.read(block)
@@ -92,7 +96,8 @@ class Running(unittest.TestCase):
     def test_a_right_answer_passes_and_a_wrong_one_is_told(self):
         right = "# Right\n$ usage 2\n< x\n> x\n! usage\n= 2\n"
         named = "# From a file\n$ '' 0 FILE\n< x\n> x\n"
-        self.assertEqual(self.failures(f"{right}\n{named}"), [None, None])
+        both = "# With names\n$ '' 0 NAMES\n< x\n+ 0 a\n> x\n> 0 a\n"
+        self.assertEqual(self.failures(f"{right}\n{named}\n{both}"), [None, None, None])
         for old, new in (("> x", "> y"), ("! usage\n", ""), ("= 2", "= 1"), ("> x\n", "")):
             [failed] = self.failures(right.replace(old, new))
             self.assertIn("some.cases, line 1: Right\n$ usage 2\n-- expected status", failed)

@@ -68,6 +68,31 @@ impl<T: Drop> Drop for Cup<T> {
     {}
 }
 
+/// A cup with much on it.
+pub struct Mug<
+    T: Drop,
+    U: Drop = Clay,
+> {
+    pub clay: T,
+    paint: U,
+}
+
+impl<T: Drop, U: Drop> Mug<
+    T,
+    U,
+> {
+    pub fn paint(&self) -> u32 {
+        0
+    }
+}
+
+impl<T: Drop, U: Drop> Drop
+    for Mug<T, U> {
+    fn drop(self)
+        requires { self.paint ≡ 0 }
+    {}
+}
+
 /// Pours.
 pub fn pour<T: Drop>(
     cup: &mut Cup<T>,
@@ -111,6 +136,13 @@ class Source(unittest.TestCase):
     def test_what_a_drop_owes_is_seen(self):
         self.assertEqual((self.source.groups[1].owner, self.source.groups[1].trait), ("Cup", "Drop"))
         self.assertEqual(self.functions(1), {"drop": "fn drop(self)\n    requires { self.level ≡ 0 }"})
+
+    def test_a_header_may_take_several_lines(self):
+        wanted = "pub struct Mug<\n    T: Drop,\n    U: Drop = Clay,\n> {\n    pub clay: T,\n}"
+        self.assertEqual(self.source.items["Mug"].text, wanted)
+        self.assertEqual([(it.owner, it.trait) for it in self.source.groups[2:]], [("Mug", ""), ("Mug", "Drop")])
+        self.assertEqual(self.functions(2), {"paint": "pub fn paint(&self) -> u32"})
+        self.assertEqual(self.functions(3), {"drop": "fn drop(self)\n    requires { self.paint ≡ 0 }"})
 
     def test_a_function_of_its_own_has_its_parameters(self):
         wanted = "pub fn pour<T: Drop>(\n    cup: &mut Cup<T>,\n) -> u32"

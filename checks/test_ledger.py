@@ -156,15 +156,17 @@ class Lines(unittest.TestCase):
     def test_a_line_of_the_judges_before_stands_until_its_wrong_body_is_tried_again(self):
         [(edit, earlier)] = ledger.earlier_sums(self.high, {"kit": b"same"}).items()
         name = os.path.basename(edit)
-        self.assertNotEqual(earlier, self.sum())
-        stands = self.of({name: earlier})
-        stands.earlier = {edit: earlier}
-        self.assertTrue(stands.is_refused(edit) and stands.is_of_before(edit))
-        self.assertEqual(stands.renewed(), {name: earlier})
-        stands.results[edit] = Result(True, True, "")
-        self.assertEqual(stands.renewed(), {name: self.sum()})
-        stands.results[edit] = Result(False, True, "")
-        self.assertEqual(stands.renewed(), {})
+        self.assertEqual(len(earlier), len(ledger.EARLIER))
+        self.assertNotIn(self.sum(), earlier)
+        for made in earlier:
+            stands = self.of({name: made})
+            stands.earlier = {edit: earlier}
+            self.assertTrue(stands.is_refused(edit) and stands.is_of_before(edit))
+            self.assertEqual(stands.renewed(), {name: made})
+            stands.results[edit] = Result(True, True, "")
+            self.assertEqual(stands.renewed(), {name: self.sum()})
+            stands.results[edit] = Result(False, True, "")
+            self.assertEqual(stands.renewed(), {})
         self.assertFalse(self.of({name: self.sum()}).is_of_before(edit))
 
     def test_lines_and_wrong_bodies_must_match(self):

@@ -94,6 +94,28 @@ class Judged(unittest.TestCase):
         self.assertIsNone(runs.judged(script, text))
 
 
+class Listed(unittest.TestCase):
+    LINES = b"thread 1 call 2 BadAmount a give x 2\n"
+
+    def test_a_line_for_each_answer_is_good(self):
+        self.assertIsNone(runs.judged(TWO, RUN + self.LINES, is_listed=True))
+
+    def test_each_change_of_the_lines_is_seen(self):
+        self.assertIsNotNone(runs.judged(TWO, RUN, is_listed=True))
+        self.assertIsNotNone(runs.judged(TWO, RUN + self.LINES))
+        for old, new in (b"thread 1", b"thread 0"), (b"thread 1", b"thread 2"), (b"call 2", b"call 1"), (
+                b"call 2", b"call 9"), (b"BadAmount", b"HistoryFull"), (b"x 2", b"x 1"), (b"2\n", b"2"), (
+                self.LINES, self.LINES + self.LINES), (self.LINES, b"thread 0 call 3 OutOfMemory interrupt 1\n"):
+            self.assertIn(old, self.LINES)
+            self.assertIsNotNone(runs.judged(TWO, RUN + self.LINES.replace(old, new), is_listed=True), (old, new))
+
+    def test_the_answers_of_one_thread_are_known(self):
+        script = {"objects": [["a", "lock fair seats 1 conditions 0 cap 16"]],
+                  "threads": [{"repeat": 2, "calls": ["a try x 1", "a drain"]}]}
+        lines = b"thread 0 call 1 WrongMode a drain\nthread 0 call 3 WrongMode a drain\n"
+        self.assertEqual(runs.alone(script, True), runs.alone(script) + lines)
+
+
 class Alone(unittest.TestCase):
     def text_of(self, header, calls, repeat=1):
         return runs.alone({"objects": [["a", header]], "threads": [{"repeat": repeat, "calls": calls}]})

@@ -10,7 +10,9 @@ from dataclasses import dataclass
 from bodies import body_of, composed, symbol_of
 from kit import AT_LIMIT, AT_ONCE, REFUSED, rt
 from said import Said
+from shifts import over
 
+rt.checked = over(rt.checked)  # which must_fail calls too
 ONE_JOB = ["--jobs", "1"]
 REFUSALS = (REFUSED, AT_LIMIT)  # by a failing goal, or by a limit of the prover, as rt ci counts them
 MOST = 30  # wrong bodies in one check, so that those of a large crate go into several at the same time

@@ -15,7 +15,7 @@ in the way, is tried once more without that one, and then alone, by rt's own rul
 one function's body.
 
 --anew           tries all, with a valid line or without
---earlier        tries also those that stand by a line of the judges before, who read one line of each error
+--earlier        tries also those that stand by a line of judges before, who took some errors for refusals (ledger.py)
 --sample SEED    tries some of those with a valid line again, by themselves, in an order that the seed decides. None is
                  begun after 150 seconds of processor time; with those under way it comes to some five minutes
 --built          the libraries stand as rt ci has just left them, and nothing else that earlier checks kept is taken
@@ -55,7 +55,7 @@ class Ledger:
     sums: dict  # of each wrong body, by its path
     lines: dict  # of each line, by the wrong body's name
     results: dict = field(default_factory=dict)  # of each trial, by the path
-    earlier: dict = field(default_factory=dict)  # of each wrong body the sum as the judges before made it, by its path
+    earlier: dict = field(default_factory=dict)  # of each wrong body the sums as the judges before made them, by its path
 
     def line(self, edit):
         return self.lines.get(os.path.basename(edit))
@@ -65,7 +65,7 @@ class Ledger:
 
     def is_of_before(self, edit):
         """Whether a wrong body's line is one of the judges before."""
-        return edit in self.earlier and self.line(edit) == self.earlier[edit]
+        return self.line(edit) in self.earlier.get(edit, ())
 
     def faults(self):
         """Returns what is wrong with the files of the folder and their lines."""
@@ -205,7 +205,7 @@ def main(words):
     tell(f"tried {left} without a valid line or anew, and {again} of the others")
     before = sum(it not in of.results and of.is_of_before(it) for of in ledgers for it in of.sums)
     if before:
-        tell(f"{before} stand by trials in which one line of each error was read: --earlier tries them")
+        tell(f"{before} stand by trials of judges before: --earlier tries them")
     if not ledger.is_tried_with():
         tell(f"the others stand by trials with other kits than {ledger.kit()}: --anew tries all")
     tell(f"{(time.monotonic() - at) / 60:.1f} minutes, {seconds() / 60:.1f} processor minutes")

@@ -148,8 +148,7 @@ class Objects(Tests):
 
         with lock:
             threads = run_all(1, wait)
-            until(lambda: told)
-            time.sleep(0.01)
+            until(lambda: told and lock.queue_length() == 1)
             aqs.interrupt(told[0])
             join_all(threads)
         self.assertRegex(told[1], "^AQS_INTERRUPTED: ")
@@ -392,8 +391,7 @@ class Objects(Tests):
     def test_times_longer_than_those_of_c(self):
         permits = aqs.Semaphore(0)
         threads = run_all(2, lambda number: permits.acquire(timeout=(2**32, aqs.TIMEOUT_MAX)[number]))
-        time.sleep(0.05)
-        self.assertTrue(all(thread.is_alive() for thread in threads))
+        until(lambda: permits.queue_length() == 2)
         permits.release(2)
         join_all(threads)
 
@@ -562,8 +560,8 @@ class Arguments(Tests):
 
     def test_a_close_waits_for_calls_under_way(self):
         permits, got = aqs.Semaphore(0), []
-        threads = run_all(3, lambda _number: got.append(permits.acquire(timeout=0.3)))
-        time.sleep(0.1)
+        threads = run_all(3, lambda _number: got.append(permits.acquire(timeout=1)))
+        until(lambda: permits.queue_length() == 3)
         permits.close()
         join_all(threads)
         self.assertEqual(got, [False] * 3)
@@ -1015,7 +1013,8 @@ class Loading(Tests):
             "lock.acquire()\n"
             "for call in (permits.acquire, lock.acquire):\n"
             "    threading.Thread(target=call, daemon=True).start()\n"
-            "time.sleep(0.1)\n"
+            "while permits.queue_length() + lock.queue_length() < 2:\n"
+            "    time.sleep(0.001)\n"
         )
         ran = self.python(code)
         self.assertEqual((ran.returncode, ran.stderr), (0, ""))

@@ -11,8 +11,8 @@ _aqs() {
         audit) options="--json --output" ;;
         explain) options="--at --json --output" ;;
         summary) options="--json --output" ;;
-        draw) options="--page --from --to --output" ;;
-        run) options="--timeout --object --dir --output" ;;
+        draw) options="--page --names --from --to --output" ;;
+        run) options="--timeout --object --dir --unrecorded --output" ;;
         manual) COMPREPLY=($(compgen -W "replay audit explain summary draw run" -- "$word")); return ;;
         about) return ;;
     esac

@@ -12,6 +12,7 @@ use std::alloc::{AllocError, Global};
 use std::convert::AsStr;
 use tasks::fault::{Fault, RunOption};
 use tasks::task::{Job, Task};
+use workers::Keep;
 
 /// What a command line asks for.
 #[derive(Debug, Drop)]
@@ -21,6 +22,8 @@ pub struct Asked {
     pub file: Option<String>,
     /// The file to write, or none for standard output.
     pub output: Option<String>,
+    /// The file with the names of seats and conditions, if one is named.
+    pub names: Option<String>,
     /// What else is asked of a run, if its command line has such options.
     pub options: Option<RunOptions>,
 }
@@ -34,6 +37,8 @@ pub struct RunOptions {
     pub object: Option<String>,
     /// The folder in which the history of each object is left.
     pub dir: Option<String>,
+    /// What is kept of the answers that no history records.
+    pub keep: Keep,
 }
 
 /// Returns the program's fault for a parser's error.
@@ -88,10 +93,11 @@ fn replay<'a>(alloc: Global) -> Result<Command<'a>, AllocError> {
     replay.arg(option(alloc, "history", ArgAction::SetTrue))
 }
 
-/// Returns `draw [--page] [--from NUMBER] [--to NUMBER] [-o FILE] [FILE]`.
+/// Returns `draw [--page] [--names FILE] [--from NUMBER] [--to NUMBER] [-o FILE] [FILE]`.
 fn draw<'a>(alloc: Global) -> Result<Command<'a>, AllocError> {
     let draw = reader(alloc, "draw")?;
     let draw = draw.arg(option(alloc, "page", ArgAction::SetTrue))?;
+    let draw = draw.arg(option(alloc, "names", ArgAction::Set))?;
     let draw = draw.arg(option(alloc, "from", ArgAction::Set))?;
     draw.arg(option(alloc, "to", ArgAction::Set))
 }
@@ -102,12 +108,13 @@ fn explain<'a>(alloc: Global) -> Result<Command<'a>, AllocError> {
     explain.arg(option(alloc, "at", ArgAction::Set))
 }
 
-/// Returns `run [--timeout MILLISECONDS] [--object NAME] [--dir FOLDER] [-o FILE] [FILE]`.
+/// Returns `run [--timeout MILLISECONDS] [--object NAME] [--dir FOLDER] [--unrecorded] [-o FILE] [FILE]`.
 fn run<'a>(alloc: Global) -> Result<Command<'a>, AllocError> {
     let run = reader(alloc, "run")?;
     let run = run.arg(option(alloc, "timeout", ArgAction::Set))?;
     let run = run.arg(option(alloc, "object", ArgAction::Set))?;
-    run.arg(option(alloc, "dir", ArgAction::Set))
+    let run = run.arg(option(alloc, "dir", ArgAction::Set))?;
+    run.arg(option(alloc, "unrecorded", ArgAction::SetTrue))
 }
 
 /// Returns `manual [COMMAND]`.
@@ -209,19 +216,31 @@ fn object_in(alloc: Global, options: &ArgMatches<'_>) -> Result<Option<String>, 
     }
 }
 
-/// Returns what else a run is asked for.
+/// Returns what a run is to keep of the answers that no history records.
+fn keep_in(options: &ArgMatches<'_>) -> Keep {
+    if options.get_flag("unrecorded") {
+        Keep::Each
+    } else {
+        Keep::Count
+    }
+}
+
+/// Returns what else a run is asked for. A history text has no place for answers that no history records.
 fn options_in(alloc: Global, options: &ArgMatches<'_>) -> Result<Option<RunOptions>, Fault> {
     let timeout = timeout_in(options)?;
     let object = object_in(alloc, options)?;
     let dir = file_in(alloc, options, "dir")?;
-    if timeout.is_none() && object.is_none() && dir.is_none() {
-        return Ok(None);
+    let keep = keep_in(options);
+    match keep {
+        Keep::Count if timeout.is_none() && object.is_none() && dir.is_none() => Ok(None),
+        Keep::Each if object.is_some() => Err(Fault::Usage),
+        _ => Ok(Some(RunOptions {
+            timeout,
+            object,
+            dir,
+            keep,
+        })),
     }
-    Ok(Some(RunOptions {
-        timeout,
-        object,
-        dir,
-    }))
 }
 
 /// Returns what the parsed words ask for. Without a command, standard input is replayed.
@@ -231,6 +250,7 @@ fn asked_by(alloc: Global, words: &ArgMatches<'_>) -> Result<Asked, Fault> {
             job: Job::Answer(Task::Replay(Form::Replay)),
             file: None,
             output: None,
+            names: None,
             options: None,
         });
     };
@@ -242,6 +262,13 @@ fn asked_by(alloc: Global, words: &ArgMatches<'_>) -> Result<Asked, Fault> {
             file_in(alloc, options, "output")?,
         ),
     };
+    let names = match job {
+        Job::Answer(Task::Draw(_)) => file_in(alloc, options, "names")?,
+        Job::Answer(Task::Page(_)) if options.get_str("names").is_some() => {
+            return Err(Fault::Usage);
+        }
+        _ => None,
+    };
     let options = match job {
         Job::Run => options_in(alloc, options)?,
         Job::Answer(_) | Job::Explain(_, _) | Job::Tell(_) => None,
@@ -250,6 +277,7 @@ fn asked_by(alloc: Global, words: &ArgMatches<'_>) -> Result<Asked, Fault> {
         job,
         file,
         output,
+        names,
         options,
     })
 }

@@ -5,16 +5,17 @@
 //! to standard output, or with `--history` the history text. `aqs audit [FILE]` reads a history text and
 //! writes its audit text. The exit status is 1 if the history isn't legal. `aqs draw [FILE]` writes a picture
 //! of a history as an SVG document, with the same status; with `--page` it writes a page of HTML that steps
-//! through the entries. `--from` and `--to` choose entries. `aqs explain [FILE]` explains the first entry that
+//! through the entries. `--names` names the file with names of seats and conditions, and `--from` and `--to`
+//! choose entries. `aqs explain [FILE]` explains the first entry that
 //! isn't legal, or the one of `--at`, with the same status. Of any other text it says where it is wrong, of a
 //! file that can't be read why, with status 1. `aqs summary [FILE]` sums a history up, seat by seat, with the
 //! status of its verdict. `aqs run [FILE]` reads a script and runs its threads. It writes the history of
 //! each of its objects, with the audit's lines on it; with `--object` the history of one object alone. `--dir`
-//! leaves the histories in a folder too, and with `--timeout` it says how the threads stand if they have not
-//! ended in time, with status 1. `aqs manual` and `aqs about` write pages. Without any words the program
-//! replays. With `--json` an audit, an explanation or a summary is one JSON object. With `-o FILE` what a command
-//! writes goes to a file. A fault is printed on standard error, in one line. Nothing has been written then, unless
-//! writing itself failed.
+//! leaves the histories in a folder too, and `--unrecorded` lists the answers that no history records. With
+//! `--timeout` it says how the threads stand if they have not ended in time, with status 1. `aqs manual` and
+//! `aqs about` write pages. Without any words the program replays. With `--json` an audit, an explanation or a
+//! summary is one JSON object. With `-o FILE` what a command writes goes to a file. A fault is printed on standard
+//! error, in one line. Nothing has been written then, unless writing itself failed.
 #![tactic(auto)]
 
 ghost use Rattle.std.specs.Prelude.{◌≡◌, ◌↔◌, false, IsErrOf, IsTrue};
@@ -31,6 +32,7 @@ use crate::folder::Left;
 use crate::input::{Input, Origin};
 use crate::output::{Output, close, open};
 use driver::notation::Notation;
+use naming::Names;
 use run_text::write_history;
 use script::Script;
 use std::convert::AsStr;
@@ -50,17 +52,31 @@ use tasks::as_json::{explain_as_json, tell_unread_as_json};
 use tasks::ending::status_of_end;
 use tasks::explain::{explain, tell_unread};
 use tasks::fault::{Fault, RunOption};
-use tasks::perform::perform;
+use tasks::names::names_of;
+use tasks::perform::{draw_with, perform};
 use tasks::ran::Ran;
 use tasks::run_script::{run_script, script_of};
-use tasks::task::Job;
+use tasks::task::{Job, Task};
 use tasks::tell::tell;
 use tasks::timed::{Timed, run_within, tell_late};
+use workers::Keep;
+
+/// Returns the names of the file that has them, or none.
+fn names_in<R: Files + AllocGlobal>(rt: &R, file: Option<&str>) -> Result<Names, Fault> {
+    let Some(name) = file else {
+        return Ok(Names::none(rt.alloc()));
+    };
+    match File::open(rt, name) {
+        Ok(file) => names_of(rt.alloc(), &mut UntilEnd::new(Device::new(file))),
+        Err(_) => Err(Fault::Stream(StreamFault::ReadFailed)),
+    }
+}
 
 /// Does a job, with the text from a reader.
 fn finish<R: AllocGlobal + Threads + Wait + Clock + Sync, I: Read + Drop, W: Sink>(
     rt: &R,
     job: Job,
+    names: &Names,
     input: I,
     writer: &mut W,
 ) -> Result<u8, Fault>
@@ -69,6 +85,9 @@ fn finish<R: AllocGlobal + Threads + Wait + Clock + Sync, I: Read + Drop, W: Sin
 {
     let mut reader = UntilEnd::new(Device::new(input));
     match job {
+        Job::Answer(Task::Draw(choice)) => {
+            draw_with(rt.alloc(), names, &mut reader, writer, choice)
+        }
         Job::Answer(task) => perform(rt.alloc(), &mut reader, writer, task),
         Job::Explain(at, Notation::Lines) => explain(rt.alloc(), &mut reader, writer, at),
         Job::Explain(at, Notation::Json) => explain_as_json(rt.alloc(), &mut reader, writer, at),
@@ -135,10 +154,11 @@ fn timed<R: AllocGlobal + Threads + Wait + Clock + Sync + Send + Copy + 'static>
     rt: &R,
     script: Arc<Script>,
     timeout: Option<u32>,
+    keep: Keep,
 ) -> Result<Timed, Fault> {
     match timeout {
-        None => Ok(Timed::Ended(Ran::of(rt, script)?)),
-        Some(milliseconds) => run_within(rt, script, milliseconds),
+        None => Ok(Timed::Ended(Ran::of(rt, script, keep)?)),
+        Some(milliseconds) => run_within(rt, script, milliseconds, keep),
     }
 }
 
@@ -158,7 +178,7 @@ fn run_with<
     if let Some(folder) = &options.dir {
         left.choose(rt, folder.as_str(), &*script)?;
     }
-    let ran = match timed(rt, script, options.timeout)? {
+    let ran = match timed(rt, script, options.timeout, options.keep)? {
         Timed::Ended(ran) => ran,
         Timed::Late(text) => return tell_late(writer, &text),
     };
@@ -174,6 +194,7 @@ fn answer<
 >(rt: &R, asked: &Asked, given: I, output: O, left: &mut Left) -> Result<u8, Fault> {
     let job = asked.job;
     let file = asked.file.as_ref().map(|name| name.as_str());
+    let names = names_in(rt, asked.names.as_ref().map(|name| name.as_str()))?;
     let mut writer = Device::new(output);
     let origin = match file {
         None => Origin::Given(given),
@@ -186,7 +207,7 @@ fn answer<
     if let Some(options) = &asked.options {
         return run_with(rt, options, &mut input, &mut writer, left);
     }
-    let done = finish(rt, job, &mut input, &mut writer);
+    let done = finish(rt, job, &names, &mut input, &mut writer);
     match (done, input.failure()) {
         (Err(Fault::Stream(StreamFault::ReadFailed)), Some(error)) => {
             unread(rt, job, file, error, &mut writer)

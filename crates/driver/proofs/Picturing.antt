@@ -16,6 +16,7 @@ use Rattle.drawing.specs.Marks.{mark_of, marks, sign_at}
 use Rattle.history.specs.declared.entry.Entry.{Entry}
 use Rattle.history.specs.Base.{Base}
 use Rattle.history.specs.Start.{Start}
+use Rattle.naming.specs.Names.{Given}
 use Rattle.picture.specs.Document.{svg_text}
 use Rattle.picture.specs.Layout.{IsShort}
 use Rattle.picture.specs.Marks.{IsEarly}
@@ -56,11 +57,11 @@ front_short Legal entries few = few
 front_short (NotLegal number) entries few = omega (arith, few, length-take number entries)
 
 -- the text of a picture of the same
-pub same_picture : (choice : Choice) (verdict : Verdict) (b b' : Base) (count count' : ℕ)
+pub same_picture : (names : Given) (choice : Choice) (verdict : Verdict) (b b' : Base) (count count' : ℕ)
     (entries others : List Entry) (text : List ℕ) → b ≡ b' → count ≡ count' → entries ≡ others →
-    text ≡ svg_text (pictured b choice count verdict (legal_front verdict entries)) entries →
-    text ≡ svg_text (pictured b' choice count' verdict (legal_front verdict others)) others
-same_picture choice verdict b b' count count' entries others text base counts items is =
-    is ∙ ap (λ h. svg_text (pictured h choice count verdict (legal_front verdict entries)) entries) base
-    ∙ ap (λ n. svg_text (pictured b' choice n verdict (legal_front verdict entries)) entries) counts
-    ∙ ap (λ xs. svg_text (pictured b' choice count' verdict (legal_front verdict xs)) xs) items
+    text ≡ svg_text names (pictured b choice count verdict (legal_front verdict entries)) entries →
+    text ≡ svg_text names (pictured b' choice count' verdict (legal_front verdict others)) others
+same_picture names choice verdict b b' count count' entries others text base counts items is =
+    is ∙ ap (λ h. svg_text names (pictured h choice count verdict (legal_front verdict entries)) entries) base
+    ∙ ap (λ n. svg_text names (pictured b' choice n verdict (legal_front verdict entries)) entries) counts
+    ∙ ap (λ xs. svg_text names (pictured b' choice count' verdict (legal_front verdict xs)) xs) items

@@ -1,5 +1,5 @@
 -- What is drawn for a history text.
-use Rattle.std.specs.Prelude.{ℕ, ◌+◌, List, Option, Some, None, Result, length, reverse, take}
+use Rattle.std.specs.Prelude.{ℕ, ◌+◌, List, [], Option, Some, None, Result, length, reverse, take}
 use Rattle.audit.specs.declared.verdict.Verdict.{Verdict}
 use Rattle.audit.specs.declared.verdict.Verdict.TheVariants.{Legal, NotLegal}
 use Rattle.drawing.specs.Bars.{bars}
@@ -8,6 +8,7 @@ use Rattle.drawing.specs.Marks.{marks}
 use Rattle.history.specs.declared.entry.Entry.{Entry}
 use Rattle.history.specs.Base.{Base, based}
 use Rattle.history_text.specs.HistoryText.{history_form}
+use Rattle.naming.specs.Names.{Given}
 use Rattle.picture.specs.Document.{svg_text}
 use Rattle.picture.specs.View.{View}
 use Rattle.streams.specs.declared.stream_fault.StreamFault.{StreamFault}
@@ -49,11 +50,16 @@ picture_of choice b entries verdict =
     pictured b choice (length entries) verdict
     (legal_front verdict (take (end_of choice b.entries) (reverse entries)))
 
-abbrev pub drawn_text : Choice → Base → List Entry → Verdict → List ℕ
-drawn_text choice b entries verdict =
-    svg_text (picture_of choice b entries verdict) (take (end_of choice b.entries) (reverse entries))
+abbrev pub drawn_text : Given → Choice → Base → List Entry → Verdict → List ℕ
+drawn_text names choice b entries verdict =
+    svg_text names (picture_of choice b entries verdict) (take (end_of choice b.entries) (reverse entries))
+
+-- what drawing with names leaves
+abbrev pub DrawsWith : Given → Choice → Option (List ℕ) → Option (List ℕ) → Option (List ℕ) →
+    Result Verdict StreamFault → Type 0
+DrawsWith names choice = Streams history_form (IsToldOf (drawn_text names choice))
 
 -- what drawing leaves
 abbrev pub Draws : Choice → Option (List ℕ) → Option (List ℕ) → Option (List ℕ) → Result Verdict StreamFault →
     Type 0
-Draws choice = Streams history_form (IsToldOf (drawn_text choice))
+Draws = DrawsWith []

@@ -6,7 +6,7 @@ ghost use Rattle.std.specs.List.{All};
 ghost use Rattle.std.specs.Io.KnownBytes.{IsAtEnd};
 ghost use Rattle.driver.specs.inner.VerdictText.{IsVerdictText};
 ghost use Rattle.driver.specs.AuditText.{before_wrong};
-ghost use Rattle.driver.specs.DrawStream.{Draws, drawn_text, legal_front, pictured, wrong_of};
+ghost use Rattle.driver.specs.DrawStream.{Draws, DrawsWith, drawn_text, legal_front, pictured, wrong_of};
 ghost use Rattle.driver.specs.HistoryReader.{base_held};
 ghost use Rattle.driver.specs.TextReader.{IsFaultOf};
 ghost use Rattle.history_text.specs.HistoryText.{history_form};
@@ -21,6 +21,7 @@ use audit::verdict::Verdict;
 use drawing::drawn_entries::drawn_of;
 use drawing::laws::bars_are_the_longest_stretches;
 use history::entry::Entry;
+use naming::Names;
 use picture::document::svg_text;
 use picture::picture::Picture;
 use std::alloc::{AllocError, Global};
@@ -47,18 +48,37 @@ pub fn draw_stream<R: Source, W: Sink>(
     ensures read { IsErrOf result StreamFault.ReadFailed ↔ IsTrue (R.failed reader.new) }
     ensures write { IsErrOf result StreamFault.WriteFailed ↔ IsTrue (W.failed writer.new) }
 {
-    let outcome = sketch_of(alloc, reader, choice);
+    draw_stream_with(alloc, &Names::none(alloc), reader, writer, choice)
+}
+
+/// As [`draw_stream`], with the names that were given to seats and conditions.
+pub fn draw_stream_with<R: Source, W: Sink>(
+    alloc: Global,
+    names: &Names,
+    reader: &mut R,
+    writer: &mut W,
+    choice: Choice,
+) -> Result<Verdict, StreamFault>
+    requires reader { R.failed reader.old ≡ false }
+    requires writer { W.failed writer.old ≡ false }
+    ensures draws { DrawsWith names.now choice (R.left reader.old) (W.held writer.old) (W.held writer.new) result }
+    ensures end { IsReadOut history_form (R.left reader.old) result (R.left reader.new) }
+    ensures read { IsErrOf result StreamFault.ReadFailed ↔ IsTrue (R.failed reader.new) }
+    ensures write { IsErrOf result StreamFault.WriteFailed ↔ IsTrue (W.failed writer.new) }
+{
+    let outcome = sketch_of(alloc, names, reader, choice);
     write_verdict(reader, writer, outcome)
 }
 
 /// Returns the picture of the history text that a source has.
 fn sketch_of<R: Source>(
     alloc: Global,
+    names: &Names,
     reader: &mut R,
     choice: Choice,
 ) -> Result<VerdictText, StreamFault>
     requires { R.failed reader.old ≡ false }
-    ensures ok { IfOk result (IsVerdictText (drawn_text choice) (R.left reader.old)) }
+    ensures ok { IfOk result (IsVerdictText (drawn_text names.now choice) (R.left reader.old)) }
     ensures err { IfErr result (IsFaultOf history_form (R.left reader.old) (R.left reader.new)) }
     ensures memory { OnOk result (IsReadNoFurther history_form (R.left reader.old) (R.left reader.new)) }
     ensures ended { OnOk result (IsAtEnd (R.left reader.new)) }
@@ -68,13 +88,14 @@ fn sketch_of<R: Source>(
     let folded = entries.folded();
     let judged = judged_of(alloc, &mut entries, reader, choice.end(folded))?;
     let verdict = judged.judgement.verdict();
-    let text = drawn_text(alloc, &entries, choice, verdict, &judged.entries)?;
+    let text = drawn_text(alloc, names, &entries, choice, verdict, &judged.entries)?;
     Ok(VerdictText { verdict, text })
 }
 
 /// Returns the text of the picture. `kept` are those of the read entries that were kept.
 fn drawn_text(
     alloc: Global,
+    names: &Names,
     entries: &HistoryReader,
     choice: Choice,
     verdict: Verdict,
@@ -84,7 +105,7 @@ fn drawn_text(
     requires wrong { before_wrong verdict < 2 ^ 32 }
     requires seated { All (λ e. e.seat < entries.now.header.seats) kept.now }
     requires few { length kept.now < 2 ^ 32 }
-    ensures { IfOk result (λ text. text.items ≡ svg_text (pictured (base_held entries.now) choice
+    ensures { IfOk result (λ text. text.items ≡ svg_text names.now (pictured (base_held entries.now) choice
         entries.now.place.count verdict (legal_front verdict kept.now)) kept.now) }
 {
     let shown = legal_front(kept, verdict);
@@ -104,7 +125,7 @@ fn drawn_text(
         drawn,
     };
     bars_are_the_longest_stretches();
-    svg_text(alloc, &picture, kept)
+    svg_text(alloc, names, &picture, kept)
 }
 
 /// Returns the entries before the first illegal one.

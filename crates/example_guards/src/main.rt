@@ -6,8 +6,9 @@
 //! - `read_mostly_table`: a table that a read-write lock guards, and writers that downgrade to readers.
 //! - `counter`: a number that four threads count up. What they counted and what they left add up to what was
 //!   asked for.
+//! - `bank`: two accounts, between which two threads pay. The lock keeps the invariant that their sum is 1000.
 //!
-//! `example_guards` runs all four. `example_guards TIMES` runs only the counter, and the four threads
+//! `example_guards` runs all five. `example_guards TIMES` runs only the counter, and the four threads
 //! together count TIMES times: 10000000 takes no more memory than 20000. A program that fails gives up what
 //! it holds, and says so.
 #![tactic(auto)]
@@ -15,7 +16,9 @@
 ghost use Rattle.std.specs.Prelude.{◌≡◌};
 ghost use Rattle.example_guards.specs.declared.Failure.TheVariants.{Call};
 
+mod accounts;
 mod adding;
+mod bank;
 mod bounded;
 mod buffer;
 mod counter;
@@ -56,12 +59,13 @@ impl From<Fault> for Failure {
 /// How often the threads count if nothing is asked for.
 const TIMES: u32 = 20_000;
 
-/// Runs all four programs, one after another.
+/// Runs all five programs, one after another.
 fn run_all<R: Print + AllocGlobal + Threads + Wait + Clock + Sync>(rt: &R) -> io::Result<()> {
     buffer::run(rt)?;
     table::run(rt)?;
     read_mostly_table::run(rt)?;
-    counter::run(rt, TIMES)
+    counter::run(rt, TIMES)?;
+    bank::run(rt)
 }
 
 fn main(rt: HostRuntime) -> io::Result<()> {

@@ -1,5 +1,5 @@
--- What the calls of a lock leave of a pass's holds, and of the value that it has.
-use Rattle.std.proofs.Common.{◌≡◌, ℕ, ◌+◌, ◌<◌, true, Result, Ok, Err, IsOk, refl, sym, ap, ◌∙◌, arith, subst}
+-- What the calls of a lock leave of a pass's holds.
+use Rattle.std.proofs.Common.{◌≡◌, ◌+◌, true, Result, Ok, Err, IsOk, refl, sym, ap, ◌∙◌, arith, subst}
 use Rattle.history.specs.declared.entry.Entry.{Entry}
 use Rattle.history.specs.declared.fault.Fault.{Fault}
 use Rattle.history.specs.Object.{is_lock}
@@ -16,9 +16,7 @@ use Rattle.monitor_fronts.proofs.MakingRoom.{acquires_gain, awaits_keep, tries_g
 use Rattle.guarded.specs.declared.asking.Asked.{Asked}
 use Rattle.guarded.specs.declared.asking.Asked.TheVariants as asked
 use Rattle.guarded.specs.inner.Asking.{call_of, gained_by}
-use Rattle.guarded.specs.declared.slot.Slot.{Slot}
-use Rattle.guarded.specs.declared.slot.Slot.TheVariants.{Empty, Full}
-use Rattle.guarded.specs.Stowed.{Carries, IsFull, IsOfLock, MutexView, mutex_view}
+use Rattle.guarded.specs.Stowed.{IsOfLock, MutexView, mutex_view}
 
 -- a pass of such a lock is of a lock
 pub is_of_lock : {monitor : LockId} {when_full : WhenFull} {m : MutexView} {l : LockId} →
@@ -38,11 +36,6 @@ call_gains did w a z old new r is lock same made =
     by (asked.Try) x = tries_gain w did (Try X 1) old new r same x refl lock
     by (asked.Await condition how) x =
         let keeps = awaits_keep w did condition how old new r same x in omega (arith, keeps)
-
--- who holds has the value
-pub has_value : {T : Type 0} (n : ℕ) (value : Slot T) → Carries n value → 0 < n → IsFull value
-has_value n Empty carries some = absurd (omega (arith, carries, some))
-has_value n (Full x) carries some = tt
 
 pub never_fails : (r : Result Entry Fault) (f : Fault) → IsOk r → r ≡ Err f → ⊥
 never_fails (Ok e) f ok q = cc

@@ -67,16 +67,17 @@ has_by true (asks.Release n) m has f brings q = omega (arith, ints, q, brings)
 has_by false asked m has f brings q = omega (arith, ints, q, brings)
 
 -- what a call leaves on its shelf by what it returned, and it may return that
-pub record Ends {T : Type 0} (asked : PoolCall) (returned : Result Bool Fault) (x y : Shelf T) : Type 0 where
+pub record Ends {T I : Type 0} (asked : PoolCall) (returned : Result Bool Fault) (x y : Shelf T I) : Type 0 where
   pub answers : Answers asked returned
   pub has : length y.items ≡ has_after asked returned
   pub keeps : is_done returned ≡ false → y ≡ x
 
-pub call_ends : {T : Type 0} (did : Deed → Type 0) (w : WhenFull) (asked is : PoolCall) (old new : Shown)
-    (r : Result Entry Fault) (x y : Shelf T) → asked ≡ is → is_semaphore old.lock.header.object ≡ true →
+pub call_ends : {T I : Type 0} (fit : Shelf T I → Type 0) (did : Deed → Type 0) (w : WhenFull) (asked is : PoolCall)
+    (old new : Shown) (r : Result Entry Fault) (x y : Shelf T I) → asked ≡ is → is_semaphore old.lock.header.object ≡ true →
     length x.items ≡ brought_by asked → IsSame old new → IsSound new → pool_call did is w old r new →
-    Moves true (λ (s : Shelf T). length s.items) x (free_of old) y (free_of new) → Ends asked (whether_of r) x y
-call_ends {T} did w asked is old new r x y same_call semaphore brings same shows made m =
+    Moves fit true (λ (s : Shelf T I). length s.items) x (free_of old) y (free_of new) →
+    Ends asked (whether_of r) x y
+call_ends {T} {I} fit did w asked is old new r x y same_call semaphore brings same shows made m =
     let left = call_left did w asked old new r semaphore same shows
     (subst (λ (z : PoolCall). pool_call did z w old r new) (sym same_call) made) in
     record {
@@ -100,9 +101,11 @@ same_item items item (Ok u) is back = tt
 same_item items item (Err e) is back = let q : e.0 ∷ [] ≡ item ∷ [] = sym back ∙ is in cc
 
 -- a drain leaves as many items on its shelf as it returns
-pub drained_items : {T : Type 0} (x y : Shelf T) (f g : ℤ) (r : Result ℕ Fault) → length x.items ≡ 0 →
-    g ≡ f -ℤ pos (if_ok r) → Moves true (λ (s : Shelf T). length s.items) x f y g → length y.items ≡ if_ok r
-drained_items {T} x y f g r none left m = by (length x.items) (length y.items) (if_ok r) f g none left m.0
+pub drained_items : {T I : Type 0} (fit : Shelf T I → Type 0) (x y : Shelf T I) (f g : ℤ) (r : Result ℕ Fault) →
+    length x.items ≡ 0 → g ≡ f -ℤ pos (if_ok r) → Moves fit true (λ (s : Shelf T I). length s.items) x f y g →
+    length y.items ≡ if_ok r
+drained_items {T} {I} fit x y f g r none left m =
+    by (length x.items) (length y.items) (if_ok r) f g none left m.0
   where
     by : (a b n : ℕ) (f g : ℤ) → a ≡ 0 → g ≡ f -ℤ pos n → pos b +ℤ g ≡ pos a +ℤ f → b ≡ n
     by a b n f g none left moved = omega (arith, ints, none, left, moved)

@@ -27,10 +27,10 @@ use Rattle.guarded.specs.declared.asking.Reading.{Reading}
 use Rattle.guarded.specs.declared.asking.Reading.TheVariants as asks
 use Rattle.guarded.specs.Reading.{GainsReads, Saw, Sees, reads}
 use Rattle.guarded.specs.inner.Reading.{reading_of}
-use Rattle.guarded.specs.Stowed.{Rests}
+use Rattle.guarded.specs.Stowed.{IsFull}
+use Rattle.guarded.specs.inner.Stowed.{Lies}
 use Rattle.guarded.specs.declared.slot.Slot.{Slot}
-use Rattle.guarded.specs.declared.slot.Slot.TheVariants.{Empty, Full}
-use Rattle.guarded.proofs.Stowing.{rests_as}
+use Rattle.guarded.specs.declared.slot.Slot.TheVariants.{Empty, Full, Lent}
 
 -- a look leaves a pass's holds
 pub looks_on : (old new : Shown) → IsLook old new → (reads new ≡ reads old) × (holds new ≡ holds old)
@@ -40,11 +40,12 @@ looks_on old new l =
     (each S, each X)
 
 -- a reader that doesn't write finds the value under the lock
-pub value_lies : {T : Type 0} (p : Shown) (load : Slot T) → IsSound p → 0 < reads p → holds p ≡ 0 →
-    Rests load (counts (start_at p.seen) p.seen.entries) → load ≡ Empty → ⊥
-value_lies {T} p (Full x) shows some none rests is = cc
-value_lies {T} p Empty shows some none rests is =
-    let s = p.seen in
+pub value_lies : {T I : Type 0} (inv : T → Type 0) (p : Shown) (load : Slot T I) → IsSound p → 0 < reads p →
+    holds p ≡ 0 → Lies inv load (counts (start_at p.seen) p.seen.entries) → (IsFull load → ⊥) → ⊥
+value_lies inv p (Full x) shows some none lies never = never tt
+value_lies inv p (Lent l) shows some none lies never = lies.1
+value_lies inv p Empty shows some none lies never =
+    let s = p.seen in let rests = lies.0 in
     let good = shows.lawful in
     let owned = owned_behind s.base good.may_fold.can.good s.entries rests.lock good.legal good.seated in
     let own = true_holds p shows in
@@ -56,12 +57,14 @@ value_lies {T} p Empty shows some none rests is =
     let writes = writer.1 in
     omega (arith, had, writes, away)
 
-pub saw_there : {T A : Type 0} (returns : T → A → Type 0) (p : Shown) (load slot : Slot T) (seen : Option A)
-    (answer : A) → Rests load (counts (start_at p.seen) p.seen.entries) → slot ≡ load →
-    IfSome seen (λ (a : A). Sees returns slot a) → seen ≡ Some answer → Saw returns p answer
-saw_there {T} {A} returns p load slot seen answer rests at sees is =
+pub saw_there : {T I A : Type 0} (inv : T → Type 0) (returns : T → A → Type 0) (p : Shown) (load slot : Slot T I)
+    (seen : Option A) (answer : A) → Lies inv load (counts (start_at p.seen) p.seen.entries) → slot ≡ load →
+    IfSome seen (λ (a : A). Sees returns slot a) → seen ≡ Some answer → Saw inv returns p answer
+saw_there {T} {I} {A} inv returns p load slot seen answer lies at sees is =
     let there = subst (λ (z : Option A). IfSome z (λ (a : A). Sees returns slot a)) is sees in
-    (there.0, rests_as load (Full there.0) _ (sym there.1 ∙ at) rests, there.2)
+    let same : load ≡ Full there.0 = sym at ∙ there.1 in
+    let x = subst (λ (z : Slot T I). Lies inv z (counts (start_at p.seen) p.seen.entries)) same lies in
+    (there.0, x.0, x.1, there.2)
 
 -- a call of a reader adds the read holds that it returns
 pub reading_gains : (did : Deed → Type 0) (w : WhenFull) (a : Reading) (old new : Shown) (r : Result Entry Fault) →

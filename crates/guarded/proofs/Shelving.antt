@@ -1,7 +1,9 @@
 -- Items move as permits do: what a step with a trade leaves of a pool.
 use Rattle.std.proofs.Common.{◌≡◌, ◌⊎◌, inl, inr, ⊎_elim, ℕ, ◌+◌, ◌-◌, ◌<◌, ◌≤◌, ◌^◌, Bool, true, cond}
-use Rattle.std.proofs.Common.{List, [], ◌++◌, length, take, drop, sym, ap, ◌∙◌, arith}
+use Rattle.std.proofs.Common.{List, [], ◌∷◌, ◌++◌, length, take, drop, sym, ap, ◌∙◌, arith}
 use Rattle.std.specs.Int.{w32}
+use Rattle.std.specs.List.{All}
+use Rattle.std.proofs.lemmas.List.Elements.{All-append, All-cons, All-drop, All-head, All-nil, All-same, All-take}
 use Rattle.std.specs.Prelude.{FitsSigned, ℤ, pos, ◌+ℤ◌, ◌-ℤ◌, ◌≤ℤ◌}
 use Rattle.std.proofs.lemmas.Bool.{cases_eq}
 use Rattle.std.proofs.lemmas.Int.{ints}
@@ -27,15 +29,18 @@ pub record Traded {T : Type 0} (free : ℤ) (here there here' there' : List T) :
   pub stays : free ≡ pos (length here) → (here' ≡ here) × (there' ≡ there)
 
 -- what it leaves
-pub record Leaves {T : Type 0} (here there here' there' : List T) (k l : Counts) : Type 0 where
+pub record Leaves {T : Type 0} (P : T → Type 0) (here there here' there' : List T) (k l : Counts) : Type 0 where
   pub lies : Lies here' l
   pub moved : pos (length there') +ℤ l.free ≡ pos (length there) +ℤ k.free
   pub same : l.free ≡ k.free → there' ≡ there
+  pub here_meet : All P here'
+  pub there_meet : All P there'
 
-module _ {T : Type 0} (here there here' there' : List T) (k l : Counts) (free : ℤ)
+module _ {T : Type 0} (P : T → Type 0) (here there here' there' : List T) (k l : Counts) (free : ℤ)
+    (here_meets : All P here) (there_meets : All P there)
     (traded : Traded free here there here' there') (lies : Lies here k) (semaphore : is_semaphore l.object ≡ true)
     (is : free ≡ l.free) where
-  stay : l.free ≡ k.free → Leaves here there here' there' k l
+  stay : l.free ≡ k.free → Leaves P here there here' there' k l
   stay q =
       let s = traded.stays (is ∙ (q ∙ sym lies.each)) in
       record {
@@ -45,10 +50,12 @@ module _ {T : Type 0} (here there here' there' : List T) (k l : Counts) (free : 
         };
         moved = ap (λ (z : List T). pos (length z) +ℤ l.free) s.1 ∙ ap (λ (z : ℤ). pos (length there) +ℤ z) q;
         same = λ _. s.1;
+        here_meet = All-same P here' here s.0 here_meets;
+        there_meet = All-same P there' there s.1 there_meets;
       }
 
   take_some : (n m : ℕ) → l.free ≡ k.free -ℤ pos n → 0 < n → free ≡ pos m → m + n ≡ length here →
-      there ≡ [] → Leaves here there here' there' k l
+      there ≡ [] → Leaves P here there here' there' k l
   take_some n m q some f all none =
       let few : m < length here = omega (arith, some, all) in
       let le : m ≤ length here = omega (arith, few) in
@@ -63,9 +70,11 @@ module _ {T : Type 0} (here there here' there' : List T) (k l : Counts) (free : 
         moved = let goal : pos (length there') +ℤ l.free ≡ pos (length there) +ℤ k.free =
             omega (arith, ints, taken, nothing, each, is_left, few) in goal;
         same = λ same. absurd (omega (arith, ints, same, each, is_left, few));
+        here_meet = All-same P here' (take m here) t.0 (All-take P m here here_meets);
+        there_meet = All-same P there' (drop m here) t.1 (All-drop P m here here_meets);
       }
 
-  give_some : l.free ≡ k.free +ℤ pos (length there) → 0 < length there → Leaves here there here' there' k l
+  give_some : l.free ≡ k.free +ℤ pos (length there) → 0 < length there → Leaves P here there here' there' k l
   give_some q some =
       let each = lies.each in
       let f : free ≡ pos (length here + length there) = omega (arith, ints, is, q, each) in
@@ -77,12 +86,14 @@ module _ {T : Type 0} (here there here' there' : List T) (k l : Counts) (free : 
         moved = let goal : pos (length there') +ℤ l.free ≡ pos (length there) +ℤ k.free =
             omega (arith, ints, none, q) in goal;
         same = λ same. absurd (omega (arith, ints, same, q, some));
+        here_meet = All-same P here' (here ++ there) g.0 (All-append P here there here_meets there_meets);
+        there_meet = All-same P there' [] g.1 (All-nil P);
       }
 
   left_by : (step_gives : ℕ) → length there ≡ step_gives →
       ((l.free ≡ k.free)
       ⊎ ((step_gives ≡ 0) × ((n : ℕ) × (l.free ≡ k.free -ℤ pos n)) × (pos 0 ≤ℤ l.free))
-      ⊎ (l.free ≡ k.free +ℤ pos step_gives)) → Leaves here there here' there' k l
+      ⊎ (l.free ≡ k.free +ℤ pos step_gives)) → Leaves P here there here' there' k l
   left_by gives brings (inl q) = stay q
   left_by gives brings (inr (inl (none, taken, low))) =
       ⊎_elim (λ same. let q : l.free ≡ k.free = omega (arith, ints, taken.1, same) in stay q)
@@ -101,13 +112,23 @@ module _ {T : Type 0} (here there here' there' : List T) (k l : Counts) (free : 
       (cases_eq (length there) 0)
 
 -- a turn of the lock with a trade
-pub shelved : {T : Type 0} (i : ℕ) (k l : Counts) (turn : IsTurn i k l) (free : ℤ) → IsFree free l →
-    (here there here' there' : List T) → Traded free here there here' there' → Lies here k →
-    length there ≡ given_by turn.step → Leaves here there here' there' k l
-shelved i k l turn free told here there here' there' traded lies brings =
+pub shelved : {T : Type 0} (P : T → Type 0) (i : ℕ) (k l : Counts) (turn : IsTurn i k l) (free : ℤ) →
+    IsFree free l → (here there here' there' : List T) → Traded free here there here' there' → Lies here k →
+    All P here → All P there → length there ≡ given_by turn.step → Leaves P here there here' there' k l
+shelved P i k l turn free told here there here' there' traded lies here_meets there_meets brings =
     let semaphore = ap is_semaphore turn.object ∙ lies.semaphore in
-    left_by here there here' there' k l free traded lies semaphore (told semaphore) (given_by turn.step) brings
-    (turn.free lies.semaphore)
+    left_by P here there here' there' k l free here_meets there_meets traded lies semaphore (told semaphore)
+    (given_by turn.step) brings (turn.free lies.semaphore)
+
+-- what holds of each item holds of the one item of a list, and the other way round
+pub of_one : {T : Type 0} (P : T → Type 0) (items : List T) (x : T) → items ≡ x ∷ [] → All P items → P x
+of_one P items x is all = All-head P x [] (All-same P (x ∷ []) items (sym is) all)
+
+pub in_one : {T : Type 0} (P : T → Type 0) (items : List T) (x : T) → items ≡ x ∷ [] → P x → All P items
+in_one P items x is meets = All-same P items (x ∷ []) is (All-cons P x [] meets (All-nil P))
+
+pub in_none : {T : Type 0} (P : T → Type 0) (items : List T) → items ≡ [] → All P items
+in_none P items is = All-same P items [] is (All-nil P)
 
 -- as many items as a semaphore may have permits
 pub short : {T : Type 0} (items : List T) → FitsSigned w32 (pos (length items)) → length items < 2 ^ 31

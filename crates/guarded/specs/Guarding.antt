@@ -18,14 +18,14 @@ pub record CanLock (m : MutexView) (seats : ℕ) (p : Shown) : Type 0 where
   pub free : holds p ≡ 0
 
 -- A pass of the lock that holds it, with the value, and with a place to park for each seat.
-pub record Guards {T : Type 0} (m : MutexView) (seats : ℕ) (p : Shown) (value : Slot T) : Type 0 where
+pub record Guards {T I : Type 0} (m : MutexView) (seats : ℕ) (p : Shown) (value : Slot T I) : Type 0 where
   pub lock : p.lock ≡ m.lock
   pub places : m.lock.header.seats ≤ seats
   pub some : 0 < holds p
   pub there : IsFull value
 
 -- a call that got the lock, and the value with it
-pub record Locked {T : Type 0} (w : WhenFull) (call : Call) (old : Shown) (value : Slot T) (new : Shown) :
+pub record Locked {T I : Type 0} (w : WhenFull) (call : Call) (old : Shown) (value : Slot T I) (new : Shown) :
     Type 0 where
   pub called : Called old new
   pub replied : CallReturns w call old new (Ok true)

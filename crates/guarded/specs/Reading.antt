@@ -1,5 +1,5 @@
 -- What readers of a lock that guards a value ask of its monitor.
-use Rattle.std.specs.Prelude.{◌≡◌, ◌+◌, ℕ, Bool, Result}
+use Rattle.std.specs.Prelude.{◌≡◌, ◌+◌, ℕ, Bool, Result, Some}
 use Rattle.history.specs.declared.entry.Entry.{Entry}
 use Rattle.history.specs.declared.entry.Mode.TheVariants.{S}
 use Rattle.history.specs.Counts.{counts}
@@ -41,11 +41,12 @@ pub record GainsReads (old : Shown) (returned : Result Bool Fault) (new : Shown)
   pub reads : reads new ≡ reads old + gained returned
   pub writes : holds new ≡ holds old
 
--- an answer was given at the value that lay under the lock then, which nobody wrote to
-abbrev pub Saw : {T A : Type 0} → (T → A → Type 0) → Shown → A → Type 0
-Saw {T} returns p answer =
-    (value : T) × Rests (Full value) (counts (start_at p.seen) p.seen.entries) × returns value answer
+-- An answer was given at the value that lay under the lock then. Nobody wrote to it, and it meets the invariant.
+abbrev pub Saw : {T A : Type 0} → (T → Type 0) → (T → A → Type 0) → Shown → A → Type 0
+Saw {T} invariant returns p answer =
+    (value : T) × Rests (Some value) (counts (start_at p.seen) p.seen.entries) × invariant value
+    × returns value answer
 
 -- an answer was given at the value of a slot
-abbrev pub Sees : {T A : Type 0} → (T → A → Type 0) → Slot T → A → Type 0
+abbrev pub Sees : {T I A : Type 0} → (T → A → Type 0) → Slot T I → A → Type 0
 Sees {T} returns slot answer = (value : T) × (slot ≡ Full value) × returns value answer

@@ -8,28 +8,23 @@ use Rattle.frame.specs.Hooks.{AreAlike}
 use Rattle.word_lock.specs.Ticket.{LockId}
 use Rattle.monitor.specs.declared.room.WhenFull.{WhenFull}
 use Rattle.guarded.specs.declared.slot.Slot.{Slot}
-use Rattle.guarded.specs.declared.slot.Slot.TheVariants.{Empty, Full}
+use Rattle.guarded.specs.declared.slot.Slot.TheVariants.{Empty, Full, Lent}
 
 -- the value is away exactly where some seat holds
-abbrev pub IsStowed : {T : Type 0} → (ℕ → ℕ) → Slot T → Type 0
-IsStowed f Empty = (i : ℕ) × (0 < f i)
-IsStowed f (Full x) = (i : ℕ) → f i ≡ 0
+abbrev pub IsStowed : {T : Type 0} → (ℕ → ℕ) → Option T → Type 0
+IsStowed f None = (i : ℕ) × (0 < f i)
+IsStowed f (Some x) = (i : ℕ) → f i ≡ 0
 
--- what holds whenever the lock is free
-pub record Rests {T : Type 0} (value : Slot T) (k : Counts) : Type 0 where
+-- what holds of the value under the lock, if it is there, whenever the lock is free
+pub record Rests {T : Type 0} (value : Option T) (k : Counts) : Type 0 where
   pub lock : is_lock k.object ≡ true
   pub stowed : IsStowed (λ i. k.held i X) value
 
--- a pass with this number of holds has the value exactly if that is above 0
-abbrev pub Carries : {T : Type 0} → ℕ → Slot T → Type 0
-Carries n Empty = n ≡ 0
-Carries n (Full x) = 0 < n
+stowed_alike : {T : Type 0} (v : Option T) (f g : ℕ → ℕ) → ((i : ℕ) → g i ≡ f i) → IsStowed f v → IsStowed g v
+stowed_alike None f g same s = (s.0, subst (λ (n : ℕ). 0 < n) (sym (same s.0)) s.1)
+stowed_alike (Some x) f g same s = λ i. same i ∙ s i
 
-stowed_alike : {T : Type 0} (v : Slot T) (f g : ℕ → ℕ) → ((i : ℕ) → g i ≡ f i) → IsStowed f v → IsStowed g v
-stowed_alike Empty f g same s = (s.0, subst (λ (n : ℕ). 0 < n) (sym (same s.0)) s.1)
-stowed_alike (Full x) f g same s = λ i. same i ∙ s i
-
-pub alike_so : {T : Type 0} (v : Slot T) (k l : Counts) → AreAlike k l → Rests v k → Rests v l
+pub alike_so : {T : Type 0} (v : Option T) (k l : Counts) → AreAlike k l → Rests v k → Rests v l
 alike_so v k l same r =
     record {
       lock = subst (λ o. is_lock o ≡ true) (sym same.object) r.lock;
@@ -37,14 +32,14 @@ alike_so v k l same r =
     }
 
 -- whether the value is there
-abbrev pub IsFull : {T : Type 0} → Slot T → Type 0
+abbrev pub IsFull : {T I : Type 0} → Slot T I → Type 0
 IsFull Empty = ⊥
 IsFull (Full x) = Unit {0}
+IsFull (Lent p) = ⊥
 
--- the slot of a value that may be there
-abbrev pub slot_of : {T : Type 0} → Option T → Slot T
-slot_of None = Empty
-slot_of (Some x) = Full x
+-- a value that is there meets the invariant
+abbrev pub Kept : {T I : Type 0} → (T → Type 0) → Slot T I → Type 0
+Kept {T} invariant slot = (value : T) → slot ≡ Full value → invariant value
 
 -- the object is a lock, which has one owner
 abbrev pub IsOfLock : LockId → Type 0

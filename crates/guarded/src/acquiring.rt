@@ -1,5 +1,5 @@
 //! How items are acquired from a pool, and released into it.
-ghost use Rattle.std.specs.Prelude.{◌≡◌, ◌<◌, ◌^◌, ◌∷◌, [], IfErr, IfOk, IfSome, length};
+ghost use Rattle.std.specs.Prelude.{◌≡◌, ◌<◌, ◌^◌, ◌∷◌, [], All, IfErr, IfOk, IfSome, length};
 ghost use Rattle.monitor.specs.Calling.{CanCall, Called};
 ghost use Rattle.monitor.specs.declared.how.How.TheVariants.{Interruptible, Plain, Timed};
 ghost use Rattle.guarded.specs.Asking.{CallReturns, yes_if_some};
@@ -9,6 +9,7 @@ ghost use Rattle.guarded.specs.Pooling.{DrainReturns, IsReleased, drains, fetche
 ghost use Rattle.guarded.specs.Pooling.{tries_fetch, without_items};
 
 use crate::asking::PoolCall;
+use crate::keeps::Keeps;
 use crate::pool::Pool;
 use crate::shelf::Shelf;
 use history::fault::Fault;
@@ -18,13 +19,14 @@ use monitor_fronts::{number, whether};
 use permit::Parking;
 use std::alloc::Global;
 use std::collections::LinkedList;
+use std::marker::PhantomData;
 use std::sync::Wait;
 use std::time::Clock;
 
 /// Each acquire returns as many items as were asked for. After an `Err` or a `None` the pool has all items
 /// that it had. `HistoryFull` and `TrimFull` come as the page of this crate says, `OutOfMemory` if memory for
 /// the history is refused, `BadAmount` above 2147483647, and `Interrupted` from methods that say so.
-impl<T: Drop> Pool<T> {
+impl<T: Drop, I: Keeps<T>> Pool<T, I> {
     /// Waits until the pool has `n` items, or is interrupted: `Err(Interrupted)`, also if an interrupt was
     /// pending. The interrupt is taken. This is `Semaphore.acquire(permits)`.
     pub fn acquire<P: Parking, R: Wait + Clock>(
@@ -37,6 +39,7 @@ impl<T: Drop> Pool<T> {
         requires can { CanCall self.now.lock (P.seats parking.now) pass.old }
         ensures called { Called pass.old pass.new }
         ensures items { IfOk result (λ items. length items ≡ n) }
+        ensures kept { IfOk result (λ items. All I.invariant items) }
         ensures returned { CallReturns self.now.when_full (fetches (P.did parking.now) n Interruptible)
             pass.old pass.new (with_yes result) }
     {
@@ -55,6 +58,7 @@ impl<T: Drop> Pool<T> {
         requires can { CanCall self.now.lock (P.seats parking.now) pass.old }
         ensures called { Called pass.old pass.new }
         ensures items { IfOk result (λ items. length items ≡ n) }
+        ensures kept { IfOk result (λ items. All I.invariant items) }
         ensures returned { CallReturns self.now.when_full (fetches (P.did parking.now) n Plain) pass.old pass.new
             (with_yes result) }
     {
@@ -73,6 +77,7 @@ impl<T: Drop> Pool<T> {
         requires can { CanCall self.now.lock (P.seats parking.now) pass.old }
         ensures called { Called pass.old pass.new }
         ensures items { IfOk result (λ got. IfSome got (λ items. length items ≡ n)) }
+        ensures kept { IfOk result (λ got. IfSome got (λ items. All I.invariant items)) }
         ensures returned { CallReturns self.now.when_full (tries_fetch (P.did parking.now) n) pass.old pass.new
             (yes_if_some result) }
     {
@@ -93,6 +98,7 @@ impl<T: Drop> Pool<T> {
         requires can { CanCall self.now.lock (P.seats parking.now) pass.old }
         ensures called { Called pass.old pass.new }
         ensures items { IfOk result (λ got. IfSome got (λ items. length items ≡ n)) }
+        ensures kept { IfOk result (λ got. IfSome got (λ items. All I.invariant items)) }
         ensures returned { CallReturns self.now.when_full (fetches (P.did parking.now) n (Timed ms)) pass.old pass.new
             (yes_if_some result) }
     {
@@ -112,16 +118,18 @@ impl<T: Drop> Pool<T> {
         ensures returned { DrainReturns self.now.when_full (drains (P.did parking.now)) pass.old pass.new
             (how_many result) }
         ensures all { DrainsFree pass.old (how_many result) pass.new }
+        ensures kept { IfOk result (λ items. All I.invariant items) }
     {
         let mut shelf = Shelf {
             items: LinkedList::new(self.alloc),
+            keeps: PhantomData,
         };
         let reply = self
             .monitor
             .enter(rt, parking, pass, &mut shelf, Step::Drain, self.when_full);
         match number(reply) {
             Ok(_) => {
-                let Shelf { items } = shelf;
+                let Shelf { items, keeps: _ } = shelf;
                 Ok(items)
             }
             Err(fault) => {
@@ -143,13 +151,17 @@ impl<T: Drop> Pool<T> {
     ) -> Result<(), (LinkedList<T>, Fault)>
         requires can { CanCall self.now.lock (P.seats parking.now) pass.old }
         requires few { length items < 2 ^ 32 }
+        requires kept { All I.invariant items }
         ensures called { Called pass.old pass.new }
         ensures back { IfErr result (λ e. e.0 ≡ items) }
         ensures returned { CallReturns self.now.when_full (gives_back (P.did parking.now) (length items))
             pass.old pass.new (without_items result) }
     {
         let n = items.len() as u32;
-        let mut shelf = Shelf { items };
+        let mut shelf = Shelf {
+            items,
+            keeps: PhantomData,
+        };
         let reply = self.call(rt, parking, pass, &mut shelf, PoolCall::Release(n));
         match whether(reply) {
             Ok(true) => {
@@ -158,7 +170,7 @@ impl<T: Drop> Pool<T> {
             }
             Ok(false) => unreachable!(),
             Err(fault) => {
-                let Shelf { items } = shelf;
+                let Shelf { items, keeps: _ } = shelf;
                 Err((items, fault))
             }
         }
@@ -166,7 +178,7 @@ impl<T: Drop> Pool<T> {
 }
 
 /// The same with one item.
-impl<T: Drop> Pool<T> {
+impl<T: Drop, I: Keeps<T>> Pool<T, I> {
     /// [`acquire`](Pool::acquire) of one item.
     pub fn acquire_one<P: Parking, R: Wait + Clock>(
         &self,
@@ -176,6 +188,7 @@ impl<T: Drop> Pool<T> {
     ) -> Result<T, Fault>
         requires can { CanCall self.now.lock (P.seats parking.now) pass.old }
         ensures called { Called pass.old pass.new }
+        ensures kept { IfOk result (λ item. I.invariant item) }
         ensures returned { CallReturns self.now.when_full (fetches (P.did parking.now) 1 Interruptible)
             pass.old pass.new (with_yes result) }
     {
@@ -194,6 +207,7 @@ impl<T: Drop> Pool<T> {
     ) -> Result<Option<T>, Fault>
         requires can { CanCall self.now.lock (P.seats parking.now) pass.old }
         ensures called { Called pass.old pass.new }
+        ensures kept { IfOk result (λ got. IfSome got (λ item. I.invariant item)) }
         ensures returned { CallReturns self.now.when_full (tries_fetch (P.did parking.now) 1) pass.old pass.new
             (yes_if_some result) }
     {
@@ -214,6 +228,7 @@ impl<T: Drop> Pool<T> {
     ) -> Result<Option<T>, Fault>
         requires can { CanCall self.now.lock (P.seats parking.now) pass.old }
         ensures called { Called pass.old pass.new }
+        ensures kept { IfOk result (λ got. IfSome got (λ item. I.invariant item)) }
         ensures returned { CallReturns self.now.when_full (fetches (P.did parking.now) 1 (Timed ms)) pass.old pass.new
             (yes_if_some result) }
     {
@@ -234,6 +249,7 @@ impl<T: Drop> Pool<T> {
         item: T,
     ) -> Result<(), (T, Fault)>
         requires can { CanCall self.now.lock (P.seats parking.now) pass.old }
+        requires kept { I.invariant item }
         ensures called { Called pass.old pass.new }
         ensures back { IfErr result (λ e. e.0 ≡ item) }
         ensures returned { IsReleased self.now.when_full (gives_back (P.did parking.now) 1) pass.old
@@ -256,6 +272,7 @@ impl<T: Drop> Pool<T> {
     ) -> Result<(), (T, Fault)>
         requires can { CanCall self.now.lock (P.seats parking.now) pass.old }
         requires one { length items ≡ 1 }
+        requires kept { All I.invariant items }
         ensures called { Called pass.old pass.new }
         ensures back { IfErr result (λ e. items ≡ e.0 ∷ []) }
         ensures returned { CallReturns self.now.when_full (gives_back (P.did parking.now) 1) pass.old pass.new

@@ -12,12 +12,13 @@ ghost use Rattle.monitor_fronts.specs.Holding.{gained, holds};
 ghost use Rattle.guarded.specs.Asking.{IsRecorded, CallReturns, CallReturnsDone, acquires, awaits, signals};
 ghost use Rattle.guarded.specs.Guarding.{Guards};
 ghost use Rattle.guarded.specs.Reading.{Sees};
-ghost use Rattle.guarded.specs.Stowed.{IsFull};
+ghost use Rattle.guarded.specs.Stowed.{IsFull, Kept};
 ghost use Rattle.guarded.specs.Waiting.{AwaitsUntil, TimeWasUp, WaitFailed, Waited, WaitsWhile, owner};
 ghost use Rattle.permit.specs.Deed.{showed};
 ghost use Rattle.guarded.specs.declared.slot.Slot.TheVariants.{Full};
 
 use crate::asking::Asked;
+use crate::keeps::{Any, Keeps};
 use crate::mutex::Mutex;
 use crate::slot::Slot;
 use frame::hooks::Hooks;
@@ -48,21 +49,36 @@ fn milliseconds_until(end: u64, moment: u64) -> u32
 /// fail: room and memory for the entry were reserved when the hold was recorded.
 ///
 /// It borrows its pass, so the pass makes no other call while the guard lives. The guard must have exactly one
-/// hold when it is dropped: call [`leave`](Guard::leave) once for each [`again`](Guard::again).
+/// hold when it is dropped: call [`leave`](Guard::leave) once for each [`again`](Guard::again). The value must then
+/// meet the invariant that the lock keeps.
 ///
 /// After an `Err` the pass has as many holds as before, and the guard has the value. `HistoryFull` and `TrimFull` come
 /// as the page of this crate says, `OutOfMemory` if memory for the history is refused, and `NoSuchCondition` if the
 /// lock lacks the condition: after these nothing was recorded. `HoldsRead` is the answer to a wait by a writer that
 /// reads too.
-pub struct Guard<'a, T: Drop, P: Parking, R: Wait + Clock, H: Hooks + Drop = LockHooks> {
+pub struct Guard<
+    'a,
+    T: Drop,
+    P: Parking,
+    R: Wait + Clock,
+    I: Keeps<T> = Any,
+    H: Hooks + Drop = LockHooks,
+> {
     pub(crate) pass: &'a mut Pass,
-    pub(crate) slot: Slot<T>,
-    pub(crate) lock: &'a Mutex<T, H>,
+    pub(crate) slot: Slot<T, I>,
+    pub(crate) lock: &'a Mutex<T, I, H>,
     pub(crate) rt: &'a R,
     pub(crate) parking: &'a P,
 }
 
-impl<'a, T: Drop, P: Parking, R: Wait + Clock, H: Hooks + Drop> Guard<'a, T, P, R, H> {
+impl<'a, T: Drop, P: Parking, R: Wait + Clock, I: Keeps<T>, H: Hooks + Drop> Guard<
+    'a,
+    T,
+    P,
+    R,
+    I,
+    H,
+> {
     ghost use Rattle.guarded.specs.GuardLending.{LendsValue};
 
     /// Returns the value.
@@ -76,7 +92,7 @@ impl<'a, T: Drop, P: Parking, R: Wait + Clock, H: Hooks + Drop> Guard<'a, T, P, 
     /// Returns the value, to change it.
     pub fn value_mut(&mut self) -> &mut T
         requires there { IsFull self.old.slot }
-        ensures* lends { sem 𝓛 (LendsValue T.row P.row R.row H.row H.Hooks self.entry result) }
+        ensures* lends { sem 𝓛 (LendsValue T.row P.row R.row I.row H.row I.Keeps H.Hooks self.entry result) }
         ensures value { Full result.now ≡ self.old.slot }
     {
         self.slot.value_mut()
@@ -84,14 +100,16 @@ impl<'a, T: Drop, P: Parking, R: Wait + Clock, H: Hooks + Drop> Guard<'a, T, P, 
 
     /// Waits on the condition until it is signalled, or interrupted: `Err(Interrupted)`, and the interrupt is taken.
     /// It releases the lock and the value while it waits, and has both again when it returns, whatever ended the
-    /// wait. Another thread may have changed the value, so test again what was waited for. This is
-    /// `Condition.await()` of Java SE 8.
+    /// wait. So the value must meet the lock's invariant, and meets it afterwards. Another thread may have changed it,
+    /// so test again what was waited for. This is `Condition.await()` of Java SE 8.
     pub fn wait(&mut self, condition: u8) -> Result<bool, Fault>
         requires guards { Guards self.old.lock.now (P.seats self.old.parking.now) self.old.pass.now self.old.slot }
+        requires kept { Kept I.invariant self.old.slot }
         ensures same_reference { self.new.pass.ghost_name ≡ self.old.pass.ghost_name }
         ensures same { IsSame self.old.pass.now self.new.pass.now }
         ensures same_lock { (self.new.lock.now ≡ self.old.lock.now) × (self.new.parking.now ≡ self.old.parking.now) }
         ensures guards { Guards self.new.lock.now (P.seats self.new.parking.now) self.new.pass.now self.new.slot }
+        ensures kept { Kept I.invariant self.new.slot }
         ensures keeps { holds self.new.pass.now ≡ holds self.old.pass.now }
         ensures awaited { CallReturns self.old.lock.now.when_full
             (awaits (P.did self.old.parking.now) condition Interruptible)
@@ -112,10 +130,12 @@ impl<'a, T: Drop, P: Parking, R: Wait + Clock, H: Hooks + Drop> Guard<'a, T, P, 
     /// `Condition.await(time, unit)`.
     pub fn wait_for(&mut self, condition: u8, ms: u32) -> Result<bool, Fault>
         requires guards { Guards self.old.lock.now (P.seats self.old.parking.now) self.old.pass.now self.old.slot }
+        requires kept { Kept I.invariant self.old.slot }
         ensures same_reference { self.new.pass.ghost_name ≡ self.old.pass.ghost_name }
         ensures same { IsSame self.old.pass.now self.new.pass.now }
         ensures same_lock { (self.new.lock.now ≡ self.old.lock.now) × (self.new.parking.now ≡ self.old.parking.now) }
         ensures guards { Guards self.new.lock.now (P.seats self.new.parking.now) self.new.pass.now self.new.slot }
+        ensures kept { Kept I.invariant self.new.slot }
         ensures keeps { holds self.new.pass.now ≡ holds self.old.pass.now }
         ensures awaited { CallReturns self.old.lock.now.when_full
             (awaits (P.did self.old.parking.now) condition (Timed ms))
@@ -136,10 +156,12 @@ impl<'a, T: Drop, P: Parking, R: Wait + Clock, H: Hooks + Drop> Guard<'a, T, P, 
     /// `Condition.awaitUninterruptibly()`.
     pub fn wait_uninterruptibly(&mut self, condition: u8) -> Result<bool, Fault>
         requires guards { Guards self.old.lock.now (P.seats self.old.parking.now) self.old.pass.now self.old.slot }
+        requires kept { Kept I.invariant self.old.slot }
         ensures same_reference { self.new.pass.ghost_name ≡ self.old.pass.ghost_name }
         ensures same { IsSame self.old.pass.now self.new.pass.now }
         ensures same_lock { (self.new.lock.now ≡ self.old.lock.now) × (self.new.parking.now ≡ self.old.parking.now) }
         ensures guards { Guards self.new.lock.now (P.seats self.new.parking.now) self.new.pass.now self.new.slot }
+        ensures kept { Kept I.invariant self.new.slot }
         ensures keeps { holds self.new.pass.now ≡ holds self.old.pass.now }
         ensures awaited { CallReturns self.old.lock.now.when_full
             (awaits (P.did self.old.parking.now) condition Plain)
@@ -164,11 +186,13 @@ impl<'a, T: Drop, P: Parking, R: Wait + Clock, H: Hooks + Drop> Guard<'a, T, P, 
         predicate: F,
     ) -> Result<(), Fault>
         requires guards { Guards self.old.lock.now (P.seats self.old.parking.now) self.old.pass.now self.old.slot }
+        requires kept { Kept I.invariant self.old.slot }
         requires callable { F.IsAlwaysCallable predicate }
         ensures same_reference { self.new.pass.ghost_name ≡ self.old.pass.ghost_name }
         ensures same { IsSame self.old.pass.now self.new.pass.now }
         ensures same_lock { (self.new.lock.now ≡ self.old.lock.now) × (self.new.parking.now ≡ self.old.parking.now) }
         ensures guards { Guards self.new.lock.now (P.seats self.new.parking.now) self.new.pass.now self.new.slot }
+        ensures kept { Kept I.invariant self.new.slot }
         ensures keeps { holds self.new.pass.now ≡ holds self.old.pass.now }
         ensures over { IfOk result (λ _. Sees (FnReturnsAt F.Fn predicate) self.new.slot false) }
         ensures waited { IfOk result (λ _. Waited
@@ -198,11 +222,13 @@ impl<'a, T: Drop, P: Parking, R: Wait + Clock, H: Hooks + Drop> Guard<'a, T, P, 
         predicate: F,
     ) -> Result<bool, Fault>
         requires guards { Guards self.old.lock.now (P.seats self.old.parking.now) self.old.pass.now self.old.slot }
+        requires kept { Kept I.invariant self.old.slot }
         requires callable { F.IsAlwaysCallable predicate }
         ensures same_reference { self.new.pass.ghost_name ≡ self.old.pass.ghost_name }
         ensures same { IsSame self.old.pass.now self.new.pass.now }
         ensures same_lock { (self.new.lock.now ≡ self.old.lock.now) × (self.new.parking.now ≡ self.old.parking.now) }
         ensures guards { Guards self.new.lock.now (P.seats self.new.parking.now) self.new.pass.now self.new.slot }
+        ensures kept { Kept I.invariant self.new.slot }
         ensures keeps { holds self.new.pass.now ≡ holds self.old.pass.now }
         ensures over { IfOk result (λ is_over. Sees (FnReturnsAt F.Fn predicate) self.new.slot (not is_over)) }
         ensures in_time { result ≡ Ok false → TimeWasUp (P.did self.old.parking.now) ms }
@@ -281,9 +307,10 @@ impl<'a, T: Drop, P: Parking, R: Wait + Clock, H: Hooks + Drop> Guard<'a, T, P, 
         ensures acquired { CallReturns self.old.lock.now.when_full
             (acquires (P.did self.old.parking.now) Plain)
             self.old.pass.now self.new.pass.now result }
+        ensures value { self.new.slot ≡ self.old.slot }
     {
         let pass = &mut *self.pass;
-        self.lock.again(self.rt, self.parking, pass, &mut self.slot)
+        self.lock.again(self.rt, self.parking, pass)
     }
 
     /// Releases one of several holds. It can't fail.
@@ -296,25 +323,29 @@ impl<'a, T: Drop, P: Parking, R: Wait + Clock, H: Hooks + Drop> Guard<'a, T, P, 
         ensures guards { Guards self.new.lock.now (P.seats self.new.parking.now) self.new.pass.now self.new.slot }
         ensures loses { holds self.new.pass.now + 1 ≡ holds self.old.pass.now }
         ensures recorded { IsRecorded (P.did self.old.parking.now) self.old.pass.now (Give X 1) self.new.pass.now }
+        ensures value { self.new.slot ≡ self.old.slot }
     {
         let pass = &mut *self.pass;
-        self.lock.leave(self.rt, self.parking, pass, &mut self.slot);
+        self.lock.leave(self.rt, self.parking, pass);
     }
 
     /// Unlocks now. It can't fail. This is `ReentrantLock.unlock()`.
     pub fn unlock(self)
         requires guards { Guards self.lock.now (P.seats self.parking.now) self.pass.now self.slot }
         requires last { holds self.pass.now ≡ 1 }
+        requires kept { Kept I.invariant self.slot }
         ensures free { holds self.exit.0.now ≡ 0 }
         ensures called { Called self.entry.pass.now self.exit.0.now }
         ensures recorded { IsRecorded (P.did self.entry.parking.now) self.entry.pass.now (Give X 1) self.exit.0.now }
     {}
 }
 
-impl<T: Drop, P: Parking, R: Wait + Clock, H: Hooks + Drop> Drop for Guard<'_, T, P, R, H> {
+impl<T: Drop, P: Parking, R: Wait + Clock, I: Keeps<T>, H: Hooks + Drop> Drop
+    for Guard<'_, T, P, R, I, H> {
     fn drop(self)
         requires guards { Guards self.lock.now (P.seats self.parking.now) self.pass.now self.slot }
         requires last { holds self.pass.now ≡ 1 }
+        requires kept { Kept I.invariant self.slot }
         ensures free { holds self.exit.0.now ≡ 0 }
         ensures called { Called self.entry.pass.now self.exit.0.now }
         ensures recorded { IsRecorded (P.did self.entry.parking.now) self.entry.pass.now (Give X 1) self.exit.0.now }

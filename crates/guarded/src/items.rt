@@ -3,6 +3,7 @@ ghost use Rattle.std.specs.Fn.{FnOnceReturnsAtMut};
 ghost use Rattle.monitor.specs.Calling.{CanCall, Called};
 ghost use Rattle.guarded.specs.LentItems.{IsLent};
 
+use crate::keeps::Keeps;
 use crate::pool::Pool;
 use history::fault::Fault;
 use monitor::Pass;
@@ -19,9 +20,11 @@ pub enum ItemFault<T, A> {
     NotReleased { answer: A, item: T, fault: Fault },
 }
 
-impl<T: Drop> Pool<T> {
+impl<T: Drop, I: Keeps<T>> Pool<T, I> {
     /// Acquires an item as [`acquire_one`](Pool::acquire_one) does, lends it to `work`, and releases it as
     /// [`release_one`](Pool::release_one) does. Returns what `work` returned.
+    ///
+    /// `work` must leave an item that meets the pool's invariant, if the item that it got does.
     ///
     /// The release may lack room or memory. Then [`ItemFault::NotReleased`] has the item, which isn't in the pool.
     pub fn with_item<P: Parking, R: Wait + Clock, A, F: FnOnce(&mut T) -> A>(
@@ -33,6 +36,8 @@ impl<T: Drop> Pool<T> {
     ) -> Result<A, ItemFault<T, A>>
         requires can { CanCall self.now.lock (P.seats parking.now) pass.old }
         requires callable { F.IsAlwaysCallable work }
+        requires kept { (before : T) (answer : A) (after : T) → I.invariant before
+            → FnOnceReturnsAtMut F.FnOnce work before answer after → I.invariant after }
         ensures called { Called pass.old pass.new }
         ensures lent { IsLent self.now.when_full (P.did parking.now)
             (λ before answer after. FnOnceReturnsAtMut F.FnOnce work before answer after) pass.old pass.new result }

@@ -14,8 +14,20 @@
 //! that acquired an item owns it, and may give it to another thread.
 //!
 //! A [`Guard`] has the value from `lock` until the end of its scope, where it unlocks. It borrows its pass, so
-//! a pass that holds the lock makes no other call. An invariant of the value is a ghost field of its type: a
-//! thread that has the value may use it, and must prove it again after a change.
+//! a pass that holds the lock makes no other call.
+//!
+//! ## Invariants
+//!
+//! There are two kinds of invariant of a value. A thread that has the value may rely on both.
+//!
+//! - One of its type, in an `impl Model` or a ghost field. It holds at every moment: who changes the value proves it
+//!   again at once.
+//! - One of its lock or pool, which a type `I` stands for ([`Keeps`]), as in `Mutex<Accounts, Balanced>`. It holds
+//!   whenever no thread has the value. Who has the value may break it, and proves it again before a wait and before
+//!   the guard is dropped, also where a `?` drops it. `signal`, [`again`](Guard::again), [`leave`](Guard::leave) and
+//!   [`read`](Guard::read) don't ask for it: the guard keeps the value. `Any`, the default, asks for nothing.
+//!
+//! A guard that is forgotten keeps the lock for ever, so no thread finds a value that breaks the invariant.
 //!
 //! ## A full history
 //!
@@ -38,6 +50,7 @@ mod acquiring;
 mod asking;
 mod guard;
 mod items;
+mod keeps;
 mod locking;
 mod mutex;
 mod options;
@@ -52,6 +65,7 @@ mod view;
 
 pub use guard::Guard;
 pub use items::ItemFault;
+pub use keeps::{Any, Keeps};
 pub use monitor::WhenFull;
 pub use mutex::Mutex;
 pub use options::Options;

@@ -6,9 +6,11 @@ ghost use Rattle.monitor.specs.declared.how.How.TheVariants.{Plain, Interruptibl
 ghost use Rattle.monitor_fronts.specs.Holding.{holds, with_yes};
 ghost use Rattle.guarded.specs.Asking.{acquires, tries};
 ghost use Rattle.guarded.specs.Guarding.{CanLock, Guards, Locked, NotLocked, yes_unless_missed};
+ghost use Rattle.guarded.specs.Stowed.{Kept};
 
 use crate::asking::Asked;
 use crate::guard::Guard;
+use crate::keeps::Keeps;
 use crate::mutex::Mutex;
 use crate::try_lock::TryLockFault;
 use frame::hooks::Hooks;
@@ -23,15 +25,15 @@ use std::time::Clock;
 /// says, `OutOfMemory` if memory for the history is refused, and `Interrupted` from methods that say so.
 ///
 /// The pass is the first argument, as in `Mutex::lock(pass, &lock, rt, parking)`, since the guard borrows it.
-impl<T: Drop, H: Hooks + Drop> Mutex<T, H> {
+impl<T: Drop, I: Keeps<T>, H: Hooks + Drop> Mutex<T, I, H> {
     /// Waits until it has the lock. An interrupt doesn't end the wait, and stays pending. This is
     /// `ReentrantLock.lock()` of Java SE 8.
     pub fn lock<'a, P: Parking, R: Wait + Clock>(
         pass: &'a mut Pass,
-        lock: &'a Mutex<T, H>,
+        lock: &'a Mutex<T, I, H>,
         rt: &'a R,
         parking: &'a P,
-    ) -> Result<Guard<'a, T, P, R, H>, Fault>
+    ) -> Result<Guard<'a, T, P, R, I, H>, Fault>
         requires can { CanLock lock.now (P.seats parking.now) pass.old }
         ensures* not_locked { sem 𝓛 (RestsIfErr the_row pass.entry (λ guard. guard.pass.ghost_name) result
             (λ last. NotLocked lock.now.when_full (acquires (P.did parking.now) Plain)
@@ -42,6 +44,7 @@ impl<T: Drop, H: Hooks + Drop> Mutex<T, H> {
         ensures locked { IfOk result (λ guard.
             Locked lock.now.when_full (acquires (P.did parking.now) Plain)
             pass.old guard.slot guard.pass.now) }
+        ensures kept { IfOk result (λ guard. Kept I.invariant guard.slot) }
     {
         let slot = lock.take(rt, parking, pass, How::Plain)?;
         Ok(Guard {
@@ -57,10 +60,10 @@ impl<T: Drop, H: Hooks + Drop> Mutex<T, H> {
     /// interrupt is taken. This is `ReentrantLock.lockInterruptibly()`.
     pub fn lock_interruptibly<'a, P: Parking, R: Wait + Clock>(
         pass: &'a mut Pass,
-        lock: &'a Mutex<T, H>,
+        lock: &'a Mutex<T, I, H>,
         rt: &'a R,
         parking: &'a P,
-    ) -> Result<Guard<'a, T, P, R, H>, Fault>
+    ) -> Result<Guard<'a, T, P, R, I, H>, Fault>
         requires can { CanLock lock.now (P.seats parking.now) pass.old }
         ensures* not_locked { sem 𝓛 (RestsIfErr the_row pass.entry (λ guard. guard.pass.ghost_name) result
             (λ last. NotLocked lock.now.when_full (acquires (P.did parking.now) Interruptible)
@@ -71,6 +74,7 @@ impl<T: Drop, H: Hooks + Drop> Mutex<T, H> {
         ensures locked { IfOk result (λ guard.
             Locked lock.now.when_full (acquires (P.did parking.now) Interruptible)
             pass.old guard.slot guard.pass.now) }
+        ensures kept { IfOk result (λ guard. Kept I.invariant guard.slot) }
     {
         let slot = lock.take(rt, parking, pass, How::Interruptible)?;
         Ok(Guard {
@@ -86,10 +90,10 @@ impl<T: Drop, H: Hooks + Drop> Mutex<T, H> {
     /// strict one. This is `ReentrantLock.tryLock()`.
     pub fn try_lock<'a, P: Parking, R: Wait + Clock>(
         pass: &'a mut Pass,
-        lock: &'a Mutex<T, H>,
+        lock: &'a Mutex<T, I, H>,
         rt: &'a R,
         parking: &'a P,
-    ) -> Result<Guard<'a, T, P, R, H>, TryLockFault>
+    ) -> Result<Guard<'a, T, P, R, I, H>, TryLockFault>
         requires can { CanLock lock.now (P.seats parking.now) pass.old }
         ensures* not_locked { sem 𝓛 (RestsIfErr the_row pass.entry (λ guard. guard.pass.ghost_name) result
             (λ last. NotLocked lock.now.when_full (tries (P.did parking.now))
@@ -99,6 +103,7 @@ impl<T: Drop, H: Hooks + Drop> Mutex<T, H> {
             Guards guard.lock.now (P.seats guard.parking.now) guard.pass.now guard.slot) }
         ensures locked { IfOk result (λ guard.
             Locked lock.now.when_full (tries (P.did parking.now)) pass.old guard.slot guard.pass.now) }
+        ensures kept { IfOk result (λ guard. Kept I.invariant guard.slot) }
     {
         let slot = lock.try_take(rt, parking, pass, Asked::Try)?;
         Ok(Guard {
@@ -115,11 +120,11 @@ impl<T: Drop, H: Hooks + Drop> Mutex<T, H> {
     /// overtake waiters. This is `ReentrantLock.tryLock(time, unit)`.
     pub fn try_lock_for<'a, P: Parking, R: Wait + Clock>(
         pass: &'a mut Pass,
-        lock: &'a Mutex<T, H>,
+        lock: &'a Mutex<T, I, H>,
         rt: &'a R,
         parking: &'a P,
         ms: u32,
-    ) -> Result<Guard<'a, T, P, R, H>, TryLockFault>
+    ) -> Result<Guard<'a, T, P, R, I, H>, TryLockFault>
         requires can { CanLock lock.now (P.seats parking.now) pass.old }
         ensures* not_locked { sem 𝓛 (RestsIfErr the_row pass.entry (λ guard. guard.pass.ghost_name) result
             (λ last. NotLocked lock.now.when_full (acquires (P.did parking.now) (Timed ms))
@@ -130,6 +135,7 @@ impl<T: Drop, H: Hooks + Drop> Mutex<T, H> {
         ensures locked { IfOk result (λ guard.
             Locked lock.now.when_full (acquires (P.did parking.now) (Timed ms))
             pass.old guard.slot guard.pass.now) }
+        ensures kept { IfOk result (λ guard. Kept I.invariant guard.slot) }
     {
         let slot = lock.try_take(rt, parking, pass, Asked::Acquire(How::Timed(ms)))?;
         Ok(Guard {

@@ -1,5 +1,5 @@
 //! A reentrant lock that guards a value.
-ghost use Rattle.std.specs.Prelude.{◌≡◌, ◌<◌, ◌≤◌, ◌+◌, All, IfOk, IfErr, Err};
+ghost use Rattle.std.specs.Prelude.{◌≡◌, ◌<◌, ◌≤◌, ◌+◌, All, IfOk, IfErr, IfSome, Err};
 ghost use Rattle.deciding.specs.Balance.{balance};
 ghost use Rattle.frame.specs.Core.{header_of};
 ghost use Rattle.history.specs.Counts.{counts};
@@ -22,11 +22,13 @@ ghost use Rattle.monitor.specs.Stepping.{IsSame};
 ghost use Rattle.monitor.specs.declared.room.WhenFull.TheVariants.{Trim};
 ghost use Rattle.monitor_fronts.specs.Holding.{gained, holds};
 ghost use Rattle.guarded.specs.Asking.{IsRecorded, CallReturns, acquires, awaits};
-ghost use Rattle.guarded.specs.inner.Asking.{IsTake, call_of, gained_by};
+ghost use Rattle.guarded.specs.inner.Asking.{IsTake, LetsAllGo, call_of, gained_by};
+ghost use Rattle.guarded.specs.inner.Stowed.{Carries, MayLie};
 ghost use Rattle.guarded.specs.Guarding.{CanLock, Guards, Locked, NotLocked, missed_as_no};
-ghost use Rattle.guarded.specs.Stowed.{Carries, Rests, slot_of};
+ghost use Rattle.guarded.specs.Stowed.{Kept, Rests};
 
 use crate::asking::Asked;
+use crate::keeps::{Any, Keeps};
 use crate::options::Options;
 use crate::slot::Slot;
 use crate::try_lock::TryLockFault;
@@ -41,20 +43,22 @@ use monitor_fronts::whether;
 use permit::Parking;
 use reentrant::lock::LockHooks;
 use std::alloc::Global;
-use std::marker::Model;
+use std::marker::{Model, PhantomData};
 use std::sync::Wait;
 use std::time::Clock;
 
 /// A lock that guards a value: as a lock, `java.util.concurrent.locks.ReentrantLock` of Java SE 8 with its
 /// conditions; as a guard of a value, `std::sync::Mutex` of Rust. A pass stands for a thread. A contract sees
 /// which lock it is, with its header, and what it does if its history is full.
+///
+/// `I` is the invariant that the lock keeps of its value ([`Keeps`]), or [`Any`] for none.
 #[derive(Drop)]
-pub struct Mutex<T: Drop, H: Hooks + Drop = LockHooks> {
-    pub(crate) monitor: Monitor<H, Slot<T>>,
+pub struct Mutex<T: Drop, I: Keeps<T> = Any, H: Hooks + Drop = LockHooks> {
+    pub(crate) monitor: Monitor<H, Slot<T, I>>,
     pub(crate) when_full: WhenFull,
 }
 
-impl<T: Drop, H: Hooks + Drop> Model for Mutex<T, H> {
+impl<T: Drop, I: Keeps<T>, H: Hooks + Drop> Model for Mutex<T, I, H> {
     ghost use Rattle.guarded.specs.Stowed.{IsOfLock, MutexView, mutex_view};
 
     ghost Value = { MutexView };
@@ -136,6 +140,64 @@ impl<T: Drop> Mutex<T> {
         ensures free { IfOk result (λ r. All (λ p. holds p ≡ 0) r.1.items) }
         ensures back { IfErr result (λ e. (e.0 ≡ value) × (e.1 ≡ OutOfMemory)) }
     {
+        Mutex::open_keeping(alloc, value, policy, when_full, seats, conditions, cap)
+    }
+}
+
+/// A lock that keeps an invariant of its value.
+impl<T: Drop, I: Keeps<T>> Mutex<T, I> {
+    /// [`new`](Mutex::new) of a lock that keeps an invariant, which the value meets, as in
+    /// `let (accounts, passes) = Mutex::<Accounts, Balanced>::new_keeping(alloc, accounts, 2)?;`.
+    pub fn new_keeping(
+        alloc: Global,
+        value: T,
+        seats: u16,
+    ) -> Result<(Mutex<T, I>, Vec<Pass>), Fault>
+        requires some { 1 ≤ seats }
+        requires few { seats ≤ 256 }
+        requires kept { I.invariant value }
+        ensures header { IfOk result (λ r. r.0.lock.header ≡ header_of (Lock NonFair) seats 16 4096) }
+        ensures when_full { IfOk result (λ r. r.0.when_full ≡ Trim) }
+        ensures passes { IfOk result (λ r.
+            r.1.items ≡ opening_passes r.0.lock (blank r.0.lock.header) 0 seats) }
+        ensures own { IfOk result (λ r. All (λ p. p.lock ≡ r.0.lock) r.1.items) }
+        ensures free { IfOk result (λ r. All (λ p. holds p ≡ 0) r.1.items) }
+        ensures err { IfErr result (λ fault. fault ≡ OutOfMemory) }
+    {
+        match Mutex::open_keeping(
+            alloc,
+            value,
+            Policy::NonFair,
+            WhenFull::Trim,
+            seats,
+            16,
+            4096,
+        ) {
+            Ok((lock, passes)) => Ok((lock, passes)),
+            Err((_value, fault)) => Err(fault),
+        }
+    }
+
+    /// [`open`](Mutex::open) of a lock that keeps an invariant, which the value meets.
+    pub fn open_keeping(
+        alloc: Global,
+        value: T,
+        policy: Policy,
+        when_full: WhenFull,
+        seats: u16,
+        conditions: u8,
+        cap: u32,
+    ) -> Result<(Mutex<T, I>, Vec<Pass>), (T, Fault)>
+        requires range { IsInRange (header_of (Lock policy) seats conditions cap) }
+        requires kept { I.invariant value }
+        ensures header { IfOk result (λ r. r.0.lock.header ≡ header_of (Lock policy) seats conditions cap) }
+        ensures when_full { IfOk result (λ r. r.0.when_full ≡ when_full) }
+        ensures passes { IfOk result (λ r.
+            r.1.items ≡ opening_passes r.0.lock (blank r.0.lock.header) 0 seats) }
+        ensures own { IfOk result (λ r. All (λ p. p.lock ≡ r.0.lock) r.1.items) }
+        ensures free { IfOk result (λ r. All (λ p. holds p ≡ 0) r.1.items) }
+        ensures back { IfErr result (λ e. (e.0 ≡ value) × (e.1 ≡ OutOfMemory)) }
+    {
         let hooks = LockHooks::open(policy);
         let slot = Slot::Full(value);
         match Monitor::open_with(alloc, hooks, slot, seats, conditions, cap) {
@@ -143,14 +205,15 @@ impl<T: Drop> Mutex<T> {
             Err((slot, fault)) => match slot {
                 Slot::Full(value) => Err((value, fault)),
                 Slot::Empty => unreachable!(),
+                Slot::Lent(_) => unreachable!(),
             },
         }
     }
 }
 
-impl<T: Drop, H: Hooks + Drop> Mutex<T, H> {
+impl<T: Drop, I: Keeps<T>, H: Hooks + Drop> Mutex<T, I, H> {
     /// Ends the lock, after the calls that are under way. Returns the history, and the value unless a seat still
-    /// holds the lock and so has the value.
+    /// holds the lock and so has the value. The value meets the lock's invariant.
     ///
     /// The passes of all seats are needed, in any order. If one is missing, it returns the lock and the passes as
     /// they were.
@@ -158,10 +221,11 @@ impl<T: Drop, H: Hooks + Drop> Mutex<T, H> {
         self,
         rt: &R,
         passes: Vec<Pass>,
-    ) -> Result<(Closed, Option<T>), (Mutex<T, H>, Vec<Pass>, CloseFault)>
+    ) -> Result<(Closed, Option<T>), (Mutex<T, I, H>, Vec<Pass>, CloseFault)>
         requires is_of { All (λ p. p.lock ≡ self.lock) passes.items }
         ensures value { IfOk result (λ r.
-            Rests (slot_of r.1) (counts (start_on self.lock.header r.0.history) r.0.history.entries)) }
+            Rests r.1 (counts (start_on self.lock.header r.0.history) r.0.history.entries)) }
+        ensures kept { IfOk result (λ r. IfSome r.1 (λ value. I.invariant value)) }
         ensures lawful { IfOk result (λ r. IsLawful (left_by self.lock r.0.history)) }
         ensures within { IfOk result (λ r.
             All (λ p. IsWithin (left_by self.lock r.0.history) p) passes.items) }
@@ -189,7 +253,7 @@ impl<T: Drop, H: Hooks + Drop> Mutex<T, H> {
     }
 
     /// Returns a view of the lock, which shows who holds it and who waits, and which trims its history.
-    pub fn view(&self) -> View<'_, H, Slot<T>>
+    pub fn view(&self) -> View<'_, H, Slot<T, I>>
         ensures { result.monitor.now ≡ self.now.lock }
     {
         View {
@@ -199,22 +263,24 @@ impl<T: Drop, H: Hooks + Drop> Mutex<T, H> {
 }
 
 /// The parts of all calls.
-impl<T: Drop, H: Hooks + Drop> Mutex<T, H> {
+impl<T: Drop, I: Keeps<T>, H: Hooks + Drop> Mutex<T, I, H> {
     // A call. The slot has the value exactly if the pass holds the lock.
     pub(crate) fn call<P: Parking, R: Wait + Clock>(
         &self,
         rt: &R,
         parking: &P,
         pass: &mut Pass,
-        slot: &mut Slot<T>,
+        slot: &mut Slot<T, I>,
         asked: Asked,
     ) -> Result<Entry, Fault>
         requires can { CanCall self.now.lock (P.seats parking.now) pass.old }
         requires carries { Carries (holds pass.old) slot.old }
+        requires fit { LetsAllGo asked → MayLie I.invariant slot.old }
         ensures called { Called pass.old pass.new }
         ensures made { call_of (P.did parking.now) asked self.now.when_full pass.old result pass.new }
         ensures gains { holds pass.new ≡ holds pass.old + gained_by asked result }
         ensures carries { Carries (holds pass.new) slot.new }
+        ensures fit { MayLie I.invariant slot.old → MayLie I.invariant slot.new }
     {
         let when_full = self.when_full;
         match asked {
@@ -240,11 +306,12 @@ impl<T: Drop, H: Hooks + Drop> Mutex<T, H> {
         parking: &P,
         pass: &mut Pass,
         asked: Asked,
-    ) -> Result<Slot<T>, TryLockFault>
+    ) -> Result<Slot<T, I>, TryLockFault>
         requires can { CanLock self.now (P.seats parking.now) pass.old }
         requires takes { IsTake asked }
         ensures locked { IfOk result (λ slot.
             Locked self.now.when_full (call_of (P.did parking.now) asked) pass.old slot pass.new) }
+        ensures kept { IfOk result (λ slot. Kept I.invariant slot) }
         ensures not_locked { IfErr result (λ fault.
             NotLocked self.now.when_full (call_of (P.did parking.now) asked) pass.old (missed_as_no fault) pass.new) }
     {
@@ -264,11 +331,12 @@ impl<T: Drop, H: Hooks + Drop> Mutex<T, H> {
         parking: &P,
         pass: &mut Pass,
         how: How,
-    ) -> Result<Slot<T>, Fault>
+    ) -> Result<Slot<T, I>, Fault>
         requires can { CanLock self.now (P.seats parking.now) pass.old }
         requires untimed { is_timed how → ⊥ }
         ensures locked { IfOk result (λ slot.
             Locked self.now.when_full (acquires (P.did parking.now) how) pass.old slot pass.new) }
+        ensures kept { IfOk result (λ slot. Kept I.invariant slot) }
         ensures not_locked { IfErr result (λ fault.
             NotLocked self.now.when_full (acquires (P.did parking.now) how) pass.old (Err fault) pass.new) }
     {
@@ -285,15 +353,15 @@ impl<T: Drop, H: Hooks + Drop> Mutex<T, H> {
         rt: &R,
         parking: &P,
         pass: &mut Pass,
-        slot: &mut Slot<T>,
+        slot: &mut Slot<T, I>,
     )
         requires can { CanCall self.now.lock (P.seats parking.now) pass.old }
         requires has { 0 < holds pass.old }
         requires carries { Carries (holds pass.old) slot.old }
+        requires fit { holds pass.old ≤ 1 → MayLie I.invariant slot.old }
         ensures called { Called pass.old pass.new }
         ensures recorded { IsRecorded (P.did parking.now) pass.old (Give X 1) pass.new }
         ensures loses { holds pass.new + 1 ≡ holds pass.old }
-        ensures carries { Carries (holds pass.new) slot.new }
     {
         pass.is_true();
         let step = Step::Give(Mode::X, 1);
@@ -312,10 +380,11 @@ impl<T: Drop, H: Hooks + Drop> Mutex<T, H> {
         rt: &R,
         parking: &P,
         pass: &mut Pass,
-        slot: Slot<T>,
+        slot: Slot<T, I>,
     )
         requires guards { Guards self.now (P.seats parking.now) pass.old slot }
         requires last { holds pass.old ≡ 1 }
+        requires kept { Kept I.invariant slot }
         ensures called { Called pass.old pass.new }
         ensures recorded { IsRecorded (P.did parking.now) pass.old (Give X 1) pass.new }
         ensures free { holds pass.new ≡ 0 }
@@ -330,51 +399,48 @@ impl<T: Drop, H: Hooks + Drop> Mutex<T, H> {
         rt: &R,
         parking: &P,
         pass: &mut Pass,
-        slot: &mut Slot<T>,
+        slot: &mut Slot<T, I>,
         condition: u8,
         how: How,
     ) -> Result<bool, Fault>
         requires guards { Guards self.now (P.seats parking.now) pass.old slot.old }
+        requires kept { Kept I.invariant slot.old }
         ensures same { IsSame pass.old pass.new }
         ensures guards { Guards self.now (P.seats parking.now) pass.new slot.new }
+        ensures kept { Kept I.invariant slot.new }
         ensures awaited { CallReturns self.now.when_full (awaits (P.did parking.now) condition how) pass.old pass.new result }
         ensures keeps { holds pass.new ≡ holds pass.old }
     {
         whether(self.call(rt, parking, pass, slot, Asked::Await(condition, how)))
     }
 
-    // One more hold.
+    // One more hold. The value stays in the guard.
     pub(crate) fn again<P: Parking, R: Wait + Clock>(
         &self,
         rt: &R,
         parking: &P,
         pass: &mut Pass,
-        slot: &mut Slot<T>,
     ) -> Result<bool, Fault>
-        requires guards { Guards self.now (P.seats parking.now) pass.old slot.old }
+        requires can { CanCall self.now.lock (P.seats parking.now) pass.old }
+        requires has { 0 < holds pass.old }
         ensures same { IsSame pass.old pass.new }
-        ensures guards { Guards self.now (P.seats parking.now) pass.new slot.new }
         ensures acquired { CallReturns self.now.when_full (acquires (P.did parking.now) Plain) pass.old pass.new result }
         ensures gains { holds pass.new ≡ holds pass.old + gained result }
     {
-        whether(self.call(rt, parking, pass, slot, Asked::Acquire(How::Plain)))
+        let mut lent = Slot::Lent(PhantomData);
+        let asked = Asked::Acquire(How::Plain);
+        whether(self.call(rt, parking, pass, &mut lent, asked))
     }
 
-    // Releases one of several holds.
-    pub(crate) fn leave<P: Parking, R: Wait + Clock>(
-        &self,
-        rt: &R,
-        parking: &P,
-        pass: &mut Pass,
-        slot: &mut Slot<T>,
-    )
-        requires guards { Guards self.now (P.seats parking.now) pass.old slot.old }
+    // Releases one of several holds. The value stays in the guard.
+    pub(crate) fn leave<P: Parking, R: Wait + Clock>(&self, rt: &R, parking: &P, pass: &mut Pass)
+        requires can { CanCall self.now.lock (P.seats parking.now) pass.old }
         requires several { 1 < holds pass.old }
         ensures same { IsSame pass.old pass.new }
-        ensures guards { Guards self.now (P.seats parking.now) pass.new slot.new }
         ensures recorded { IsRecorded (P.did parking.now) pass.old (Give X 1) pass.new }
         ensures loses { holds pass.new + 1 ≡ holds pass.old }
     {
-        self.give(rt, parking, pass, slot);
+        let mut lent = Slot::Lent(PhantomData);
+        self.give(rt, parking, pass, &mut lent);
     }
 }

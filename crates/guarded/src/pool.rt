@@ -26,6 +26,7 @@ ghost use Rattle.guarded.specs.inner.Pooling.{pool_call};
 ghost use Rattle.guarded.specs.Shelved.{Lies};
 
 use crate::asking::PoolCall;
+use crate::keeps::{Any, Keeps};
 use crate::shelf::Shelf;
 use crate::view::View;
 use counting::semaphore::SemaphoreHooks;
@@ -38,7 +39,7 @@ use monitor_fronts::whether;
 use permit::Parking;
 use std::alloc::Global;
 use std::collections::LinkedList;
-use std::marker::Model;
+use std::marker::{Model, PhantomData};
 use std::sync::Wait;
 use std::time::Clock;
 
@@ -49,16 +50,18 @@ use std::time::Clock;
 /// The pool always has as many items as permits are free. An item that was acquired may be given to another thread,
 /// and any pass may release it. An item that is dropped is gone from the pool.
 ///
+/// `I` is the invariant that the pool keeps of each item ([`Keeps`]), or [`Any`] for none.
+///
 /// The item that was released last is acquired first. Items come and go as a `LinkedList`, which moves
 /// without memory. An acquire takes time for each item, a release doesn't.
 #[derive(Drop)]
-pub struct Pool<T: Drop> {
-    pub(crate) monitor: Monitor<SemaphoreHooks, Shelf<T>>,
+pub struct Pool<T: Drop, I: Keeps<T> = Any> {
+    pub(crate) monitor: Monitor<SemaphoreHooks, Shelf<T, I>>,
     pub(crate) when_full: WhenFull,
     pub(crate) alloc: Global,
 }
 
-impl<T: Drop> Model for Pool<T> {
+impl<T: Drop, I: Keeps<T>> Model for Pool<T, I> {
     ghost use Rattle.guarded.specs.Shelved.{IsOfSemaphore};
     ghost use Rattle.guarded.specs.Stowed.{MutexView, mutex_view};
 
@@ -116,8 +119,60 @@ impl<T: Drop> Pool<T> {
         ensures own { IfOk result (λ r. All (λ p. p.lock ≡ r.0.lock) r.1.items) }
         ensures back { IfErr result (λ e. (e.0 ≡ items) × (e.1 ≡ OutOfMemory)) }
     {
+        Pool::open_keeping(alloc, items, policy, when_full, seats, cap)
+    }
+}
+
+/// A pool that keeps an invariant of each item.
+impl<T: Drop, I: Keeps<T>> Pool<T, I> {
+    /// [`new`](Pool::new) of a pool that keeps an invariant, which each item meets.
+    pub fn new_keeping(
+        alloc: Global,
+        items: LinkedList<T>,
+        seats: u16,
+    ) -> Result<(Pool<T, I>, Vec<Pass>), Fault>
+        requires some { 1 ≤ seats }
+        requires few { seats ≤ 256 }
+        requires items { length items < 2 ^ 31 }
+        requires kept { All I.invariant items }
+        ensures header { IfOk result (λ r.
+            r.0.lock.header ≡ header_of (Semaphore NonFair (pos (length items))) seats 0 4096) }
+        ensures when_full { IfOk result (λ r. r.0.when_full ≡ Trim) }
+        ensures passes { IfOk result (λ r.
+            r.1.items ≡ opening_passes r.0.lock (blank r.0.lock.header) 0 seats) }
+        ensures own { IfOk result (λ r. All (λ p. p.lock ≡ r.0.lock) r.1.items) }
+        ensures err { IfErr result (λ fault. fault ≡ OutOfMemory) }
+    {
+        match Pool::open_keeping(alloc, items, Policy::NonFair, WhenFull::Trim, seats, 4096) {
+            Ok((pool, passes)) => Ok((pool, passes)),
+            Err((_items, fault)) => Err(fault),
+        }
+    }
+
+    /// [`open`](Pool::open) of a pool that keeps an invariant, which each item meets.
+    pub fn open_keeping(
+        alloc: Global,
+        items: LinkedList<T>,
+        policy: Policy,
+        when_full: WhenFull,
+        seats: u16,
+        cap: u32,
+    ) -> Result<(Pool<T, I>, Vec<Pass>), (LinkedList<T>, Fault)>
+        requires range { IsInRange (header_of (Semaphore policy (pos (length items))) seats 0 cap) }
+        requires kept { All I.invariant items }
+        ensures header { IfOk result (λ r.
+            r.0.lock.header ≡ header_of (Semaphore policy (pos (length items))) seats 0 cap) }
+        ensures when_full { IfOk result (λ r. r.0.when_full ≡ when_full) }
+        ensures passes { IfOk result (λ r.
+            r.1.items ≡ opening_passes r.0.lock (blank r.0.lock.header) 0 seats) }
+        ensures own { IfOk result (λ r. All (λ p. p.lock ≡ r.0.lock) r.1.items) }
+        ensures back { IfErr result (λ e. (e.0 ≡ items) × (e.1 ≡ OutOfMemory)) }
+    {
         let hooks = hooks_for(policy, &items);
-        let shelf = Shelf { items };
+        let shelf = Shelf {
+            items,
+            keeps: PhantomData,
+        };
         match Monitor::open_with(alloc, hooks, shelf, seats, 0, cap) {
             Ok((monitor, passes)) => Ok((
                 Pool {
@@ -128,14 +183,16 @@ impl<T: Drop> Pool<T> {
                 passes,
             )),
             Err((shelf, fault)) => {
-                let Shelf { items } = shelf;
+                let Shelf { items, keeps: _ } = shelf;
                 Err((items, fault))
             }
         }
     }
+}
 
+impl<T: Drop, I: Keeps<T>> Pool<T, I> {
     /// Ends the pool, after the calls that are under way. Returns the history, and the items of the pool: one for
-    /// each free permit. The other items are with the threads that acquired them.
+    /// each free permit. Each meets the pool's invariant. The other items are with the threads that acquired them.
     ///
     /// The passes of all seats are needed, in any order. If one is missing, it returns the pool and the passes as
     /// they were.
@@ -143,11 +200,12 @@ impl<T: Drop> Pool<T> {
         self,
         rt: &R,
         passes: Vec<Pass>,
-    ) -> Result<(Closed, LinkedList<T>), (Pool<T>, Vec<Pass>, CloseFault)>
+    ) -> Result<(Closed, LinkedList<T>), (Pool<T, I>, Vec<Pass>, CloseFault)>
         requires is_of { All (λ p. p.lock ≡ self.lock) passes.items }
         ensures items { IfOk result (λ r.
             Lies r.1 (counts (start_on self.lock.header r.0.history) r.0.history.entries)) }
         ensures each { IfOk result (λ r. pos (length r.1) ≡ r.0.balance.available) }
+        ensures kept { IfOk result (λ r. All I.invariant r.1) }
         ensures lawful { IfOk result (λ r. IsLawful (left_by self.lock r.0.history)) }
         ensures within { IfOk result (λ r.
             All (λ p. IsWithin (left_by self.lock r.0.history) p) passes.items) }
@@ -174,7 +232,7 @@ impl<T: Drop> Pool<T> {
         } = self;
         match monitor.close_with(rt, passes) {
             Ok((closed, shelf)) => {
-                let Shelf { items } = shelf;
+                let Shelf { items, keeps: _ } = shelf;
                 Ok((closed, items))
             }
             Err((monitor, passes, fault)) => Err((
@@ -190,7 +248,7 @@ impl<T: Drop> Pool<T> {
     }
 
     /// Returns a view of the pool, which shows how many items it has and who waits, and which trims its history.
-    pub fn view(&self) -> View<'_, SemaphoreHooks, Shelf<T>>
+    pub fn view(&self) -> View<'_, SemaphoreHooks, Shelf<T, I>>
         ensures { result.monitor.now ≡ self.now.lock }
     {
         View {
@@ -200,23 +258,25 @@ impl<T: Drop> Pool<T> {
 }
 
 /// The parts of all calls.
-impl<T: Drop> Pool<T> {
+impl<T: Drop, I: Keeps<T>> Pool<T, I> {
     // A call. The shelf has as many items as the call releases.
     pub(crate) fn call<P: Parking, R: Wait + Clock>(
         &self,
         rt: &R,
         parking: &P,
         pass: &mut Pass,
-        shelf: &mut Shelf<T>,
+        shelf: &mut Shelf<T, I>,
         asked: PoolCall,
     ) -> Result<Entry, Fault>
         requires can { CanCall self.now.lock (P.seats parking.now) pass.old }
         requires brings { length shelf.old.items ≡ brought_by asked }
+        requires kept { All I.invariant shelf.old.items }
         ensures called { Called pass.old pass.new }
         ensures made { pool_call (P.did parking.now) asked self.now.when_full pass.old result pass.new }
         ensures answers { Answers asked (whether_of result) }
         ensures has { length shelf.new.items ≡ has_after asked (whether_of result) }
         ensures keeps { is_done (whether_of result) ≡ false → shelf.new ≡ shelf.old }
+        ensures kept { All I.invariant shelf.new.items }
     {
         let when_full = self.when_full;
         match asked {
@@ -249,17 +309,19 @@ impl<T: Drop> Pool<T> {
         requires brings { brought_by asked ≡ 0 }
         ensures called { Called pass.old pass.new }
         ensures items { IfOk result (λ got. IfSome got (λ items. length items ≡ asked_by asked)) }
+        ensures kept { IfOk result (λ got. IfSome got (λ items. All I.invariant items)) }
         ensures returned { CallReturns self.now.when_full (pool_call (P.did parking.now) asked) pass.old pass.new
             (yes_if_some result) }
         ensures answers { Answers asked (yes_if_some result) }
     {
         let mut shelf = Shelf {
             items: LinkedList::new(self.alloc),
+            keeps: PhantomData,
         };
         let reply = self.call(rt, parking, pass, &mut shelf, asked);
         match whether(reply) {
             Ok(true) => {
-                let Shelf { items } = shelf;
+                let Shelf { items, keeps: _ } = shelf;
                 Ok(Some(items))
             }
             Ok(false) => {
@@ -286,6 +348,7 @@ impl<T: Drop> Pool<T> {
         requires untimed { is_timed how → ⊥ }
         ensures called { Called pass.old pass.new }
         ensures items { IfOk result (λ items. length items ≡ n) }
+        ensures kept { IfOk result (λ items. All I.invariant items) }
         ensures returned { CallReturns self.now.when_full (fetches (P.did parking.now) n how) pass.old pass.new
             (with_yes result) }
     {

@@ -9,13 +9,14 @@ ghost use Rattle.monitor.specs.Stepping.{IsSame};
 ghost use Rattle.monitor_fronts.specs.Holding.{gained, holds, with_yes};
 ghost use Rattle.monitor_fronts.specs.Returned.{whether_of};
 ghost use Rattle.guarded.specs.Asking.{CallReturns};
-ghost use Rattle.guarded.specs.Guarding.{CanLock, Guards, yes_unless_missed};
+ghost use Rattle.guarded.specs.Guarding.{CanLock, yes_unless_missed};
 ghost use Rattle.guarded.specs.Reading.{GainsReads, GivesRead, Saw, Sees, reads, reads_by};
 ghost use Rattle.guarded.specs.inner.Reading.{reading_of};
-ghost use Rattle.guarded.specs.Stowed.{Carries};
-ghost use Rattle.guarded.specs.declared.slot.Slot.TheVariants.{Empty};
+ghost use Rattle.guarded.specs.Stowed.{IsFull};
+ghost use Rattle.guarded.specs.inner.Stowed.{Carries};
 
 use crate::asking::Reading;
+use crate::keeps::Keeps;
 use crate::mutex::Mutex;
 use crate::slot::Slot;
 use crate::try_lock::TryLockFault;
@@ -26,18 +27,19 @@ use history::step::Step;
 use monitor::{How, Pass, WhenFull};
 use monitor_fronts::{done, whether};
 use permit::Parking;
+use std::marker::PhantomData;
 use std::sync::Wait;
 use std::time::Clock;
 
-/// The parts of the calls of readers. If the pass writes too, its slot has the value.
-impl<T: Drop, H: Hooks + Drop> Mutex<T, H> {
-    // A call for a read hold. The slot has the value exactly if the pass writes.
+/// The parts of the calls of readers. If the pass writes too, its guard keeps the value.
+impl<T: Drop, I: Keeps<T>, H: Hooks + Drop> Mutex<T, I, H> {
+    // A call for a read hold. The slot is lent if the pass writes.
     pub(crate) fn start_reading<P: Parking, R: Wait + Clock>(
         &self,
         rt: &R,
         parking: &P,
         pass: &mut Pass,
-        slot: &mut Slot<T>,
+        slot: &mut Slot<T, I>,
         asked: Reading,
     ) -> Result<Entry, Fault>
         requires can { CanCall self.now.lock (P.seats parking.now) pass.old }
@@ -45,7 +47,6 @@ impl<T: Drop, H: Hooks + Drop> Mutex<T, H> {
         ensures called { Called pass.old pass.new }
         ensures made { reading_of (P.did parking.now) asked self.now.when_full pass.old result pass.new }
         ensures gains { GainsReads pass.old (whether_of result) pass.new }
-        ensures carries { Carries (holds pass.new) slot.new }
     {
         let when_full = self.when_full;
         match asked {
@@ -105,41 +106,40 @@ impl<T: Drop, H: Hooks + Drop> Mutex<T, H> {
         }
     }
 
-    // A read hold for a pass that writes.
+    // A read hold for a pass that writes. The value stays in the guard.
     pub(crate) fn read_too<P: Parking, R: Wait + Clock>(
         &self,
         rt: &R,
         parking: &P,
         pass: &mut Pass,
-        slot: &mut Slot<T>,
     ) -> Result<bool, Fault>
-        requires guards { Guards self.now (P.seats parking.now) pass.old slot.old }
+        requires can { CanCall self.now.lock (P.seats parking.now) pass.old }
+        requires has { 0 < holds pass.old }
         ensures same { IsSame pass.old pass.new }
-        ensures guards { Guards self.now (P.seats parking.now) pass.new slot.new }
         ensures returned { CallReturns self.now.when_full (reads_by (P.did parking.now) Plain) pass.old pass.new result }
         ensures gains { GainsReads pass.old result pass.new }
     {
-        whether(self.start_reading(rt, parking, pass, slot, Reading::Acquire(How::Plain)))
+        let mut lent = Slot::Lent(PhantomData);
+        let asked = Reading::Acquire(How::Plain);
+        whether(self.start_reading(rt, parking, pass, &mut lent, asked))
     }
 
-    // Releases a read hold.
+    // Releases a read hold of a pass that doesn't write.
     pub(crate) fn end_reading<P: Parking, R: Wait + Clock>(
         &self,
         rt: &R,
         parking: &P,
         pass: &mut Pass,
-        slot: &mut Slot<T>,
     ) -> Result<(), Fault>
-        requires can { CanCall self.now.lock (P.seats parking.now) pass.old }
+        requires can { CanLock self.now (P.seats parking.now) pass.old }
         requires has { 0 < reads pass.old }
-        requires carries { Carries (holds pass.old) slot.old }
         ensures called { Called pass.old pass.new }
         ensures given { GivesRead (P.did parking.now) pass.old result pass.new }
         ensures loses { reads pass.new + gained (with_yes result) ≡ reads pass.old }
         ensures keeps { holds pass.new ≡ holds pass.old }
-        ensures carries { Carries (holds pass.new) slot.new }
     {
         let step = Step::Give(Mode::S, 1);
+        let slot = &mut Slot::Empty;
         done(
             self.monitor
                 .enter(rt, parking, pass, slot, step, WhenFull::Refuse),
@@ -155,16 +155,16 @@ impl<T: Drop, H: Hooks + Drop> Mutex<T, H> {
         ensures looked { IsLook pass.old pass.new }
         ensures reads { reads pass.new ≡ reads pass.old }
         ensures keeps { holds pass.new ≡ holds pass.old }
-        ensures saw { Saw (λ value answer. FnOnceReturnsAt F.FnOnce look value answer) pass.new result }
+        ensures saw { Saw I.invariant (λ value answer. FnOnceReturnsAt F.FnOnce look value answer) pass.new result }
     {
         let seen = self.monitor.look_with(
             rt,
             pass,
-            |slot: &Slot<T>|
+            |slot: &Slot<T, I>|
                 requires callable { F.IsAlwaysCallable look }
                 ensures saw { IfSome result (λ seen.
                     Sees (λ value answer. FnOnceReturnsAt F.FnOnce look value answer) slot.now seen) }
-                ensures elsewhere { result ≡ None → slot.now ≡ Empty }
+                ensures elsewhere { result ≡ None → IsFull slot.now → ⊥ }
             { see(slot, look) },
         );
         match seen {
@@ -175,14 +175,15 @@ impl<T: Drop, H: Hooks + Drop> Mutex<T, H> {
 }
 
 // Shows the value of a slot, if it is there.
-fn see<T, A, F: FnOnce(&T) -> A>(slot: &Slot<T>, look: F) -> Option<A>
+fn see<T, I, A, F: FnOnce(&T) -> A>(slot: &Slot<T, I>, look: F) -> Option<A>
     requires callable { F.IsAlwaysCallable look }
     ensures saw { IfSome result (λ seen.
         Sees (λ value answer. FnOnceReturnsAt F.FnOnce look value answer) slot.now seen) }
-    ensures elsewhere { result ≡ None → slot.now ≡ Empty }
+    ensures elsewhere { result ≡ None → IsFull slot.now → ⊥ }
 {
     match slot {
         Slot::Full(value) => Some(look(value)),
         Slot::Empty => None,
+        Slot::Lent(_) => None,
     }
 }

@@ -1,5 +1,5 @@
 //! A reentrant read-write lock that guards a value.
-ghost use Rattle.std.specs.Prelude.{◌≡◌, ◌<◌, ◌≤◌, ◌+◌, All, IfOk, IfErr};
+ghost use Rattle.std.specs.Prelude.{◌≡◌, ◌<◌, ◌≤◌, ◌+◌, All, IfOk, IfErr, IfSome};
 ghost use Rattle.std.specs.Borrow.{sem, RestsIfErr};
 ghost use Rattle.std.specs.Fn.{FnOnceReturnsAt};
 ghost use Rattle.deciding.specs.Balance.{balance};
@@ -27,10 +27,11 @@ ghost use Rattle.monitor_fronts.specs.Holding.{gained, holds, with_yes};
 ghost use Rattle.guarded.specs.Asking.{IsRecorded, CallReturns, acquires, tries};
 ghost use Rattle.guarded.specs.Guarding.{CanLock, Guards, Locked, NotLocked, yes_unless_missed};
 ghost use Rattle.guarded.specs.Reading.{GainsReads, GivesRead, Saw, reads, reads_by, tries_read};
-ghost use Rattle.guarded.specs.Stowed.{Rests, slot_of};
+ghost use Rattle.guarded.specs.Stowed.{Kept, Rests};
 
 use crate::asking::Reading;
 use crate::guard::Guard;
+use crate::keeps::{Any, Keeps};
 use crate::mutex::Mutex;
 use crate::options::Options;
 use crate::slot::Slot;
@@ -54,15 +55,17 @@ use std::time::Clock;
 /// `read_with` shows it to one reader at a time, until its closure returns. There is no guard with a `&T`,
 /// since the value is under the monitor's lock, which each look acquires.
 ///
+/// `I` is the invariant that the lock keeps of its value, or [`Any`] for none.
+///
 /// A writer that acquires a read hold and then unlocks becomes a reader, and no other writer comes in
 /// between. A reader can't become a writer: its `write` waits for its own read hold until an interrupt or its
 /// time ends it.
 #[derive(Drop)]
-pub struct RwMutex<T: Drop> {
-    pub(crate) mutex: Mutex<T, RwHooks>,
+pub struct RwMutex<T: Drop, I: Keeps<T> = Any> {
+    pub(crate) mutex: Mutex<T, I, RwHooks>,
 }
 
-impl<T: Drop> Model for RwMutex<T> {
+impl<T: Drop, I: Keeps<T>> Model for RwMutex<T, I> {
     ghost use Rattle.guarded.specs.Stowed.{MutexView};
 
     ghost Value = { MutexView };
@@ -138,6 +141,63 @@ impl<T: Drop> RwMutex<T> {
         ensures free { IfOk result (λ r. All (λ p. holds p ≡ 0) r.1.items) }
         ensures back { IfErr result (λ e. (e.0 ≡ value) × (e.1 ≡ OutOfMemory)) }
     {
+        RwMutex::open_keeping(alloc, value, policy, when_full, seats, conditions, cap)
+    }
+}
+
+/// A lock that keeps an invariant of its value.
+impl<T: Drop, I: Keeps<T>> RwMutex<T, I> {
+    /// [`new`](RwMutex::new) of a lock that keeps an invariant, which the value meets.
+    pub fn new_keeping(
+        alloc: Global,
+        value: T,
+        seats: u16,
+    ) -> Result<(RwMutex<T, I>, Vec<Pass>), Fault>
+        requires some { 1 ≤ seats }
+        requires few { seats ≤ 256 }
+        requires kept { I.invariant value }
+        ensures header { IfOk result (λ r. r.0.lock.header ≡ header_of (ReadWrite NonFair) seats 16 4096) }
+        ensures when_full { IfOk result (λ r. r.0.when_full ≡ Trim) }
+        ensures passes { IfOk result (λ r.
+            r.1.items ≡ opening_passes r.0.lock (blank r.0.lock.header) 0 seats) }
+        ensures own { IfOk result (λ r. All (λ p. p.lock ≡ r.0.lock) r.1.items) }
+        ensures free { IfOk result (λ r. All (λ p. holds p ≡ 0) r.1.items) }
+        ensures err { IfErr result (λ fault. fault ≡ OutOfMemory) }
+    {
+        match RwMutex::open_keeping(
+            alloc,
+            value,
+            Policy::NonFair,
+            WhenFull::Trim,
+            seats,
+            16,
+            4096,
+        ) {
+            Ok((lock, passes)) => Ok((lock, passes)),
+            Err((_value, fault)) => Err(fault),
+        }
+    }
+
+    /// [`open`](RwMutex::open) of a lock that keeps an invariant, which the value meets.
+    pub fn open_keeping(
+        alloc: Global,
+        value: T,
+        policy: Policy,
+        when_full: WhenFull,
+        seats: u16,
+        conditions: u8,
+        cap: u32,
+    ) -> Result<(RwMutex<T, I>, Vec<Pass>), (T, Fault)>
+        requires range { IsInRange (header_of (ReadWrite policy) seats conditions cap) }
+        requires kept { I.invariant value }
+        ensures header { IfOk result (λ r. r.0.lock.header ≡ header_of (ReadWrite policy) seats conditions cap) }
+        ensures when_full { IfOk result (λ r. r.0.when_full ≡ when_full) }
+        ensures passes { IfOk result (λ r.
+            r.1.items ≡ opening_passes r.0.lock (blank r.0.lock.header) 0 seats) }
+        ensures own { IfOk result (λ r. All (λ p. p.lock ≡ r.0.lock) r.1.items) }
+        ensures free { IfOk result (λ r. All (λ p. holds p ≡ 0) r.1.items) }
+        ensures back { IfErr result (λ e. (e.0 ≡ value) × (e.1 ≡ OutOfMemory)) }
+    {
         let Ok(hooks) = RwHooks::open(alloc, policy, seats) else {
             return Err((value, Fault::OutOfMemory));
         };
@@ -150,12 +210,15 @@ impl<T: Drop> RwMutex<T> {
             Err((slot, fault)) => match slot {
                 Slot::Full(value) => Err((value, fault)),
                 Slot::Empty => unreachable!(),
+                Slot::Lent(_) => unreachable!(),
             },
         }
     }
+}
 
+impl<T: Drop, I: Keeps<T>> RwMutex<T, I> {
     /// Ends the lock, after the calls that are under way. Returns the history, and the value unless a seat still
-    /// writes and so has the value.
+    /// writes and so has the value. The value meets the lock's invariant.
     ///
     /// The passes of all seats are needed, in any order. If one is missing, it returns the lock and the passes as
     /// they were.
@@ -163,10 +226,11 @@ impl<T: Drop> RwMutex<T> {
         self,
         rt: &R,
         passes: Vec<Pass>,
-    ) -> Result<(Closed, Option<T>), (RwMutex<T>, Vec<Pass>, CloseFault)>
+    ) -> Result<(Closed, Option<T>), (RwMutex<T, I>, Vec<Pass>, CloseFault)>
         requires is_of { All (λ p. p.lock ≡ self.lock) passes.items }
         ensures value { IfOk result (λ r.
-            Rests (slot_of r.1) (counts (start_on self.lock.header r.0.history) r.0.history.entries)) }
+            Rests r.1 (counts (start_on self.lock.header r.0.history) r.0.history.entries)) }
+        ensures kept { IfOk result (λ r. IfSome r.1 (λ value. I.invariant value)) }
         ensures lawful { IfOk result (λ r. IsLawful (left_by self.lock r.0.history)) }
         ensures within { IfOk result (λ r.
             All (λ p. IsWithin (left_by self.lock r.0.history) p) passes.items) }
@@ -193,7 +257,7 @@ impl<T: Drop> RwMutex<T> {
     }
 
     /// Returns a view of the lock, which shows who holds it and who waits, and which trims its history.
-    pub fn view(&self) -> View<'_, RwHooks, Slot<T>>
+    pub fn view(&self) -> View<'_, RwHooks, Slot<T, I>>
         ensures { result.monitor.now ≡ self.now.lock }
     {
         self.mutex.view()
@@ -206,15 +270,15 @@ impl<T: Drop> RwMutex<T> {
 /// A pass that reads would wait for its own read hold: it calls `unread` first.
 ///
 /// The pass is the first argument, as in `RwMutex::write(pass, &lock, rt, parking)`, since the guard borrows it.
-impl<T: Drop> RwMutex<T> {
+impl<T: Drop, I: Keeps<T>> RwMutex<T, I> {
     /// Waits until nobody else writes or reads. An interrupt doesn't end the wait, and stays pending. This is
     /// `WriteLock.lock()` of Java SE 8.
     pub fn write<'a, P: Parking, R: Wait + Clock>(
         pass: &'a mut Pass,
-        lock: &'a RwMutex<T>,
+        lock: &'a RwMutex<T, I>,
         rt: &'a R,
         parking: &'a P,
-    ) -> Result<Guard<'a, T, P, R, RwHooks>, Fault>
+    ) -> Result<Guard<'a, T, P, R, I, RwHooks>, Fault>
         requires can { CanLock lock.now (P.seats parking.now) pass.old }
         ensures* not_locked { sem 𝓛 (RestsIfErr the_row pass.entry (λ guard. guard.pass.ghost_name) result
             (λ last. NotLocked lock.now.when_full (acquires (P.did parking.now) Plain)
@@ -225,6 +289,7 @@ impl<T: Drop> RwMutex<T> {
         ensures locked { IfOk result (λ guard.
             Locked lock.now.when_full (acquires (P.did parking.now) Plain)
             pass.old guard.slot guard.pass.now) }
+        ensures kept { IfOk result (λ guard. Kept I.invariant guard.slot) }
     {
         Mutex::lock(pass, &lock.mutex, rt, parking)
     }
@@ -233,10 +298,10 @@ impl<T: Drop> RwMutex<T> {
     /// interrupt is taken. This is `WriteLock.lockInterruptibly()`.
     pub fn write_interruptibly<'a, P: Parking, R: Wait + Clock>(
         pass: &'a mut Pass,
-        lock: &'a RwMutex<T>,
+        lock: &'a RwMutex<T, I>,
         rt: &'a R,
         parking: &'a P,
-    ) -> Result<Guard<'a, T, P, R, RwHooks>, Fault>
+    ) -> Result<Guard<'a, T, P, R, I, RwHooks>, Fault>
         requires can { CanLock lock.now (P.seats parking.now) pass.old }
         ensures* not_locked { sem 𝓛 (RestsIfErr the_row pass.entry (λ guard. guard.pass.ghost_name) result
             (λ last. NotLocked lock.now.when_full (acquires (P.did parking.now) Interruptible)
@@ -247,6 +312,7 @@ impl<T: Drop> RwMutex<T> {
         ensures locked { IfOk result (λ guard.
             Locked lock.now.when_full (acquires (P.did parking.now) Interruptible)
             pass.old guard.slot guard.pass.now) }
+        ensures kept { IfOk result (λ guard. Kept I.invariant guard.slot) }
     {
         Mutex::lock_interruptibly(pass, &lock.mutex, rt, parking)
     }
@@ -255,10 +321,10 @@ impl<T: Drop> RwMutex<T> {
     /// under a strict one. This is `WriteLock.tryLock()`.
     pub fn try_write<'a, P: Parking, R: Wait + Clock>(
         pass: &'a mut Pass,
-        lock: &'a RwMutex<T>,
+        lock: &'a RwMutex<T, I>,
         rt: &'a R,
         parking: &'a P,
-    ) -> Result<Guard<'a, T, P, R, RwHooks>, TryLockFault>
+    ) -> Result<Guard<'a, T, P, R, I, RwHooks>, TryLockFault>
         requires can { CanLock lock.now (P.seats parking.now) pass.old }
         ensures* not_locked { sem 𝓛 (RestsIfErr the_row pass.entry (λ guard. guard.pass.ghost_name) result
             (λ last. NotLocked lock.now.when_full (tries (P.did parking.now))
@@ -268,6 +334,7 @@ impl<T: Drop> RwMutex<T> {
             Guards guard.lock.now (P.seats guard.parking.now) guard.pass.now guard.slot) }
         ensures locked { IfOk result (λ guard.
             Locked lock.now.when_full (tries (P.did parking.now)) pass.old guard.slot guard.pass.now) }
+        ensures kept { IfOk result (λ guard. Kept I.invariant guard.slot) }
     {
         Mutex::try_lock(pass, &lock.mutex, rt, parking)
     }
@@ -277,11 +344,11 @@ impl<T: Drop> RwMutex<T> {
     /// `WriteLock.tryLock(time, unit)`.
     pub fn try_write_for<'a, P: Parking, R: Wait + Clock>(
         pass: &'a mut Pass,
-        lock: &'a RwMutex<T>,
+        lock: &'a RwMutex<T, I>,
         rt: &'a R,
         parking: &'a P,
         ms: u32,
-    ) -> Result<Guard<'a, T, P, R, RwHooks>, TryLockFault>
+    ) -> Result<Guard<'a, T, P, R, I, RwHooks>, TryLockFault>
         requires can { CanLock lock.now (P.seats parking.now) pass.old }
         ensures* not_locked { sem 𝓛 (RestsIfErr the_row pass.entry (λ guard. guard.pass.ghost_name) result
             (λ last. NotLocked lock.now.when_full (acquires (P.did parking.now) (Timed ms))
@@ -292,6 +359,7 @@ impl<T: Drop> RwMutex<T> {
         ensures locked { IfOk result (λ guard.
             Locked lock.now.when_full (acquires (P.did parking.now) (Timed ms))
             pass.old guard.slot guard.pass.now) }
+        ensures kept { IfOk result (λ guard. Kept I.invariant guard.slot) }
     {
         Mutex::try_lock_for(pass, &lock.mutex, rt, parking, ms)
     }
@@ -300,7 +368,7 @@ impl<T: Drop> RwMutex<T> {
 /// Each of these is called by a pass that doesn't write; it may read already. Afterwards it has one more read
 /// hold. After an `Err` it has as many as before. All passes together may have 65535 read holds; a call for
 /// more returns `Err(TooManyHolds)`; the other faults are the monitor's, as at [`Mutex`].
-impl<T: Drop> RwMutex<T> {
+impl<T: Drop, I: Keeps<T>> RwMutex<T, I> {
     /// Waits until nobody writes. An interrupt doesn't end the wait, and stays pending. This is `ReadLock.lock()` of
     /// Java SE 8.
     pub fn read<P: Parking, R: Wait + Clock>(
@@ -374,9 +442,9 @@ impl<T: Drop> RwMutex<T> {
     }
 }
 
-impl<T: Drop> RwMutex<T> {
+impl<T: Drop, I: Keeps<T>> RwMutex<T, I> {
     /// Shows the value to `look`, in one turn of the lock. No other thread makes a call until `look` returns, so it
-    /// should be short. The pass keeps its read holds.
+    /// should be short. The pass keeps its read holds. The value meets the lock's invariant.
     pub fn read_with<R: Wait, A, F: FnOnce(&T) -> A>(&self, rt: &R, pass: &mut Pass, look: F) -> A
         requires is_of { pass.old.lock ≡ self.now.lock }
         requires reads { 0 < reads pass.old }
@@ -385,7 +453,7 @@ impl<T: Drop> RwMutex<T> {
         ensures looked { IsLook pass.old pass.new }
         ensures reads { reads pass.new ≡ reads pass.old }
         ensures keeps { holds pass.new ≡ holds pass.old }
-        ensures saw { Saw (λ value answer. FnOnceReturnsAt F.FnOnce look value answer) pass.new result }
+        ensures saw { Saw I.invariant (λ value answer. FnOnceReturnsAt F.FnOnce look value answer) pass.new result }
     {
         self.mutex.look(rt, pass, look)
     }
@@ -405,13 +473,12 @@ impl<T: Drop> RwMutex<T> {
         ensures loses { reads pass.new + gained (with_yes result) ≡ reads pass.old }
         ensures keeps { holds pass.new ≡ holds pass.old }
     {
-        let mut slot = Slot::Empty;
-        self.mutex.end_reading(rt, parking, pass, &mut slot)
+        self.mutex.end_reading(rt, parking, pass)
     }
 }
 
 /// A writer may read too, and so become a reader.
-impl<T: Drop, P: Parking, R: Wait + Clock> Guard<'_, T, P, R, RwHooks> {
+impl<T: Drop, P: Parking, R: Wait + Clock, I: Keeps<T>> Guard<'_, T, P, R, I, RwHooks> {
     /// Acquires a read hold beside the write hold, and returns whether it did. This is `ReadLock.lock()` by the
     /// owner of the write lock.
     pub fn read(&mut self) -> Result<bool, Fault>
@@ -424,10 +491,10 @@ impl<T: Drop, P: Parking, R: Wait + Clock> Guard<'_, T, P, R, RwHooks> {
             (reads_by (P.did self.old.parking.now) Plain)
             self.old.pass.now self.new.pass.now result }
         ensures gains { GainsReads self.old.pass.now result self.new.pass.now }
+        ensures value { self.new.slot ≡ self.old.slot }
     {
         let pass = &mut *self.pass;
-        self.lock
-            .read_too(self.rt, self.parking, pass, &mut self.slot)
+        self.lock.read_too(self.rt, self.parking, pass)
     }
 
     /// Unlocks now, and keeps the read holds: a writer becomes a reader, and no other writer comes in
@@ -435,6 +502,7 @@ impl<T: Drop, P: Parking, R: Wait + Clock> Guard<'_, T, P, R, RwHooks> {
     pub fn downgrade(self)
         requires guards { Guards self.lock.now (P.seats self.parking.now) self.pass.now self.slot }
         requires last { holds self.pass.now ≡ 1 }
+        requires kept { Kept I.invariant self.slot }
         ensures free { holds self.exit.0.now ≡ 0 }
         ensures reads { reads self.exit.0.now ≡ reads self.entry.pass.now }
         ensures called { Called self.entry.pass.now self.exit.0.now }

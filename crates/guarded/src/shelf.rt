@@ -1,22 +1,25 @@
 //! Items of a pool, one for each free permit, and items on their way into the pool or out of it.
 ghost use Rattle.std.specs.Prelude.{◌≡◌, ◌<◌, ◌+◌, ◌^◌, ◌++◌, ℕ, [], drop, length, pos, take};
 
+use crate::keeps::Keeps;
 use monitor::{Holds, Load};
 use std::collections::LinkedList;
+use std::marker::PhantomData;
 
 /// A place for items: in the pool, or with a call that acquires or releases some. Items move with their nodes, so a
-/// move takes no memory.
+/// move takes no memory. `I` says what is true of each item.
 #[derive(Drop)]
-pub struct Shelf<T> {
+pub struct Shelf<T, I> {
     pub(crate) items: LinkedList<T>,
+    pub(crate) keeps: PhantomData<I>,
 }
 
-impl<T: Drop> Shelf<T> {
+impl<T: Drop, I> Shelf<T, I> {
     // Drops an empty shelf.
     pub(crate) fn put_away(self)
         requires { length self.items ≡ 0 }
     {
-        let Shelf { items } = self;
+        let Shelf { items, keeps: _ } = self;
         items.destroy_empty();
     }
 }
@@ -58,19 +61,22 @@ fn trade<T: Drop>(here: &mut LinkedList<T>, there: &mut LinkedList<T>, free: i64
     settle(here, there, free as usize);
 }
 
-impl<T: Drop> Load for Shelf<T> {
+impl<T: Drop, I: Keeps<T>> Load for Shelf<T, I> {
     ghost use Rattle.std.specs.Prelude.{length, true};
+    ghost use Rattle.std.specs.Prelude.{All};
     ghost use Rattle.guarded.specs.Shelved.{Lies, alike_lies};
 
-    ghost rests = { λ s k. Lies s.items k };
+    ghost rests = { λ s k. Lies s.items k × All I.invariant s.items };
 
-    ghost carries = { λ _ _. Unit {0} };
+    ghost carries = { λ s _. All I.invariant s.items };
+
+    ghost fit = { λ _. Unit {0} };
 
     ghost is_counted = { true };
 
     ghost amount = { λ s. length s.items };
 
-    ghost alike = { λ s k l same lies. alike_lies s.items k l same lies };
+    ghost alike = { λ s k l same lies. (alike_lies s.items k l same lies.0, lies.1) };
 
     fn trade(&mut self, there: &mut Self, _before: Holds, _after: Holds, free: i64) {
         trade(&mut self.items, &mut there.items, free);

@@ -7,6 +7,7 @@ ghost use Rattle.guarded.specs.Asking.{signals};
 ghost use Rattle.monitor.specs.Calling.{CanCall, Called};
 ghost use Rattle.monitor_fronts.specs.Holding.{holds};
 
+use crate::keeps::Keeps;
 use crate::mutex::Mutex;
 use frame::hooks::Hooks;
 use history::entry::Entry;
@@ -16,7 +17,7 @@ use permit::Parking;
 use std::sync::Wait;
 use std::time::Clock;
 
-impl<T: Drop, H: Hooks + Drop> Mutex<T, H> {
+impl<T: Drop, I: Keeps<T>, H: Hooks + Drop> Mutex<T, I, H> {
     // A signal, to one sleeper or to all.
     pub(crate) fn tell<P: Parking, R: Wait + Clock>(
         &self,

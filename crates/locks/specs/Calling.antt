@@ -2,6 +2,7 @@
 pub use Rattle.frame.specs.Core.{header_of}
 pub use Rattle.guarded.specs.Guarding.{CanLock, Guards}
 pub use Rattle.guarded.specs.Reading.{reads}
+pub use Rattle.guarded.specs.Stowed.{Kept}
 pub use Rattle.history.specs.Header.{IsInRange}
 pub use Rattle.monitor.specs.Calling.{CanCall, Called}
 pub use Rattle.monitor.specs.Shown.{IsSound}

@@ -82,7 +82,9 @@
 //!
 //! - *Exclusion.* The value is with one guard, or in the lock. Nobody writes while another thread reads. As
 //!   many items lie in a pool as permits are free. Each other item is with the one thread that owns it.
-//! - *The value's invariant*, of its type's `impl Model` or ghost field, holds each time a thread gets the value.
+//! - *The value's invariant*, of its type's `impl Model` or ghost field, holds each time a thread gets the value. So
+//!   does an invariant of the lock, as `Balanced` of a `Mutex<Accounts, Balanced>`. A thread may break that one while
+//!   it has the value, and must prove it again before it waits or unlocks.
 //! - *Order.* No queued acquire is granted before an earlier one that still waits.
 //! - *Unlocking cannot fail.* It lacks neither memory nor room in the history, and a guard unlocks at each
 //!   way out. Releasing a semaphore can fail, since a thread may release permits that it did not acquire.
@@ -136,7 +138,9 @@
 //! `wait_for`.
 #![tactic(auto)]
 
-pub use guarded::{Guard, ItemFault, Mutex, Options, Pool, RwMutex, TryLockFault, View};
+pub use guarded::{
+    Any, Guard, ItemFault, Keeps, Mutex, Options, Pool, RwMutex, TryLockFault, View,
+};
 pub use history::entries::History;
 pub use history::fault::Fault;
 pub use history::header::{Header, Object, Policy};

@@ -175,7 +175,7 @@ pub const SUMMARY: &[u8] = b"\
 
 /// What a drawing is.
 pub const DRAW: &[u8] = b"\
-    aqs draw [--page] [--from A] [--to B] [--output F] [FILE]\n\
+    aqs draw [--page] [--names F] [--from A] [--to B] [--output F] [FILE]\n\
     \n\
     Reads a history text and draws it as an SVG document: a row for each thread that did something,\n\
     the entries from left to right, with bars while a thread holds or waits. A history that is not\n\
@@ -183,6 +183,8 @@ pub const DRAW: &[u8] = b"\
     \n\
     \x20 --page        writes a page of HTML in place of the picture. It needs no network. It steps from\n\
     \x20               entry to entry, says who holds and who waits in which order, and finds entries\n\
+    \x20 --names F     shows the names of threads and conditions that the file F has, not with --page. Its\n\
+    \x20               lines are, in any order: 3 parser, condition 0 not-empty\n\
     \x20 --from A      draws from entry A on\n\
     \x20 --to B        draws up to entry B; with neither at most the first 2,000 are drawn\n\
     \x20 --output F    writes to the file F in place of standard output. -o F is the same\n\
@@ -192,7 +194,7 @@ pub const DRAW: &[u8] = b"\
 
 /// What a run is.
 pub const RUN: &[u8] = b"\
-    aqs run [--timeout M] [--object N] [--dir D] [--output F] [FILE]\n\
+    aqs run [--timeout M] [--object N] [--dir D] [--unrecorded] [--output F] [FILE]\n\
     \n\
     Reads a script, which is a JSON text, and runs its threads at its objects. For each object it\n\
     writes the history, the lines of an audit of it, and how many calls ended. If the threads wait for\n\
@@ -204,6 +206,8 @@ pub const RUN: &[u8] = b"\
     \x20 --object N    writes the history of object N alone, which aqs audit and the others read\n\
     \x20 --dir D       leaves the history of each object in the folder D too, as NAME.history. None of\n\
     \x20               these files may be there before. After a fault they are removed if they can be\n\
+    \x20 --unrecorded  writes a line for each answer that no history records, after the last line. It does\n\
+    \x20               not go with --object\n\
     \x20 --output F    writes to the file F in place of standard output. -o F is the same\n\
     \n\
     Example. From the text\n\

@@ -83,14 +83,14 @@ went Trim t o n v w seat share a moved step r s next is =
 
 -- and what changed hands
 pub moves_by : (wf : WhenFull) (t o n : Ticket) (v w : CoreView) (seat share next : ℕ)
-    (a : Around t o n v w seat share) {A : Type 0} (counted : Bool) (amount : A → ℕ) (x y : A) (step : Step)
-    (r : Result Answer Fault) →
-    IsCoreStepBy wf (λ z. Moves counted amount x (counts_of z).free y (counts_of w).free) v seat step r w →
-    Moves counted amount x (free_of (shown t seat share)) y (free_of (shown n seat next))
-moves_by Refuse t o n v w seat share next a counted amount x y step r s =
-    moves_step t o n v w seat share a counted amount x y step r r s.0 s.1
-moves_by Trim t o n v w seat share next a counted amount x y step r s =
-    moves_in t o n v w seat share a counted amount x y step r s
+    (a : Around t o n v w seat share) {A : Type 0} (fit : A → Type 0) (counted : Bool) (amount : A → ℕ) (x y : A)
+    (step : Step) (r : Result Answer Fault) →
+    IsCoreStepBy wf (λ z. Moves fit counted amount x (counts_of z).free y (counts_of w).free) v seat step r w →
+    Moves fit counted amount x (free_of (shown t seat share)) y (free_of (shown n seat next))
+moves_by Refuse t o n v w seat share next a fit counted amount x y step r s =
+    moves_step t o n v w seat share a fit counted amount x y step r r s.0 s.1
+moves_by Trim t o n v w seat share next a fit counted amount x y step r s =
+    moves_in t o n v w seat share a fit counted amount x y step r s
 
 -- a step of an idle seat, with its entry or a fault
 pub entered_in : (wf : WhenFull) (did : Deed → Type 0) (old new : Shown) (step : Step) (r : Result Answer Fault) →

@@ -310,33 +310,43 @@ section_frees t o n p q seat share step r s =
     ∙ ap (λ (z : ℤ). own +ℤ z) (sym left_is))
 
 -- a load that moved by the history moved by the pass's own entries
-pub moves_own : {A : Type 0} (counted : Bool) (amount : A → ℕ) (x y : A) (f g a b : ℤ) → g +ℤ a ≡ f +ℤ b →
-    Moves counted amount x a y b → Moves counted amount x f y g
-moves_own true amount x y f g a b q m = (
+pub moves_own : {A : Type 0} (fit : A → Type 0) (counted : Bool) (amount : A → ℕ) (x y : A) (f g a b : ℤ) →
+    g +ℤ a ≡ f +ℤ b → Moves fit counted amount x a y b → Moves fit counted amount x f y g
+moves_own fit true amount x y f g a b q m = (
   let n = m.0 in omega (arith, ints, n, q),
   λ same. m.1 (omega (arith, ints, q, same)),
+  m.2,
 )
-moves_own false amount x y f g a b q m = tt
+moves_own fit false amount x y f g a b q m = m
 
-pub moves_none : {A : Type 0} (counted : Bool) (amount : A → ℕ) (x : A) (f : ℤ) → Moves counted amount x f x f
-moves_none true amount x f = (refl, λ _. refl)
-moves_none false amount x f = tt
+pub moves_none : {A : Type 0} (fit : A → Type 0) (counted : Bool) (amount : A → ℕ) (x : A) (f : ℤ) →
+    Moves fit counted amount x f x f
+moves_none fit true amount x f = (refl, λ _. refl, λ k. k)
+moves_none fit false amount x f = λ k. k
 
 -- what one who took and gave nothing carries is as it was
-pub stays : {A : Type 0} (counted : Bool) (amount : A → ℕ) (x y : A) (f g : ℤ) → g ≡ f →
-    Moves counted amount x f y g → counted ≡ true → y ≡ x
-stays true amount x y f g same m t = m.1 same
-stays false amount x y f g same m t = cc
+pub stays : {A : Type 0} (fit : A → Type 0) (counted : Bool) (amount : A → ℕ) (x y : A) (f g : ℤ) → g ≡ f →
+    Moves fit counted amount x f y g → counted ≡ true → y ≡ x
+stays fit true amount x y f g same m t = m.1 same
+stays fit false amount x y f g same m t = cc
 
 pub brings_still : {A : Type 0} (counted : Bool) (amount : A → ℕ) (x y : A) (n : ℕ) →
     (counted ≡ true → y ≡ x) → Brings counted (amount x) n → Brings counted (amount y) n
 brings_still true amount x y n same b = ap amount (same refl) ∙ b
 brings_still false amount x y n same b = tt
 
-pub moves_since : {A : Type 0} (counted : Bool) (amount : A → ℕ) (x y z : A) (f g h : ℤ) →
-    (counted ≡ true → y ≡ x) → g ≡ f → Moves counted amount y g z h → Moves counted amount x f z h
-moves_since {A} true amount x y z f g h same q m = (
+-- and what was fit to lie under the lock still is
+pub fit_still : {A : Type 0} (fit : A → Type 0) (counted : Bool) (amount : A → ℕ) (x y : A) (f g : ℤ) →
+    Moves fit counted amount x f y g → fit x → fit y
+fit_still fit true amount x y f g m k = m.2 k
+fit_still fit false amount x y f g m k = m k
+
+pub moves_since : {A : Type 0} (fit : A → Type 0) (counted : Bool) (amount : A → ℕ) (x y z : A) (f g h : ℤ) →
+    (counted ≡ true → y ≡ x) → (fit x → fit y) → g ≡ f → Moves fit counted amount y g z h →
+    Moves fit counted amount x f z h
+moves_since {A} fit true amount x y z f g h same still q m = (
   m.0 ∙ (ap (λ (w : A). pos (amount w) +ℤ g) (same refl) ∙ ap (λ (w : ℤ). pos (amount x) +ℤ w) q),
   λ u. m.1 (u ∙ sym q) ∙ same refl,
+  λ k. m.2 (still k),
 )
-moves_since {A} false amount x y z f g h same q m = tt
+moves_since {A} fit false amount x y z f g h same still q m = λ k. m (still k)

@@ -10,6 +10,7 @@ pub mod Merging
 pub mod Looking
 pub mod Trims
 pub mod Freeing
+pub mod Letting
 pub mod Loads
 pub mod TurnByTurn
 pub mod Rooms

@@ -42,6 +42,7 @@ use Rattle.monitor.specs.Shown.{Shown, IsSound}
 use Rattle.monitor.proofs.Acquiring.{idle_made}
 use Rattle.monitor.proofs.Freeing.{turn_frees}
 use Rattle.monitor.proofs.InLine.{records}
+use Rattle.monitor.proofs.Letting.{turn_ends}
 use Rattle.monitor.proofs.Sections.{Left, answered_shown, left}
 use Rattle.monitor.proofs.Beside.{beside_of}
 
@@ -77,6 +78,7 @@ turn v w i step r kept kept' below a =
       after = λ lock. one_owner (point_of w) kept'.lawful (ap is_lock object ∙ lock);
       step = step;
       free = λ t. turn_frees v w i step r kept kept' below a t;
+      ends = λ lock some none. turn_ends v w i step r kept kept' a lock some none;
     }
 
 pub turn_step : (v w : CoreView) (i : ℕ) (step : Step) (r : Result Answer Fault) (kept : IsLawfulCore v)

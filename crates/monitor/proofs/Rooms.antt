@@ -29,7 +29,7 @@ use Rattle.monitor.specs.Shown.{IsPass, shown}
 use Rattle.monitor.specs.Stepping.{IsStep}
 use Rattle.monitor.specs.inner.Sections.{Taking}
 use Rattle.monitor.proofs.Freeing.{both_free, moves_own, section_frees, stays}
-use Rattle.monitor.proofs.Loads.{counts_folded}
+use Rattle.monitor.proofs.Loads.{counts_folded, holds_at}
 use Rattle.monitor.proofs.Sections.{Left, Section, added_step, answered_shown, called_by, calls_more, follows_step, left, owed_shown, own_entries, passed, section_step}
 use Rattle.monitor.proofs.Beside.{beside_of}
 use Rattle.word_lock.specs.Point.{fold_of}
@@ -71,6 +71,10 @@ pub refused_frees : (v w : CoreView) (i : ℕ) (step : Step) (f : Fault) → IsL
 refused_frees v w i step f kept kept' s =
     ap (λ (p : Point). free (start_at p) p.entries) (refused_left v w i step f kept kept' s)
 
+refused_holds : (v w : CoreView) (i : ℕ) (step : Step) (f : Fault) → IsLawfulCore v → IsLawfulCore w →
+    IsCoreStep v i step (Err f) w → holds_in w i ≡ holds_in v i
+refused_holds v w i step f kept kept' s = ap (λ p. holds_at p i) (refused_left v w i step f kept kept' s)
+
 -- a fold leaves what each seat holds
 pub trimmed_holds : (v w : CoreView) (n i : ℕ) → IsLawfulCore v → IsTrimmed v (Ok n) w → holds_in w i ≡ holds_in v i
 trimmed_holds v w n i kept t =
@@ -78,13 +82,19 @@ trimmed_holds v w n i kept t =
     let same = counts_folded v.base v.entries (fold_alike v.base v.entries can.good can.legal can.seated) in
     ap (λ (z : CoreView). holds_in z i) t.2 ∙ (λ d m. same.held i m d)
 
-module _ {A : Type 0} (counted : Bool) (amount : A → ℕ) (v w : CoreView) (i : ℕ) (step : Step) (kept : IsLawfulCore v)
-    (kept' : IsLawfulCore w) (x y : A) where
+-- a step that found no room, and the fold after it, leave what each seat holds
+pub no_room_holds : (v full w : CoreView) (n i : ℕ) (step : Step) (f : Fault) → IsLawfulCore v → IsLawfulCore full →
+    IsCoreStep v i step (Err f) full → IsTrimmed full (Ok n) w → holds_in w i ≡ holds_in v i
+no_room_holds v full w n i step f kept kept' s t =
+    trimmed_holds full w n i kept' t ∙ refused_holds v full i step f kept kept' s
+
+module _ {A : Type 0} (fit : A → Type 0) (counted : Bool) (amount : A → ℕ) (v w : CoreView) (i : ℕ) (step : Step)
+    (kept : IsLawfulCore v) (kept' : IsLawfulCore w) (x y : A) where
   -- what a step that found no room leaves with who steps
   pub refused_stays : (f : Fault) → IsCoreStep v i step (Err f) w →
-      Moves counted amount x (counts_of v).free y (counts_of w).free → counted ≡ true → y ≡ x
+      Moves fit counted amount x (counts_of v).free y (counts_of w).free → counted ≡ true → y ≡ x
   refused_stays f s m =
-      stays counted amount x y (counts_of v).free (counts_of w).free (refused_frees v w i step f kept kept' s) m
+      stays fit counted amount x y (counts_of v).free (counts_of w).free (refused_frees v w i step f kept kept' s) m
 
 -- a step that makes room, from one core to another
 module _ (moved : CoreView → Type 0) (v w : CoreView) (seat : ℕ) (step : Step) (r : Result Answer Fault)
@@ -314,18 +324,18 @@ module _ (t o n : Ticket) (v w : CoreView) (seat share : ℕ) (a : Around t o n 
 
 -- what changed hands
 module _ (t o n : Ticket) (v w : CoreView) (seat share : ℕ) (a : Around t o n v w seat share) {A : Type 0}
-    (counted : Bool) (amount : A → ℕ) (x y : A) (step : Step) (r : Result Answer Fault) where
+    (fit : A → Type 0) (counted : Bool) (amount : A → ℕ) (x y : A) (step : Step) (r : Result Answer Fault) where
   abbrev Moved : CoreView → Type 0
-  Moved z = Moves counted amount x (counts_of z).free y (counts_of w).free
+  Moved z = Moves fit counted amount x (counts_of z).free y (counts_of w).free
 
   abbrev Owns : Type 0
   Owns =
-      Moves counted amount x (free (opening t.lock.header) (first_entries t.logs)) y
+      Moves fit counted amount x (free (opening t.lock.header) (first_entries t.logs)) y
       (free (opening n.lock.header) (first_entries n.logs))
 
   pub moves_step : (z : Result Answer Fault) → IsCoreStep v seat step z w → Moved v → Owns
   moves_step z c m =
-      moves_own counted amount x y (free (opening t.lock.header) (first_entries t.logs))
+      moves_own fit counted amount x y (free (opening t.lock.header) (first_entries t.logs))
       (free (opening n.lock.header) (first_entries n.logs)) (counts_of v).free (counts_of w).free
       (section_frees t o n (point_of v) (point_of w) seat share step z (around_step t o n v w seat share step z a c)) m
 
@@ -351,7 +361,7 @@ module _ (t o n : Ticket) (v w : CoreView) (seat share : ℕ) (a : Around t o n 
       by : IsCoreStepIn Moved v seat step r w → Owns
       by (inl z) = moves_step r z.0 z.1
       by (inr (inl f)) =
-          moves_own counted amount x y (free (opening t.lock.header) (first_entries t.logs))
+          moves_own fit counted amount x y (free (opening t.lock.header) (first_entries t.logs))
           (free (opening n.lock.header) (first_entries n.logs)) (counts_of f.fold).free (counts_of w).free
           (frees_fold s f) f.since
       by (inr (inr z)) = moves_step (Err HistoryFull) z.0 z.1

@@ -12,7 +12,7 @@ use Rattle.word_lock.specs.Ticket.{Ticket, after_lock, first_entries, first_seat
 use Rattle.word_lock.proofs.PointLaws.{before_header}
 use Rattle.word_lock.proofs.Sections.{follows_taken}
 use Rattle.monitor.specs.Lawful.{point_of, IsLawfulCore}
-use Rattle.monitor.specs.Load.{holds_of}
+use Rattle.monitor.specs.Load.{LetsGo, holds_in, holds_of}
 use Rattle.monitor.specs.Shown.{shown, IsPass, IsSound}
 use Rattle.monitor.specs.inner.Sections.{Taking}
 use Rattle.monitor.proofs.Loads.{holds_at, own_holds, true_holds}
@@ -42,6 +42,11 @@ module _ (t o : Ticket) (v : CoreView) (seat share : ℕ) (k : Taking t o v seat
       (own_holds (point_of v) t.lock.header seat (first_entries t.logs)
       (own_entries t (point_of v) seat k.was.one k.was.seat_is k.entries) header_taken)
       carried
+
+  -- what the caller carries is as fit as its pass's holds ask
+  pub fit_taken : {A : Type 0} (fit : A → Type 0) (x : A) (step : Step) →
+      (LetsGo step (holds_of (shown t seat share)) → fit x) → LetsGo step (holds_in v seat) → fit x
+  fit_taken fit x step is = carries_taken (λ y f. LetsGo step f → fit y) x is
 
 -- what the caller carries belongs to the holds that its pass then shows
 pub carries_left : {A : Type 0} (carries : A → (Mode → ℕ) → Type 0) (y : A) (n : Ticket) (p : Point)

@@ -23,8 +23,9 @@ use Rattle.word_lock.specs.Point.{Before}
 use Rattle.word_lock.specs.Ticket.{LockId}
 use Rattle.monitor.specs.Acquire.{LimitsFor, WasInterrupted, WasNotInterrupted, first_step}
 use Rattle.monitor.specs.Interrupts.{tells_interrupt}
-use Rattle.monitor.specs.Load.{free_of, given_by}
+use Rattle.monitor.specs.Load.{LetsGo, free_of, given_by}
 use Rattle.monitor.specs.Machine.{
+  AsksAwait,
   IsBegun,
   IsCall,
   IsGoneOn,
@@ -66,6 +67,7 @@ use Rattle.monitor.specs.declared.waiting.Stage.TheVariants.{Expires, Parks, Loo
 use Rattle.monitor.proofs.Acquiring.{ends_at_once, ends_in_line, refused, refused_at_once, stands}
 use Rattle.monitor.proofs.Freeing.{waits_gives_none}
 use Rattle.monitor.proofs.InLine.{named_place, no_sleep}
+use Rattle.monitor.proofs.Letting.{waits_lets_none}
 use Rattle.monitor.proofs.OnCondition as await
 use Rattle.monitor.proofs.Turns.{never_fault, still_after, turn, waited}
 
@@ -101,6 +103,22 @@ step_gives_none (Acquire m n) how false = first_gives_none how m n
 step_gives_none (AwaitOn c) how true = refl
 step_gives_none (AwaitOn c) how false = refl
 
+-- and lets the last hold go only where the call is an await
+first_lets_none : (how : How) (m : Mode) (n : ℕ) (h : Mode → ℕ) → LetsGo (first_step how m n) h → ⊥
+first_lets_none Plain m n h go = go
+first_lets_none Interruptible m n h go = go
+first_lets_none (Timed ms) m n h go = by (eqb ms 0) go
+  where
+    by : (b : Bool) → LetsGo (cond b (step.TryFair m n) (step.Acquire m n)) h → ⊥
+    by true go = go
+    by false go = go
+
+pub step_lets : (q : Request) (how : How) (was : Bool) (h : Mode → ℕ) → LetsGo (step_by q how was) h → AsksAwait q
+step_lets (Acquire m n) how true h go = go
+step_lets (Acquire m n) how false h go = first_lets_none how m n h go
+step_lets (AwaitOn c) how true h go = tt
+step_lets (AwaitOn c) how false h go = tt
+
 pub begins_awake : (old new : Shown) (q : Request) (how : How) (was : Bool) (r : Result Answer Fault) →
     IsStep old (step_by q how was) r new → r ≢ Ok Sleep
 begins_awake old new q how was r s is =
@@ -129,6 +147,9 @@ step_waits GivenUp l woke = refl
 
 pub later_gives_none : (w : Waiting) (woke : Woke) → given_by (step_of_waiting w woke) ≡ 0
 later_gives_none w woke = waits_gives_none (step_of_waiting w woke) (step_waits w.stage w.limits woke)
+
+pub later_lets_none : (w : Waiting) (woke : Woke) (h : Mode → ℕ) → LetsGo (step_of_waiting w woke) h → ⊥
+later_lets_none w woke h go = waits_lets_none (step_of_waiting w woke) h (step_waits w.stage w.limits woke) go
 
 pub goes_on : (old new : Shown) (w : Waiting) (woke : Woke) (r : Result Answer Fault) → IsSound old →
     of_waits.Waits old.seen old.seat → IsStep old (step_of_waiting w woke) r new → IsOk r

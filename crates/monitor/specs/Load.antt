@@ -1,10 +1,10 @@
 -- What a load knows of a turn of the lock.
-use Rattle.std.specs.Prelude.{◌≡◌, ◌≢◌, ◌<◌, ◌⊎◌, ℕ, Bool, true, false, List, [], ℤ, pos, ◌+ℤ◌, ◌-ℤ◌, ◌≤ℤ◌}
+use Rattle.std.specs.Prelude.{◌≡◌, ◌≢◌, ◌<◌, ◌⊎◌, ℕ, Bool, true, false, List, [], ℤ, pos, ◌+ℤ◌, ◌-ℤ◌, ◌≤ℤ◌, ◌≤◌}
 use Rattle.history.specs.declared.entry.Mode.{Mode}
 use Rattle.history.specs.declared.entry.Mode.TheVariants.{X, S}
 use Rattle.history.specs.declared.header.Header.{Header}
 use Rattle.history.specs.declared.step.Step.{Step}
-use Rattle.history.specs.declared.step.Step.TheVariants.{Give}
+use Rattle.history.specs.declared.step.Step.TheVariants.{Await, Give}
 use Rattle.history.specs.Counts.{Counts, counts, free, held}
 use Rattle.history.specs.Object.{is_lock, is_semaphore}
 use Rattle.history.specs.Start.{opening}
@@ -54,6 +54,12 @@ IsFreeAfter step had left =
     ⊎ ((given_by step ≡ 0) × ((n : ℕ) × (left ≡ had -ℤ pos n)) × (pos 0 ≤ℤ left))
     ⊎ (left ≡ had +ℤ pos (given_by step))
 
+-- By this step a seat with these holds may let its last exclusive hold go. A release of a lock gives back one hold.
+abbrev pub LetsGo : Step → (Mode → ℕ) → Type 0
+LetsGo (Give X n) h = h X ≤ 1
+LetsGo (Await c) h = Unit {0}
+LetsGo _ h = ⊥
+
 -- one step of a seat
 pub record IsTurn (i : ℕ) (k l : Counts) : Type 0 where
   pub object : l.object ≡ k.object
@@ -63,6 +69,7 @@ pub record IsTurn (i : ℕ) (k l : Counts) : Type 0 where
   pub after : is_lock k.object ≡ true → IsOneOwner l
   pub step : Step
   pub free : is_semaphore k.object ≡ true → IsFreeAfter step k.free l.free
+  pub ends : is_lock k.object ≡ true → 0 < k.held i X → l.held i X ≡ 0 → LetsGo step (k.held i)
 
 -- the free permits, where there are any
 abbrev pub IsFree : ℤ → Counts → Type 0
@@ -73,7 +80,9 @@ abbrev pub Brings : Bool → ℕ → ℕ → Type 0
 Brings true has n = has ≡ n
 Brings false has n = Unit {0}
 
--- Of a counted load one has as many items more as permits fewer are free. Where as many are free, it is as it was.
-abbrev pub Moves : {A : Type 0} → Bool → (A → ℕ) → A → ℤ → A → ℤ → Type 0
-Moves true amount x f y g = (pos (amount y) +ℤ g ≡ pos (amount x) +ℤ f) × (g ≡ f → y ≡ x)
-Moves false amount x f y g = Unit {0}
+-- What one carries stays fit to lie under the lock. Of a counted load one has as many items more as permits fewer are
+-- free. Where as many are free, it is as it was.
+abbrev pub Moves : {A : Type 0} → (A → Type 0) → Bool → (A → ℕ) → A → ℤ → A → ℤ → Type 0
+Moves fit true amount x f y g =
+    (pos (amount y) +ℤ g ≡ pos (amount x) +ℤ f) × (g ≡ f → y ≡ x) × (fit x → fit y)
+Moves fit false amount x f y g = fit x → fit y

@@ -60,6 +60,11 @@ step_by (Acquire m n) how false = first_step how m n
 step_by (AwaitOn c) how true = step.EntryInterrupt X 1
 step_by (AwaitOn c) how false = step.Await c
 
+-- it asks to let all holds go, and to have them again
+abbrev pub AsksAwait : Request → Type 0
+AsksAwait (Acquire m n) = ⊥
+AsksAwait (AwaitOn c) = Unit {0}
+
 -- the entry of a first step by which it begins to wait
 abbrev pub begins_wait : Request → Word → Bool
 begins_wait (Acquire m n) word.Queued = true

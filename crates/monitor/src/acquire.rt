@@ -2,6 +2,7 @@
 ghost use Rattle.std.specs.Prelude.{◌≡◌, true};
 ghost use Rattle.monitor.specs.Calling.{CanCall, Called};
 ghost use Rattle.monitor.specs.Load.{Brings, Moves, free_of, holds_of};
+ghost use Rattle.monitor.specs.Machine.{AsksAwait};
 ghost use Rattle.monitor.specs.Settled.{IsSettled};
 ghost use Rattle.monitor.specs.Room.{IsCallIn};
 ghost use Rattle.monitor.specs.declared.machine.Request.TheVariants.{Acquire};
@@ -95,7 +96,7 @@ impl<H: Hooks + Drop, L: Load> Monitor<H, L> {
         ensures called { Called pass.old pass.new }
         ensures acquired { IsCallIn when_full (P.did parking.now) pass.old (Acquire mode n) how result pass.new }
         ensures carries { L.carries load.new (holds_of pass.new) }
-        ensures moves { Moves L.is_counted L.amount load.old (free_of pass.old) load.new (free_of pass.new) }
+        ensures moves { Moves L.fit L.is_counted L.amount load.old (free_of pass.old) load.new (free_of pass.new) }
     {
         self.make(
             rt,
@@ -123,10 +124,11 @@ impl<H: Hooks + Drop, L: Load> Monitor<H, L> {
         requires can { CanCall self.now (P.seats parking.now) pass.old }
         requires carries { L.carries load.old (holds_of pass.old) }
         requires brings { Brings L.is_counted (L.amount load.old) 0 }
+        requires fit { AsksAwait request → L.fit load.old }
         ensures called { Called pass.old pass.new }
         ensures made { IsCallIn when_full (P.did parking.now) pass.old request how result pass.new }
         ensures carries { L.carries load.new (holds_of pass.new) }
-        ensures moves { Moves L.is_counted L.amount load.old (free_of pass.old) load.new (free_of pass.new) }
+        ensures moves { Moves L.fit L.is_counted L.amount load.old (free_of pass.old) load.new (free_of pass.new) }
     {
         if let Some(interrupts) = Interrupts::at_entry(parking, pass, how) {
             return self.refuse(rt, parking, pass, load, request, how, when_full, interrupts);
@@ -166,11 +168,12 @@ impl<H: Hooks + Drop, L: Load> Monitor<H, L> {
         requires taken { (interrupts.seat ≡ pass.old.seat) × (interrupts.taken ≡ true) }
         requires carries { L.carries load.old (holds_of pass.old) }
         requires brings { Brings L.is_counted (L.amount load.old) 0 }
+        requires fit { AsksAwait request → L.fit load.old }
         ensures called { Called pass.old pass.new }
         ensures made { IsCallIn when_full (P.did parking.now) pass.old request how result pass.new }
         ensures settled { IsSettled result }
         ensures carries { L.carries load.new (holds_of pass.new) }
-        ensures moves { Moves L.is_counted L.amount load.old (free_of pass.old) load.new (free_of pass.new) }
+        ensures moves { Moves L.fit L.is_counted L.amount load.old (free_of pass.old) load.new (free_of pass.new) }
     {
         pass.is_true();
         let refusal = self.begin(rt, pass, load, request, how, 0, true, when_full);

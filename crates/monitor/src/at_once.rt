@@ -6,7 +6,7 @@
 //! goes the way that may wait.
 ghost use Rattle.std.specs.Prelude.{◌≡◌, ◌+◌, ◌<◌, ◌^◌};
 ghost use Rattle.monitor.specs.Calling.{Called};
-ghost use Rattle.monitor.specs.Load.{Brings, Moves, free_of, given_by, holds_of};
+ghost use Rattle.monitor.specs.Load.{Brings, LetsGo, Moves, free_of, given_by, holds_of};
 ghost use Rattle.monitor.specs.Room.{IsStepIn};
 ghost use Rattle.monitor.specs.inner.AtOnce.{IsBusy, IsStepAtOnce, IsStepFirst, Wakes};
 ghost use Rattle.word_lock.specs.Woken.{WasWoken};
@@ -55,11 +55,12 @@ impl<H: Hooks + Drop, L: Load> Monitor<H, L> {
         requires is_of { pass.old.lock ≡ self.now }
         requires carries { L.carries load.old (holds_of pass.old) }
         requires brings { Brings L.is_counted (L.amount load.old) (given_by step) }
+        requires fit { LetsGo step (holds_of pass.old) → L.fit load.old }
         ensures called { Called pass.old pass.new }
         ensures stepped { IsStepFirst when_full pass.old step result pass.new }
         ensures woken { WasWoken self.now }
         ensures carries { L.carries load.new (holds_of pass.new) }
-        ensures moves { Moves L.is_counted L.amount load.old (free_of pass.old) load.new (free_of pass.new) }
+        ensures moves { Moves L.fit L.is_counted L.amount load.old (free_of pass.old) load.new (free_of pass.new) }
     {
         match self.step_at_once(pass, load, step, when_full) {
             AtOnce::Done(named) => First::Done(named),
@@ -82,11 +83,12 @@ impl<H: Hooks + Drop, L: Load> Monitor<H, L> {
         requires is_of { pass.old.lock ≡ self.now }
         requires carries { L.carries load.old (holds_of pass.old) }
         requires brings { Brings L.is_counted (L.amount load.old) (given_by step) }
+        requires fit { LetsGo step (holds_of pass.old) → L.fit load.old }
         ensures called { Called pass.old pass.new }
         ensures stepped { IsStepIn when_full pass.old step result pass.new }
         ensures woken { WasWoken self.now }
         ensures carries { L.carries load.new (holds_of pass.new) }
-        ensures moves { Moves L.is_counted L.amount load.old (free_of pass.old) load.new (free_of pass.new) }
+        ensures moves { Moves L.fit L.is_counted L.amount load.old (free_of pass.old) load.new (free_of pass.new) }
     {
         self.step_with(rt, pass, load, step, when_full)
     }
@@ -104,12 +106,13 @@ impl<H: Hooks + Drop, L: Load> Monitor<H, L> {
         requires is_of { pass.old.lock ≡ self.now }
         requires carries { L.carries load.old (holds_of pass.old) }
         requires brings { Brings L.is_counted (L.amount load.old) (given_by step) }
+        requires fit { LetsGo step (holds_of pass.old) → L.fit load.old }
         ensures called { Called pass.old pass.new }
         ensures stepped { IsStepAtOnce when_full pass.old step result pass.new }
         ensures busy { IsBusy result → load.new ≡ load.old }
         ensures woken { Wakes result (WasWoken self.now) }
         ensures carries { L.carries load.new (holds_of pass.new) }
-        ensures moves { Moves L.is_counted L.amount load.old (free_of pass.old) load.new (free_of pass.new) }
+        ensures moves { Moves L.fit L.is_counted L.amount load.old (free_of pass.old) load.new (free_of pass.new) }
     {
         let Some(mut held) = self.lock.lock_now(&mut pass.token) else {
             return AtOnce::Busy;

@@ -17,18 +17,24 @@ pub struct Holds {
 /// A pass that holds no permits may release some. So the pass's own entries say how many items it
 /// carries: whoever releases permits brings as many items, and whoever acquires permits has as many more
 /// items.
+///
+/// A step that lets the last exclusive hold go puts under the lock what its seat carries. So that part must be fit
+/// to lie there. By other steps it stays as fit as it was.
 pub trait Load: Drop {
     ghost use Rattle.std.specs.Prelude.{Bool, ℕ};
     ghost use Rattle.history.specs.declared.entry.Mode.{Mode};
     ghost use Rattle.history.specs.Counts.{Counts};
     ghost use Rattle.frame.specs.Hooks.{AreAlike};
-    ghost use Rattle.monitor.specs.Load.{AreOf, Brings, IsFree, IsTurn, Moves, given_by};
+    ghost use Rattle.monitor.specs.Load.{AreOf, Brings, IsFree, IsTurn, LetsGo, Moves, given_by};
 
     // What is true of the part under the lock while that is free, by the counts of the object.
     ghost rests: { Self → Counts → Type 0 };
 
     // What is true of the part that a seat with these holds carries.
     ghost carries: { Self → (Mode → ℕ) → Type 0 };
+
+    // What is true of the part that a seat carries if it is fit to lie under the lock.
+    ghost fit: { Self → Type 0 };
 
     // Whether it has an item for each permit of a semaphore.
     ghost is_counted: { Bool };
@@ -42,8 +48,9 @@ pub trait Load: Drop {
         ensures { (i : ℕ) (k l : Counts) → (turn : IsTurn i k l) → AreOf before (k.held i)
             → AreOf after (l.held i) → IsFree free l → rests self.old k → carries there.old (k.held i)
             → Brings is_counted (amount there.old) (given_by turn.step)
+            → (LetsGo turn.step (k.held i) → fit there.old)
             → rests self.new l × carries there.new (l.held i)
-            × Moves is_counted amount there.old k.free there.new l.free };
+            × Moves fit is_counted amount there.old k.free there.new l.free };
 
     // Counts that are alike say the same of it.
     ghost alike: { (x : Self) (k l : Counts) → AreAlike k l → rests x k → rests x l };
@@ -59,6 +66,8 @@ impl Load for Empty {
     ghost rests = { λ _ _. Unit {0} };
 
     ghost carries = { λ _ _. Unit {0} };
+
+    ghost fit = { λ _. Unit {0} };
 
     ghost is_counted = { false };
 

@@ -13,6 +13,7 @@ ghost use Rattle.history.specs.declared.step.Answer.TheVariants.{Sleep};
 ghost use Rattle.monitor.specs.Calling.{Called};
 ghost use Rattle.monitor.specs.Load.{Brings, Moves, free_of, holds_of};
 ghost use Rattle.monitor.specs.Machine.{
+  AsksAwait,
   IsBegun,
   IsGoneOn,
   at_stage,
@@ -309,11 +310,12 @@ impl<H: Hooks + Drop, L: Load> Monitor<H, L> {
         requires is_of { pass.old.lock ≡ self.now }
         requires carries { L.carries load.old (holds_of pass.old) }
         requires brings { Brings L.is_counted (L.amount load.old) 0 }
+        requires fit { AsksAwait request → L.fit load.old }
         ensures called { Called pass.old pass.new }
         ensures begun { IsBegunIn when_full pass.old request how moment interrupted result pass.new }
         ensures woken { WasWoken self.now }
         ensures carries { L.carries load.new (holds_of pass.new) }
-        ensures moves { Moves L.is_counted L.amount load.old (free_of pass.old) load.new (free_of pass.new) }
+        ensures moves { Moves L.fit L.is_counted L.amount load.old (free_of pass.old) load.new (free_of pass.new) }
     {
         let step = request.step(how, interrupted);
         let answer = self.step_with(rt, pass, load, step, when_full);
@@ -334,11 +336,12 @@ impl<H: Hooks + Drop, L: Load> Monitor<H, L> {
         requires is_of { pass.old.lock ≡ self.now }
         requires carries { L.carries load.old (holds_of pass.old) }
         requires brings { Brings L.is_counted (L.amount load.old) 0 }
+        requires fit { AsksAwait request → L.fit load.old }
         ensures called { Called pass.old pass.new }
         ensures busy { IfNone result (pass.new ≡ pass.old) }
         ensures begun { IfSome result (λ turn. IsBegun pass.old request how moment interrupted turn pass.new) }
         ensures carries { L.carries load.new (holds_of pass.new) }
-        ensures moves { Moves L.is_counted L.amount load.old (free_of pass.old) load.new (free_of pass.new) }
+        ensures moves { Moves L.fit L.is_counted L.amount load.old (free_of pass.old) load.new (free_of pass.new) }
     {
         let step = request.step(how, interrupted);
         let Some(answer) = answer_of(self.step_quietly(pass, load, step)) else {
@@ -364,7 +367,7 @@ impl<H: Hooks + Drop, L: Load> Monitor<H, L> {
         ensures gone_on { IsGoneOn pass.old waiting woke result pass.new }
         ensures woken { WasWoken self.now }
         ensures carries { L.carries load.new (holds_of pass.new) }
-        ensures moves { Moves L.is_counted L.amount load.old (free_of pass.old) load.new (free_of pass.new) }
+        ensures moves { Moves L.fit L.is_counted L.amount load.old (free_of pass.old) load.new (free_of pass.new) }
     {
         pass.is_true();
         let step = waiting.step(woke);
@@ -388,7 +391,7 @@ impl<H: Hooks + Drop, L: Load> Monitor<H, L> {
         ensures busy { IfNone result (pass.new ≡ pass.old) }
         ensures gone_on { IfSome result (λ turn. IsGoneOn pass.old waiting woke turn pass.new) }
         ensures carries { L.carries load.new (holds_of pass.new) }
-        ensures moves { Moves L.is_counted L.amount load.old (free_of pass.old) load.new (free_of pass.new) }
+        ensures moves { Moves L.fit L.is_counted L.amount load.old (free_of pass.old) load.new (free_of pass.new) }
     {
         pass.is_true();
         let step = waiting.step(woke);

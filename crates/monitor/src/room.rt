@@ -7,7 +7,7 @@
 //! without entries has no room.
 ghost use Rattle.std.specs.Prelude.{◌≡◌, true};
 ghost use Rattle.monitor.specs.Calling.{Called};
-ghost use Rattle.monitor.specs.Load.{Brings, Moves, free_of, given_by, holds_of};
+ghost use Rattle.monitor.specs.Load.{Brings, LetsGo, Moves, free_of, given_by, holds_of};
 ghost use Rattle.monitor.specs.inner.Load.{is_signal};
 ghost use Rattle.monitor.specs.Room.{IsStepIn};
 ghost use Rattle.monitor.specs.inner.CoreSteps.{is_full};
@@ -48,11 +48,12 @@ impl<H: Hooks + Drop, L: Load> Monitor<H, L> {
         requires is_of { pass.old.lock ≡ self.now }
         requires carries { L.carries load.old (holds_of pass.old) }
         requires brings { Brings L.is_counted (L.amount load.old) (given_by step) }
+        requires fit { LetsGo step (holds_of pass.old) → L.fit load.old }
         ensures called { Called pass.old pass.new }
         ensures stepped { IsStepIn when_full pass.old step result pass.new }
         ensures woken { WasWoken self.now }
         ensures carries { L.carries load.new (holds_of pass.new) }
-        ensures moves { Moves L.is_counted L.amount load.old (free_of pass.old) load.new (free_of pass.new) }
+        ensures moves { Moves L.fit L.is_counted L.amount load.old (free_of pass.old) load.new (free_of pass.new) }
     {
         let held = self.lock.lock(rt, &mut pass.token);
         let answer = step_taken(

@@ -5,7 +5,7 @@
 //! is put back is the same for all of them, and stands here.
 ghost use Rattle.std.specs.Prelude.{◌≡◌, false, true};
 ghost use Rattle.frame.specs.Core.{counts_of};
-ghost use Rattle.monitor.specs.Load.{Brings, Moves, free_of, given_by, holds_of};
+ghost use Rattle.monitor.specs.Load.{Brings, LetsGo, Moves, free_of, given_by, holds_in, holds_of};
 ghost use Rattle.monitor.specs.Shown.{shown};
 ghost use Rattle.monitor.specs.inner.Load.{is_signal};
 ghost use Rattle.monitor.specs.inner.Sections.{Taking, Went};
@@ -39,11 +39,12 @@ pub(crate) fn step_taken<H: Hooks + Drop, L: Load>(
         × L.carries load.old (holds_of (shown t seat share.old)) }
     requires rests { L.rests held.value.laden.value.load (counts_of held.value.laden.value.core) }
     requires brings { Brings L.is_counted (L.amount load.old) (given_by step) }
+    requires fit { LetsGo step (holds_in held.value.laden.value.core seat) → L.fit load.old }
     ensures went { (t : Ticket) → Taking t (held_ticket held) held.value.laden.value.core seat share.old
         → Went when_full t token.new seat share.old share.new step result }
     ensures carries { L.carries load.new (holds_of (shown token.new seat share.new)) }
     ensures moves { (t : Ticket) → Taking t (held_ticket held) held.value.laden.value.core seat share.old
-        → Moves L.is_counted L.amount load.old (free_of (shown t seat share.old))
+        → Moves L.fit L.is_counted L.amount load.old (free_of (shown t seat share.old))
         load.new (free_of (shown token.new seat share.new)) }
 {
     let mut held = held;

@@ -3,7 +3,7 @@ ghost use Rattle.std.specs.Prelude.{◌≡◌, ◌≢◌, ◌<◌, false, true, 
 ghost use Rattle.history.specs.declared.step.Answer.TheVariants.{Sleep};
 ghost use Rattle.history.specs.Phase.{waits};
 ghost use Rattle.monitor.specs.Calling.{CanCall, Called};
-ghost use Rattle.monitor.specs.Load.{Brings, Moves, free_of, given_by, holds_of};
+ghost use Rattle.monitor.specs.Load.{Brings, LetsGo, Moves, free_of, given_by, holds_of};
 ghost use Rattle.monitor.specs.inner.Load.{is_signal};
 ghost use Rattle.monitor.specs.Room.{IsEnteredIn, IsStepIn};
 ghost use Rattle.monitor.specs.Stepping.{IsStep, IsStepNow, IsEntered, IsUnparked};
@@ -61,11 +61,12 @@ impl<H: Hooks + Drop, L: Load> Monitor<H, L> {
         requires is_of { pass.old.lock ≡ self.now }
         requires carries { L.carries load.old (holds_of pass.old) }
         requires brings { Brings L.is_counted (L.amount load.old) (given_by step) }
+        requires fit { LetsGo step (holds_of pass.old) → L.fit load.old }
         ensures called { Called pass.old pass.new }
         ensures stepped { IsStepNow pass.old step result pass.new }
         ensures woken { WasWoken self.now }
         ensures carries { L.carries load.new (holds_of pass.new) }
-        ensures moves { Moves L.is_counted L.amount load.old (free_of pass.old) load.new (free_of pass.new) }
+        ensures moves { Moves L.fit L.is_counted L.amount load.old (free_of pass.old) load.new (free_of pass.new) }
     {
         let answer = self.step_quietly(pass, load, step);
         self.lock.wake();
@@ -78,10 +79,11 @@ impl<H: Hooks + Drop, L: Load> Monitor<H, L> {
         requires is_of { pass.old.lock ≡ self.now }
         requires carries { L.carries load.old (holds_of pass.old) }
         requires brings { Brings L.is_counted (L.amount load.old) (given_by step) }
+        requires fit { LetsGo step (holds_of pass.old) → L.fit load.old }
         ensures called { Called pass.old pass.new }
         ensures stepped { IsStepNow pass.old step result pass.new }
         ensures carries { L.carries load.new (holds_of pass.new) }
-        ensures moves { Moves L.is_counted L.amount load.old (free_of pass.old) load.new (free_of pass.new) }
+        ensures moves { Moves L.fit L.is_counted L.amount load.old (free_of pass.old) load.new (free_of pass.new) }
     {
         let Some(held) = self.lock.lock_now(&mut pass.token) else {
             return Ok(Now::Busy);
@@ -115,11 +117,12 @@ impl<H: Hooks + Drop, L: Load> Monitor<H, L> {
         requires idle { waits step ≡ false }
         requires carries { L.carries load.old (holds_of pass.old) }
         requires brings { Brings L.is_counted (L.amount load.old) (given_by step) }
+        requires fit { LetsGo step (holds_of pass.old) → L.fit load.old }
         ensures called { Called pass.old pass.new }
         ensures entered { IsEnteredIn when_full (P.did parking.now) pass.old step result pass.new }
         ensures woken { WasWoken self.now }
         ensures carries { L.carries load.new (holds_of pass.new) }
-        ensures moves { Moves L.is_counted L.amount load.old (free_of pass.old) load.new (free_of pass.new) }
+        ensures moves { Moves L.fit L.is_counted L.amount load.old (free_of pass.old) load.new (free_of pass.new) }
     {
         match self.step_first(rt, pass, load, step, when_full) {
             First::Done(named) => {

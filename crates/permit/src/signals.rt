@@ -201,3 +201,6 @@ fn without(word: u64, signal: Signal) -> u64
 {
     word - signal.bit()
 }
+
+#[cfg(test)]
+mod tests;

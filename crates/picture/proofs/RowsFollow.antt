@@ -8,6 +8,7 @@ use Rattle.history.specs.declared.entry.Entry.{Entry}
 use Rattle.history.specs.Sleepers.{has}
 use Rattle.history.proofs.Folding.{get_or-each, length-each}
 use Rattle.drawing.specs.Levels.{one_if}
+use Rattle.naming.specs.Names.{Given}
 use Rattle.picture.specs.declared.layout.Layout.{Layout}
 use Rattle.picture.specs.Grid.{row_if_any, rows}
 use Rattle.picture.specs.inner.{AreRanks}
@@ -80,13 +81,13 @@ few_ranks p entries few k d l =
     omega (arith, few, l, n, is, rank_at_most p entries k)
 
 -- the rows of one more seat
-pub one_row_more : (l : Layout) (table : List ℕ) (i row after : ℕ) (start was now : List ℕ) →
-    was ≡ start ++ rows l table i → row ≡ slice_index table i → after ≡ slice_index table (i + 1) →
-    now ≡ was ++ row_if_any l row after i → now ≡ start ++ rows l table (i + 1)
-one_row_more l table i row after start was now before own other new =
-    let last = row_if_any l (slice_index table i) (slice_index table (i + 1)) i in
-    new ∙ ap (λ r. was ++ row_if_any l r after i) own
-    ∙ ap (λ r. was ++ row_if_any l (slice_index table i) r i) other
+pub one_row_more : (names : Given) (l : Layout) (table : List ℕ) (i row after : ℕ) (start was now : List ℕ) →
+    was ≡ start ++ rows names l table i → row ≡ slice_index table i → after ≡ slice_index table (i + 1) →
+    now ≡ was ++ row_if_any names l row after i → now ≡ start ++ rows names l table (i + 1)
+one_row_more names l table i row after start was now before own other new =
+    let last = row_if_any names l (slice_index table i) (slice_index table (i + 1)) i in
+    new ∙ ap (λ r. was ++ row_if_any names l r after i) own
+    ∙ ap (λ r. was ++ row_if_any names l (slice_index table i) r i) other
     ∙ ap (λ x. x ++ last) before
-    ∙ append_assoc start (rows l table i) last
-    ∙ ap (λ n. start ++ rows l table n) (sym (next i))
+    ∙ append_assoc start (rows names l table i) last
+    ∙ ap (λ n. start ++ rows names l table n) (sym (next i))

@@ -11,6 +11,7 @@ use Rattle.history.specs.declared.entry.Word.TheVariants.{Queued, Granted, Left}
 use Rattle.history.specs.declared.header.Object.{Object}
 use Rattle.history.specs.declared.header.Object.TheVariants.{Lock, ReadWrite, Semaphore, Latch}
 use Rattle.history.specs.Entry.{same_mode}
+use Rattle.naming.specs.Names.{Given}
 use Rattle.picture.specs.declared.layout.Layout.{Layout}
 use Rattle.picture.specs.declared.layout.Rect.{Rect}
 use Rattle.picture.specs.Layout.{rect_of}
@@ -64,14 +65,15 @@ label r InLine holds = []
 label r (Asleep condition) holds = inside (codes "<text class='n' x='") r (codes "'>c") condition
 
 -- a bar with its tooltip, and the text in it
-abbrev pub bar_in : Rect → Object → ℕ → List Entry → Bar → List ℕ
-bar_in r o folded entries b =
-    open_rect (shape_of b.kind (waits_to_share o entries b)) r ++ bar_title folded entries b
+abbrev pub bar_in : Given → Rect → Object → ℕ → List Entry → Bar → List ℕ
+bar_in names r o folded entries b =
+    open_rect (shape_of b.kind (waits_to_share o entries b)) r ++ bar_title names folded entries b
     ++ label r b.kind b.holds
 
 -- a bar in the row of its seat
-abbrev pub bar_line : Layout → List ℕ → Object → ℕ → List Entry → Bar → List ℕ
-bar_line l ranks o folded entries b = bar_in (rect_of l (slice_index ranks b.seat) b) o folded entries b
+abbrev pub bar_line : Given → Layout → List ℕ → Object → ℕ → List Entry → Bar → List ℕ
+bar_line names l ranks o folded entries b =
+    bar_in names (rect_of l (slice_index ranks b.seat) b) o folded entries b
 
-abbrev pub bar_lines : Layout → List ℕ → Object → ℕ → List Entry → List Bar → List ℕ
-bar_lines l ranks o folded entries bars = flat_map (bar_line l ranks o folded entries) bars
+abbrev pub bar_lines : Given → Layout → List ℕ → Object → ℕ → List Entry → List Bar → List ℕ
+bar_lines names l ranks o folded entries bars = flat_map (bar_line names l ranks o folded entries) bars

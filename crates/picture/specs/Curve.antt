@@ -5,6 +5,7 @@ use Rattle.std.specs.List.{flat_map, fold}
 use Rattle.history.specs.declared.header.Object.{Object}
 use Rattle.history.specs.declared.header.Object.TheVariants.{Lock, ReadWrite, Semaphore, Latch}
 use Rattle.picture.specs.declared.curve.Range.{Range}
+use Rattle.picture.specs.declared.layout.Layout.{Layout}
 use Rattle.picture.specs.Pieces.{named, placed}
 
 -- the lowest and the highest with one more amount
@@ -30,25 +31,27 @@ up_of r amount =
 unfoldable pub run_of : Range → ℕ → ℤ → List ℕ
 run_of r step amount = named (codes "V") (164 - up_of r amount) ++ named (codes "h") step
 
-unfoldable pub runs_of : Range → ℕ → List ℤ → List ℕ
-runs_of r step amounts =
-    codes "<path class='c' d='M72 164" ++ flat_map (run_of r step) amounts ++ codes "'/>\n"
+unfoldable pub runs_of : Range → Layout → List ℤ → List ℕ
+runs_of r l amounts =
+    named (codes "<path class='c' d='M") l.left ++ codes " 164" ++ flat_map (run_of r l.step) amounts
+    ++ codes "'/>\n"
 
 unfoldable pub word_of : List ℕ → List ℕ
 word_of word = codes "<text x='8' y='138'>" ++ word ++ codes "</text>\n"
 
-unfoldable pub amount_at : ℕ → ℤ → List ℕ
-amount_at y amount =
-    placed (codes "<text class='a' x='") 68 y ++ codes "'>" ++ signed_decimal amount ++ codes "</text>\n"
+-- at the left of the line
+unfoldable pub amount_at : Layout → ℕ → ℤ → List ℕ
+amount_at l y amount =
+    placed (codes "<text class='a' x='") (l.left - 4) y ++ codes "'>" ++ signed_decimal amount ++ codes "</text>\n"
 
 -- its name, the highest and the lowest number, and the line
-unfoldable pub curve_lines : List ℕ → Range → ℕ → List ℤ → List ℕ
-curve_lines word r step amounts =
-    word_of word ++ amount_at 112 r.high ++ amount_at 164 r.low ++ runs_of r step amounts
+unfoldable pub curve_lines : List ℕ → Range → Layout → List ℤ → List ℕ
+curve_lines word r l amounts =
+    word_of word ++ amount_at l 112 r.high ++ amount_at l 164 r.low ++ runs_of r l amounts
 
 -- locks have none
-abbrev pub curve_of : Object → ℕ → List ℤ → List ℕ
-curve_of (Lock policy) step amounts = []
-curve_of (ReadWrite policy) step amounts = []
-curve_of (Semaphore policy permits) step amounts = curve_lines (codes "free") (range_of amounts) step amounts
-curve_of (Latch count) step amounts = curve_lines (codes "count") (range_of amounts) step amounts
+abbrev pub curve_of : Object → Layout → List ℤ → List ℕ
+curve_of (Lock policy) l amounts = []
+curve_of (ReadWrite policy) l amounts = []
+curve_of (Semaphore policy permits) l amounts = curve_lines (codes "free") (range_of amounts) l amounts
+curve_of (Latch count) l amounts = curve_lines (codes "count") (range_of amounts) l amounts

@@ -3,6 +3,7 @@ use Rattle.std.specs.Prelude.{ℕ, ◌+◌, ◌<◌, ◌^◌, ◌&&◌, ◌==◌
 use Rattle.std.specs.List.{All}
 use Rattle.history.specs.declared.entry.Entry.{Entry}
 use Rattle.history.specs.Header.{IsInRange}
+use Rattle.naming.specs.Names.{Given}
 use Rattle.picture.specs.declared.layout.Layout.{Layout}
 use Rattle.picture.specs.View.{View}
 use Rattle.picture.specs.Bars.{bar_lines}
@@ -14,32 +15,33 @@ use Rattle.picture.specs.Marks.{IsEarly, mark_lines}
 use Rattle.picture.specs.Rows.{ranks}
 
 -- what is drawn below bars and marks: rows, scale and curve
-abbrev pub ground : Layout → List ℕ → View → List ℕ
-ground l ranks p =
-    rows l ranks p.header.seats ++ ticks l p.folded l.shown ++ curve_of p.header.object l.step p.curve
+abbrev pub ground : Given → Layout → List ℕ → View → List ℕ
+ground names l ranks p =
+    rows names l ranks p.header.seats ++ ticks l p.folded l.shown ++ curve_of p.header.object l p.curve
 
 -- the illegal entry is marked if it follows those that are shown
-abbrev pub marked_at : Layout → List ℕ → ℕ → List Entry → ℕ → ℕ → Option ℕ → List ℕ
-marked_at l ranks folded entries from to None = []
-marked_at l ranks folded entries from to (Some number) =
-    if number == folded + to && nat_le from to then wrong_at l ranks folded entries to else []
+abbrev pub marked_at : Given → Layout → List ℕ → ℕ → List Entry → ℕ → ℕ → Option ℕ → List ℕ
+marked_at names l ranks folded entries from to None = []
+marked_at names l ranks folded entries from to (Some number) =
+    if number == folded + to && nat_le from to then wrong_at names l ranks folded entries to else []
 
-abbrev pub wrong_mark : Layout → List ℕ → View → List Entry → List ℕ
-wrong_mark l ranks p entries = marked_at l ranks p.folded entries p.from p.to p.wrong
+abbrev pub wrong_mark : Given → Layout → List ℕ → View → List Entry → List ℕ
+wrong_mark names l ranks p entries = marked_at names l ranks p.folded entries p.from p.to p.wrong
 
-abbrev pub text_in : Layout → List ℕ → View → List Entry → List ℕ
-text_in l ranks p entries =
-    head l p entries ++ ground l ranks p ++ bar_lines l ranks p.header.object p.folded entries p.bars
-    ++ mark_lines l ranks p.folded entries p.marks ++ wrong_mark l ranks p entries ++ codes "</svg>\n"
+abbrev pub text_in : Given → Layout → List ℕ → View → List Entry → List ℕ
+text_in names l ranks p entries =
+    head names l p entries ++ ground names l ranks p
+    ++ bar_lines names l ranks p.header.object p.folded entries p.bars
+    ++ mark_lines names l ranks p.folded entries p.marks ++ wrong_mark names l ranks p entries ++ codes "</svg>\n"
 
 -- the document in rows of these ranks
-abbrev pub text_in_rows : List ℕ → View → List Entry → List ℕ
-text_in_rows ranks p entries =
-    text_in (layout_of p.header p.from p.to (slice_index ranks p.header.seats)) ranks p entries
+abbrev pub text_in_rows : Given → List ℕ → View → List Entry → List ℕ
+text_in_rows names ranks p entries =
+    text_in names (layout_of names p.header p.from p.to (slice_index ranks p.header.seats)) ranks p entries
 
--- the document of a picture of some entries, oldest first
-unfoldable pub svg_text : View → List Entry → List ℕ
-svg_text p entries = text_in_rows (ranks p entries) p entries
+-- the document of a picture of some entries, oldest first, with these names
+unfoldable pub svg_text : Given → View → List Entry → List ℕ
+svg_text names p entries = text_in_rows names (ranks p entries) p entries
 
 -- a picture of entries that a history can have
 pub record IsPicture (p : View) : Type 0 where

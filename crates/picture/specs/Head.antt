@@ -3,6 +3,7 @@ use Rattle.std.specs.Prelude.{ℕ, ◌+◌, ◌-◌, ◌==◌, if◌then◌else�
 use Rattle.history.specs.declared.entry.Entry.{Entry}
 use Rattle.history.specs.declared.header.Header.{Header}
 use Rattle.history.specs.Spelling.{part_of}
+use Rattle.naming.specs.Names.{Given}
 use Rattle.picture.specs.declared.layout.Layout.{Layout}
 use Rattle.picture.specs.View.{View}
 use Rattle.picture.specs.declared.head.TheConstants.{LEGEND, STYLE}
@@ -39,25 +40,25 @@ shown_part l p =
     else chosen (p.folded + l.from) (p.folded + l.from + (l.shown - 1)) p.entries
 
 -- the number of an entry that isn't legal, who made it, and its words
-abbrev pub wrong_words : ℕ → Option Entry → List ℕ
-wrong_words number entry =
-    named (codes "<tspan class='f' dx='8'>not legal at entry ") number ++ maker_and_words entry
+abbrev pub wrong_words : Given → ℕ → Option Entry → List ℕ
+wrong_words names number entry =
+    named (codes "<tspan class='f' dx='8'>not legal at entry ") number ++ maker_and_words names entry
     ++ codes "</tspan>"
 
 -- which entry isn't legal; who made it is left out if it isn't among the given entries
-abbrev pub wrong_part : ℕ → List Entry → Option ℕ → List ℕ
-wrong_part folded entries None = []
-wrong_part folded entries (Some number) = wrong_words number (slice_get entries (number - folded))
+abbrev pub wrong_part : Given → ℕ → List Entry → Option ℕ → List ℕ
+wrong_part names folded entries None = []
+wrong_part names folded entries (Some number) = wrong_words names number (slice_get entries (number - folded))
 
 -- how many seats have no row
 abbrev pub left_out : ℕ → ℕ → List ℕ
 left_out seats rows = if seats - rows == 0 then [] else named (codes "; seats without a row: ") (seats - rows)
 
-abbrev pub shown_line : Layout → View → List Entry → List ℕ
-shown_line l p entries =
+abbrev pub shown_line : Given → Layout → View → List Entry → List ℕ
+shown_line names l p entries =
     codes "<text x='8' y='36'>" ++ shown_part l p ++ left_out p.header.seats l.rows
-    ++ wrong_part p.folded entries p.wrong ++ codes "</text>\n"
+    ++ wrong_part names p.folded entries p.wrong ++ codes "</text>\n"
 
-unfoldable pub head : Layout → View → List Entry → List ℕ
-head l p entries =
-    opening_tag (width_of l) (height_of l) ++ title p.header ++ shown_line l p entries ++ LEGEND.now
+unfoldable pub head : Given → Layout → View → List Entry → List ℕ
+head names l p entries =
+    opening_tag (width_of l) (height_of l) ++ title p.header ++ shown_line names l p entries ++ LEGEND.now

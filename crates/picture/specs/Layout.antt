@@ -6,12 +6,14 @@ use Rattle.history.specs.declared.header.Object.TheVariants.{Lock, ReadWrite, Se
 use Rattle.drawing.specs.declared.bar.Bar.{Bar}
 use Rattle.drawing.specs.declared.kind.Kind.{Kind}
 use Rattle.drawing.specs.declared.kind.Kind.TheVariants.{Exclusive, Shared, InLine, Asleep}
+use Rattle.naming.specs.Names.{Given}
+use Rattle.picture.specs.Names.{left_of}
 use Rattle.picture.specs.declared.layout.Layout.{Layout}
 use Rattle.picture.specs.declared.layout.Rect.{Rect}
 
--- the left edge of an entry; the names of seats are left of the first
+-- the left edge of an entry; the seats are told left of the first
 abbrev pub x_of : Layout → ℕ → ℕ
-x_of l number = 72 + (number - l.from) * l.step
+x_of l number = l.left + (number - l.from) * l.step
 
 -- the upper edge of a row, and the lower edge of all rows
 abbrev pub y_of : Layout → ℕ → ℕ
@@ -22,7 +24,7 @@ bottom_of l = l.top + l.rows * 40
 
 -- the right edge of all entries, with room for an illegal one after them
 abbrev pub right_of : Layout → ℕ
-right_of l = 72 + (l.shown + 1) * l.step
+right_of l = l.left + (l.shown + 1) * l.step
 
 abbrev pub width_of : Layout → ℕ
 width_of l = max (right_of l + 16) 760
@@ -59,11 +61,12 @@ top_of (Semaphore policy permits) = 180
 top_of (Latch count) = 180
 
 -- the layout of the entries from `from` on, before `to`, in so many rows
-abbrev pub layout_of : Header → ℕ → ℕ → ℕ → Layout
-layout_of k from to rows =
+abbrev pub layout_of : Given → Header → ℕ → ℕ → ℕ → Layout
+layout_of names k from to rows =
     record {
       from = min from to;
       shown = to - min from to;
+      left = left_of names;
       step = step_of (to - min from to);
       top = top_of k.object;
       rows = rows;

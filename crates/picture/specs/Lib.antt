@@ -2,6 +2,7 @@ pub mod View
 pub mod Rows
 pub mod Layout
 pub mod Pieces
+pub mod Names
 pub mod Titles
 pub mod Bars
 pub mod Marks

@@ -5,6 +5,7 @@ use Rattle.drawing.specs.declared.mark.Mark.{Mark}
 use Rattle.drawing.specs.declared.mark.Sign.{Sign}
 use Rattle.drawing.specs.declared.mark.Sign.TheVariants.{Missed, Refused, Signal, Drained, Counted, Granted, TimedOut, Interrupted, Barged}
 use Rattle.history.specs.declared.entry.Entry.{Entry}
+use Rattle.naming.specs.Names.{Given}
 use Rattle.picture.specs.declared.layout.Layout.{Layout}
 use Rattle.picture.specs.Layout.{x_of, y_of}
 use Rattle.picture.specs.Pieces.{named}
@@ -30,16 +31,16 @@ mark_place l number row =
     ++ named (codes " ") (y_of l row + 34)
 
 -- a mark with its tooltip
-abbrev pub mark_in : Layout → ℕ → ℕ → List Entry → Mark → List ℕ
-mark_in l row folded entries m =
-    mark_place l m.number row ++ shape_of m.sign ++ mark_title folded entries m
+abbrev pub mark_in : Given → Layout → ℕ → ℕ → List Entry → Mark → List ℕ
+mark_in names l row folded entries m =
+    mark_place l m.number row ++ shape_of m.sign ++ mark_title names folded entries m
 
 -- a mark in the row of its seat
-abbrev pub mark_line : Layout → List ℕ → ℕ → List Entry → Mark → List ℕ
-mark_line l ranks folded entries m = mark_in l (slice_index ranks m.seat) folded entries m
+abbrev pub mark_line : Given → Layout → List ℕ → ℕ → List Entry → Mark → List ℕ
+mark_line names l ranks folded entries m = mark_in names l (slice_index ranks m.seat) folded entries m
 
-abbrev pub mark_lines : Layout → List ℕ → ℕ → List Entry → List Mark → List ℕ
-mark_lines l ranks folded entries marks = flat_map (mark_line l ranks folded entries) marks
+abbrev pub mark_lines : Given → Layout → List ℕ → ℕ → List Entry → List Mark → List ℕ
+mark_lines names l ranks folded entries marks = flat_map (mark_line names l ranks folded entries) marks
 
 -- a mark of an entry that a history can have
 abbrev pub IsEarly : Mark → Type 0

@@ -17,11 +17,13 @@ use drawing::kind::Kind;
 use history::entry::{Entry, Mode, Word};
 use history::header::Object;
 use itoa::Buffer;
+use naming::Names;
 use std::alloc::AllocError;
 
 /// Appends all bars.
 pub(crate) fn put_bars(
     out: &mut Vec<u8>,
+    names: &Names,
     layout: Layout,
     ranks: &[u64],
     object: Object,
@@ -34,10 +36,10 @@ pub(crate) fn put_bars(
     requires folded { folded < 2 ^ 63 }
     requires short { All IsShort bars.now }
     ensures { OnOk result (out.new.items
-        ≡ out.old.items ++ bar_lines layout ranks.now object folded entries.now bars.now) }
+        ≡ out.old.items ++ bar_lines names.now layout ranks.now object folded entries.now bars.now) }
 {
     for bar in bars {
-        put_bar(out, layout, ranks, object, folded, entries, *bar)?;
+        put_bar(out, names, layout, ranks, object, folded, entries, *bar)?;
     }
     Ok(())
 }
@@ -45,6 +47,7 @@ pub(crate) fn put_bars(
 /// Appends a bar in the row of its seat.
 fn put_bar(
     out: &mut Vec<u8>,
+    names: &Names,
     layout: Layout,
     ranks: &[u64],
     object: Object,
@@ -57,15 +60,16 @@ fn put_bar(
     requires folded { folded < 2 ^ 63 }
     requires short { IsShort bar }
     ensures { OnOk result (out.new.items
-        ≡ out.old.items ++ bar_line layout ranks.now object folded entries.now bar) }
+        ≡ out.old.items ++ bar_line names.now layout ranks.now object folded entries.now bar) }
 {
     let area = layout.rect(row_of(ranks, bar.seat), bar);
-    put_bar_in(out, area, object, folded, entries, bar)
+    put_bar_in(out, names, area, object, folded, entries, bar)
 }
 
 /// Appends a bar with its tooltip, and the text in it.
 fn put_bar_in(
     out: &mut Vec<u8>,
+    names: &Names,
     area: Rect,
     object: Object,
     folded: u64,
@@ -75,11 +79,12 @@ fn put_bar_in(
     requires area { (area.x < 2 ^ 40) × (area.y < 2 ^ 25) }
     requires folded { folded < 2 ^ 63 }
     requires short { IsShort bar }
-    ensures { OnOk result (out.new.items ≡ out.old.items ++ bar_in area object folded entries.now bar) }
+    ensures { OnOk result (out.new.items
+        ≡ out.old.items ++ bar_in names.now area object folded entries.now bar) }
 {
     let to_share = waits_to_share(object, entries, bar);
     put_open_rect(out, shape_of(bar.kind, to_share), area)?;
-    put_bar_title(out, folded, entries, bar)?;
+    put_bar_title(out, names, folded, entries, bar)?;
     put_label(out, area, bar)
 }
 

@@ -4,6 +4,7 @@ ghost use Rattle.std.specs.Prelude.{◌≡◌, ◌<◌, ◌≤◌, ◌^◌, ◌+
 ghost use Rattle.std.specs.Fmt.{signed_decimal};
 ghost use Rattle.picture.specs.Curve.{amount_at, curve_lines, curve_of, range_of, run_of, runs_of, up_of, wider, word_of};
 
+use crate::layout::Layout;
 use crate::pieces::{put, put_placed};
 use history::header::Object;
 use itoa::Buffer;
@@ -61,17 +62,17 @@ impl Range {
 pub(crate) fn put_curve(
     out: &mut Vec<u8>,
     object: Object,
-    step: u64,
+    layout: Layout,
     amounts: &[i128],
 ) -> Result<(), AllocError>
-    ensures { OnOk result (out.new.items ≡ out.old.items ++ curve_of object step amounts.now) }
+    ensures { OnOk result (out.new.items ≡ out.old.items ++ curve_of object layout amounts.now) }
 {
     match object {
         Object::Lock(_) | Object::ReadWrite(_) => Ok(()),
         Object::Semaphore(_, _permits) => {
-            put_lines(out, b"free", Range::of(amounts), step, amounts)
+            put_lines(out, b"free", Range::of(amounts), layout, amounts)
         }
-        Object::Latch(_) => put_lines(out, b"count", Range::of(amounts), step, amounts),
+        Object::Latch(_) => put_lines(out, b"count", Range::of(amounts), layout, amounts),
     }
 }
 
@@ -80,16 +81,16 @@ fn put_lines(
     out: &mut Vec<u8>,
     word: &[u8],
     range: Range,
-    step: u64,
+    layout: Layout,
     amounts: &[i128],
 ) -> Result<(), AllocError>
     ensures { OnOk result (out.new.items
-        ≡ out.old.items ++ curve_lines word.now range step amounts.now) }
+        ≡ out.old.items ++ curve_lines word.now range layout amounts.now) }
 {
     put_word(out, word)?;
-    put_amount(out, 112, &range.high)?;
-    put_amount(out, 164, &range.low)?;
-    put_runs(out, range, step, amounts)?;
+    put_amount(out, layout, 112, &range.high)?;
+    put_amount(out, layout, 164, &range.low)?;
+    put_runs(out, range, layout, amounts)?;
     Ok(())
 }
 
@@ -103,11 +104,16 @@ fn put_word(out: &mut Vec<u8>, word: &[u8]) -> Result<(), AllocError>
 }
 
 #[tactic(auto, unfolding(crate::specs::Curve::amount_at))]
-fn put_amount(out: &mut Vec<u8>, y: u64, amount: &i128) -> Result<(), AllocError>
-    ensures { OnOk result (out.new.items ≡ out.old.items ++ amount_at y amount.now) }
+fn put_amount(out: &mut Vec<u8>, layout: Layout, y: u64, amount: &i128) -> Result<(), AllocError>
+    ensures { OnOk result (out.new.items ≡ out.old.items ++ amount_at layout y amount.now) }
 {
     let mut buffer = Buffer::new();
-    put_placed(out, b"<text class='a' x='", 68, y)?;
+    put_placed(
+        out,
+        b"<text class='a' x='",
+        layout.left.saturating_sub(4),
+        y,
+    )?;
     out.extend_from_slice(b"'>")?;
     out.extend_from_slice(buffer.format(*amount).as_bytes())?;
     out.extend_from_slice(b"</text>\n")
@@ -115,12 +121,18 @@ fn put_amount(out: &mut Vec<u8>, y: u64, amount: &i128) -> Result<(), AllocError
 
 /// Appends the line of the curve.
 #[tactic(auto, unfolding(crate::specs::Curve::runs_of))]
-fn put_runs(out: &mut Vec<u8>, range: Range, step: u64, amounts: &[i128]) -> Result<(), AllocError>
-    ensures { OnOk result (out.new.items ≡ out.old.items ++ runs_of range step amounts.now) }
+fn put_runs(
+    out: &mut Vec<u8>,
+    range: Range,
+    layout: Layout,
+    amounts: &[i128],
+) -> Result<(), AllocError>
+    ensures { OnOk result (out.new.items ≡ out.old.items ++ runs_of range layout amounts.now) }
 {
-    out.extend_from_slice(b"<path class='c' d='M72 164")?;
+    put(out, b"<path class='c' d='M", layout.left)?;
+    out.extend_from_slice(b" 164")?;
     for amount in amounts {
-        put_run(out, range, step, amount)?;
+        put_run(out, range, layout.step, amount)?;
     }
     out.extend_from_slice(b"'/>\n")?;
     Ok(())

@@ -14,25 +14,33 @@ use crate::marks::put_marks;
 use crate::picture::Picture;
 use crate::rows::{ranks_of, row_of};
 use history::entry::Entry;
+use naming::Names;
 use std::alloc::{AllocError, Global};
 
 /// Returns the SVG document of a picture. `entries` are those after the base, from the first one on. Tooltips say
 /// in words which entry a bar or a mark shows. The first illegal entry is told in words if it is among them.
 ///
 /// A seat has a row if it has a bar, or made one of the entries that are drawn, or the first illegal one after them.
-pub fn svg_text(alloc: Global, picture: &Picture, entries: &[Entry]) -> Result<Vec<u8>, AllocError>
+/// Seats and conditions are told by their numbers, with the names that they were given.
+pub fn svg_text(
+    alloc: Global,
+    names: &Names,
+    picture: &Picture,
+    entries: &[Entry],
+) -> Result<Vec<u8>, AllocError>
     requires { IsPicture (view_of picture.now) }
-    ensures { IfOk result (λ text. text.items ≡ svg_text (view_of picture.now) entries.now) }
+    ensures { IfOk result (λ text. text.items ≡ svg_text names.now (view_of picture.now) entries.now) }
 {
     let ranks = ranks_of(alloc, picture, entries)?;
     let mut out = Vec::new(alloc);
-    put_in_rows(&mut out, &ranks, picture, entries)?;
+    put_in_rows(&mut out, names, &ranks, picture, entries)?;
     Ok(out)
 }
 
 /// Appends the document. `ranks` say which seats have a row, and where.
 fn put_in_rows(
     out: &mut Vec<u8>,
+    names: &Names,
     ranks: &[u64],
     picture: &Picture,
     entries: &[Entry],
@@ -40,16 +48,17 @@ fn put_in_rows(
     requires picture { IsPicture (view_of picture.now) }
     requires ranks { AreRanks ranks.now }
     ensures { OnOk result (out.new.items
-        ≡ out.old.items ++ text_in_rows ranks.now (view_of picture.now) entries.now) }
+        ≡ out.old.items ++ text_in_rows names.now ranks.now (view_of picture.now) entries.now) }
 {
     let rows = row_of(ranks, picture.header.seats);
-    let layout = Layout::of(picture.header, picture.from, picture.to, rows);
+    let layout = Layout::of(names, picture.header, picture.from, picture.to, rows);
     let folded = picture.folded;
     let drawn = &picture.drawn;
-    put_head(out, layout, picture, entries)?;
-    put_ground(out, layout, ranks, picture)?;
+    put_head(out, names, layout, picture, entries)?;
+    put_ground(out, names, layout, ranks, picture)?;
     put_bars(
         out,
+        names,
         layout,
         ranks,
         picture.header.object,
@@ -57,8 +66,8 @@ fn put_in_rows(
         entries,
         &drawn.bars,
     )?;
-    put_marks(out, layout, ranks, folded, entries, &drawn.marks)?;
-    put_wrong_mark(out, layout, ranks, picture, entries)?;
+    put_marks(out, names, layout, ranks, folded, entries, &drawn.marks)?;
+    put_wrong_mark(out, names, layout, ranks, picture, entries)?;
     out.extend_from_slice(b"</svg>\n")?;
     Ok(())
 }
@@ -66,6 +75,7 @@ fn put_in_rows(
 /// Appends what is drawn below bars and marks: rows, scale and curve.
 fn put_ground(
     out: &mut Vec<u8>,
+    names: &Names,
     layout: Layout,
     ranks: &[u64],
     picture: &Picture,
@@ -74,21 +84,17 @@ fn put_ground(
     requires ranks { AreRanks ranks.now }
     requires folded { picture.now.folded < 2 ^ 63 }
     ensures { OnOk result (out.new.items
-        ≡ out.old.items ++ ground layout ranks.now (view_of picture.now)) }
+        ≡ out.old.items ++ ground names.now layout ranks.now (view_of picture.now)) }
 {
-    put_rows(out, layout, ranks, picture.header.seats)?;
+    put_rows(out, names, layout, ranks, picture.header.seats)?;
     put_scale(out, layout, picture.folded)?;
-    put_curve(
-        out,
-        picture.header.object,
-        layout.step,
-        &picture.drawn.curve,
-    )
+    put_curve(out, picture.header.object, layout, &picture.drawn.curve)
 }
 
 /// Appends the mark of the illegal entry, if it follows those that are shown.
 fn put_wrong_mark(
     out: &mut Vec<u8>,
+    names: &Names,
     layout: Layout,
     ranks: &[u64],
     picture: &Picture,
@@ -98,11 +104,19 @@ fn put_wrong_mark(
     requires ranks { AreRanks ranks.now }
     requires few { (picture.now.to < 2 ^ 32) × (picture.now.folded < 2 ^ 63) }
     ensures { OnOk result (out.new.items
-        ≡ out.old.items ++ wrong_mark layout ranks.now (view_of picture.now) entries.now) }
+        ≡ out.old.items ++ wrong_mark names.now layout ranks.now (view_of picture.now) entries.now) }
 {
     match picture.wrong {
         Some(number) if number == picture.folded + picture.to && picture.from <= picture.to => {
-            put_wrong(out, layout, ranks, picture.folded, entries, picture.to)
+            put_wrong(
+                out,
+                names,
+                layout,
+                ranks,
+                picture.folded,
+                entries,
+                picture.to,
+            )
         }
         _ => Ok(()),
     }

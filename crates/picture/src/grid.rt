@@ -2,30 +2,33 @@
 
 ghost use Rattle.std.specs.Prelude.{◌≡◌, ◌<◌, ◌≤◌, ◌+◌, ◌^◌, ◌++◌, OnOk, zero};
 ghost use Rattle.picture.specs.inner.{AreRanks, IsLayout};
-ghost use Rattle.picture.specs.Grid.{culprit_at, exclamation_at, field_at, pitch_of, row_if_any, row_line, rows, shade, tick, ticks, wrong_at};
+ghost use Rattle.picture.specs.Grid.{culprit_at, exclamation_at, field_at, pitch_of, row_if_any, row_line, rows, seat_at, shade, tick, ticks, wrong_at};
 
 use crate::layout::{Layout, Rect};
 use crate::marks::put_mark_place;
-use crate::pieces::{put_number_at, put_open_rect, put_rect, put_upright};
+use crate::names::put_seat;
+use crate::pieces::{put_number_at, put_open_rect, put_placed, put_rect, put_upright};
 use crate::rows::row_of;
 use crate::titles::{entry_at, put_wrong_title};
 use history::entry::Entry;
+use naming::Names;
 use std::alloc::AllocError;
 
 /// Appends the rows of the seats that have one.
 pub(crate) fn put_rows(
     out: &mut Vec<u8>,
+    names: &Names,
     layout: Layout,
     ranks: &[u64],
     seats: u16,
 ) -> Result<(), AllocError>
     requires layout { IsLayout layout }
     requires ranks { AreRanks ranks.now }
-    ensures { OnOk result (out.new.items ≡ out.old.items ++ rows layout ranks.now seats) }
+    ensures { OnOk result (out.new.items ≡ out.old.items ++ rows names.now layout ranks.now seats) }
 {
     for seat in 0..seats {
         let row = row_of(ranks, seat);
-        put_row_if_any(out, layout, row, row_of(ranks, seat + 1), seat)?;
+        put_row_if_any(out, names, layout, row, row_of(ranks, seat + 1), seat)?;
     }
     Ok(())
 }
@@ -33,27 +36,44 @@ pub(crate) fn put_rows(
 /// Appends the row of a seat, if it has one: then the rank of the next seat is another.
 fn put_row_if_any(
     out: &mut Vec<u8>,
+    names: &Names,
     layout: Layout,
     row: u64,
     next: u64,
     seat: u16,
 ) -> Result<(), AllocError>
     requires { IsLayout layout × (row < 2 ^ 16) }
-    ensures { OnOk result (out.new.items ≡ out.old.items ++ row_if_any layout row next seat) }
+    ensures { OnOk result (out.new.items
+        ≡ out.old.items ++ row_if_any names.now layout row next seat) }
 {
     if row == next {
         return Ok(());
     }
-    put_row(out, layout, row, seat)
+    put_row(out, names, layout, row, seat)
 }
 
-/// Appends a row, with the name of its seat.
-fn put_row(out: &mut Vec<u8>, layout: Layout, row: u64, seat: u16) -> Result<(), AllocError>
+/// Appends a row, with its seat.
+fn put_row(
+    out: &mut Vec<u8>,
+    names: &Names,
+    layout: Layout,
+    row: u64,
+    seat: u16,
+) -> Result<(), AllocError>
     requires { IsLayout layout × (row < 2 ^ 16) }
-    ensures { OnOk result (out.new.items ≡ out.old.items ++ row_line layout row seat) }
+    ensures { OnOk result (out.new.items ≡ out.old.items ++ row_line names.now layout row seat) }
 {
     put_shade(out, layout, row)?;
-    put_number_at(out, 8, layout.y(row) + 20, b"'>seat ", u64::from(seat))
+    put_seat_at(out, names, layout.y(row) + 20, seat)
+}
+
+/// Appends a seat at the left of a row.
+fn put_seat_at(out: &mut Vec<u8>, names: &Names, y: u64, seat: u16) -> Result<(), AllocError>
+    ensures { OnOk result (out.new.items ≡ out.old.items ++ seat_at names.now y seat) }
+{
+    put_placed(out, b"<text x='", 8, y)?;
+    put_seat(out, names, b"'>seat ", seat)?;
+    out.extend_from_slice(b"</text>\n")
 }
 
 /// Appends the background of a row. Every other one is shaded.
@@ -112,6 +132,7 @@ fn pitch_of(step: u64) -> u64
 /// Appends the culprit and the field of an illegal entry.
 pub(crate) fn put_wrong(
     out: &mut Vec<u8>,
+    names: &Names,
     layout: Layout,
     ranks: &[u64],
     folded: u64,
@@ -122,10 +143,10 @@ pub(crate) fn put_wrong(
     requires ranks { AreRanks ranks.now }
     requires folded { folded < 2 ^ 63 }
     ensures { OnOk result (out.new.items
-        ≡ out.old.items ++ wrong_at layout ranks.now folded entries.now number) }
+        ≡ out.old.items ++ wrong_at names.now layout ranks.now folded entries.now number) }
 {
     put_culprit(out, layout, ranks, number, entry_at(entries, number))?;
-    put_field(out, layout, folded, entries, number)
+    put_field(out, names, layout, folded, entries, number)
 }
 
 /// Appends the mark of the seat that made an illegal entry.
@@ -164,6 +185,7 @@ fn put_exclamation(
 /// Appends the field of an illegal entry through all rows, with its tooltip.
 fn put_field(
     out: &mut Vec<u8>,
+    names: &Names,
     layout: Layout,
     folded: u64,
     entries: &[Entry],
@@ -172,7 +194,7 @@ fn put_field(
     requires layout { IsLayout layout × (number < 2 ^ 33) }
     requires folded { folded < 2 ^ 63 }
     ensures { OnOk result (out.new.items
-        ≡ out.old.items ++ field_at layout folded entries.now number) }
+        ≡ out.old.items ++ field_at names.now layout folded entries.now number) }
 {
     let area = Rect {
         x: layout.x(number),
@@ -181,5 +203,5 @@ fn put_field(
         height: layout.rows * 40,
     };
     put_open_rect(out, b"<rect class='e' x='", area)?;
-    put_wrong_title(out, folded, entries, number)
+    put_wrong_title(out, names, folded, entries, number)
 }

@@ -13,6 +13,7 @@ use crate::pieces::put;
 use crate::titles::{entry_at, put_maker};
 use history::entry::Entry;
 use history::header::Header;
+use naming::Names;
 use std::alloc::AllocError;
 
 /// The style sheet. Exclusive holds are dark and shared ones light, so that they differ in print too. A wait
@@ -64,6 +65,7 @@ pub(crate) const LEGEND: &[u8] = b"<rect class='x' x='8' y='48' width='24' heigh
 /// Appends all that precedes the rows and the curve.
 pub(crate) fn put_head(
     out: &mut Vec<u8>,
+    names: &Names,
     layout: Layout,
     picture: &Picture,
     entries: &[Entry],
@@ -72,11 +74,11 @@ pub(crate) fn put_head(
     requires range { IsInRange picture.now.header }
     requires folded { picture.now.folded < 2 ^ 63 }
     ensures { OnOk result (out.new.items
-        ≡ out.old.items ++ head layout (view_of picture.now) entries.now) }
+        ≡ out.old.items ++ head names.now layout (view_of picture.now) entries.now) }
 {
     put_opening(out, layout.width(), layout.height())?;
     put_title(out, picture.header)?;
-    put_shown(out, layout, picture, entries)?;
+    put_shown(out, names, layout, picture, entries)?;
     out.extend_from_slice(LEGEND)?;
     Ok(())
 }
@@ -125,6 +127,7 @@ fn put_header(out: &mut Vec<u8>, header: Header) -> Result<(), AllocError>
 /// Appends the line that says which entries are shown, and which isn't legal.
 fn put_shown(
     out: &mut Vec<u8>,
+    names: &Names,
     layout: Layout,
     picture: &Picture,
     entries: &[Entry],
@@ -132,12 +135,12 @@ fn put_shown(
     requires layout { IsLayout layout }
     requires folded { picture.now.folded < 2 ^ 63 }
     ensures { OnOk result (out.new.items
-        ≡ out.old.items ++ shown_line layout (view_of picture.now) entries.now) }
+        ≡ out.old.items ++ shown_line names.now layout (view_of picture.now) entries.now) }
 {
     out.extend_from_slice(b"<text x='8' y='36'>")?;
     put_shown_part(out, layout, picture)?;
     put_left_out(out, picture.header.seats, layout.rows)?;
-    put_wrong_part(out, picture.folded, entries, picture.wrong)?;
+    put_wrong_part(out, names, picture.folded, entries, picture.wrong)?;
     out.extend_from_slice(b"</text>\n")
 }
 
@@ -187,26 +190,33 @@ fn put_chosen(out: &mut Vec<u8>, first: u64, last: u64, entries: u64) -> Result<
 /// Appends which entry isn't legal. Who made it is left out if it isn't among the given entries.
 fn put_wrong_part(
     out: &mut Vec<u8>,
+    names: &Names,
     folded: u64,
     entries: &[Entry],
     wrong: Option<u64>,
 ) -> Result<(), AllocError>
-    ensures { OnOk result (out.new.items ≡ out.old.items ++ wrong_part folded entries.now wrong) }
+    ensures { OnOk result (out.new.items
+        ≡ out.old.items ++ wrong_part names.now folded entries.now wrong) }
 {
     match wrong {
         None => Ok(()),
         Some(number) => {
             let entry = entry_at(entries, number.saturating_sub(folded));
-            put_wrong_words(out, number, entry)
+            put_wrong_words(out, names, number, entry)
         }
     }
 }
 
 /// Appends the number of an entry that isn't legal, who made it, and its words.
-fn put_wrong_words(out: &mut Vec<u8>, number: u64, entry: Option<Entry>) -> Result<(), AllocError>
-    ensures { OnOk result (out.new.items ≡ out.old.items ++ wrong_words number entry) }
+fn put_wrong_words(
+    out: &mut Vec<u8>,
+    names: &Names,
+    number: u64,
+    entry: Option<Entry>,
+) -> Result<(), AllocError>
+    ensures { OnOk result (out.new.items ≡ out.old.items ++ wrong_words names.now number entry) }
 {
     put(out, b"<tspan class='f' dx='8'>not legal at entry ", number)?;
-    put_maker(out, entry)?;
+    put_maker(out, names, entry)?;
     out.extend_from_slice(b"</tspan>")
 }

@@ -4,9 +4,11 @@ ghost use Rattle.std.specs.Prelude.{◌≡◌, ◌<◌, ◌≤◌, ◌^◌};
 ghost use Rattle.picture.specs.Layout.{IsShort, bottom_of, height_of, layout_of, lower_by, rect_of, right_of, step_of, top_of, width_of, x_of, y_of};
 ghost use Rattle.picture.specs.inner.{IsLayout};
 
+use crate::names::left_of;
 use drawing::bar::Bar;
 use drawing::kind::Kind;
 use history::header::{Header, Object};
+use naming::Names;
 
 /// The positions of the rows and the entries of a picture.
 #[derive(Clone, Copy, Debug)]
@@ -15,6 +17,8 @@ pub(crate) struct Layout {
     pub(crate) from: u64,
     /// How many entries are drawn.
     pub(crate) shown: u64,
+    /// The left edge of the first entry.
+    pub(crate) left: u64,
     /// How wide each entry is.
     pub(crate) step: u64,
     /// The upper edge of the first row.
@@ -33,9 +37,9 @@ pub(crate) struct Rect {
 
 impl Layout {
     /// Returns the layout of the entries from `from` on, before `to`, in so many rows.
-    pub(crate) fn of(header: Header, from: u64, to: u64, rows: u64) -> Self
+    pub(crate) fn of(names: &Names, header: Header, from: u64, to: u64, rows: u64) -> Self
         requires { (to < 2 ^ 32) × (rows < 2 ^ 16) }
-        ensures is { result ≡ layout_of header from to rows }
+        ensures is { result ≡ layout_of names.now header from to rows }
         ensures sound { IsLayout result }
     {
         let first = from.min(to);
@@ -43,6 +47,7 @@ impl Layout {
         Layout {
             from: first,
             shown,
+            left: left_of(names),
             step: step_of(shown),
             top: top_of(header.object),
             rows,
@@ -55,7 +60,7 @@ impl Layout {
         ensures is { result ≡ x_of self number }
         ensures bound { result < 2 ^ 40 }
     {
-        72 + number.saturating_sub(self.from) * self.step
+        self.left + number.saturating_sub(self.from) * self.step
     }
 
     /// Returns the upper edge of a row.
@@ -82,7 +87,7 @@ impl Layout {
         ensures is { result ≡ right_of self }
         ensures bound { result < 2 ^ 40 }
     {
-        72 + (self.shown + 1) * self.step
+        self.left + (self.shown + 1) * self.step
     }
 
     pub(crate) fn width(self) -> u64

@@ -3,9 +3,9 @@
 //! [`svg_text`](document::svg_text) writes a [`Picture`](picture::Picture): the result of `drawing`, with the
 //! header and the range of entries that are shown.
 //!
-//! Nothing is escaped. A picture has no text from a user. Its words are this crate's, the names of objects
-//! and policies are the header's own spelling, those of entries and faults are a history text's, and all else
-//! is digits. None of these has a `<`, a `&` or a quote.
+//! A user's only texts in a picture are the names that were given to seats and conditions. They stand between tags,
+//! and are escaped. All other words are this crate's, the header's own spelling or a history text's, and all else is
+//! digits. None of these has a `<`, a `&` or a quote. [`laws`] says that without names a picture has numbers alone.
 #![tactic(auto)]
 
 mod bars;
@@ -13,8 +13,10 @@ mod curve;
 pub mod document;
 mod grid;
 mod head;
+pub mod laws;
 mod layout;
 mod marks;
+mod names;
 pub mod picture;
 mod pieces;
 mod rows;

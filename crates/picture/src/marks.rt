@@ -11,11 +11,13 @@ use crate::rows::row_of;
 use crate::titles::put_mark_title;
 use drawing::mark::{Mark, Sign};
 use history::entry::Entry;
+use naming::Names;
 use std::alloc::AllocError;
 
 /// Appends all marks.
 pub(crate) fn put_marks(
     out: &mut Vec<u8>,
+    names: &Names,
     layout: Layout,
     ranks: &[u64],
     folded: u64,
@@ -27,10 +29,10 @@ pub(crate) fn put_marks(
     requires folded { folded < 2 ^ 63 }
     requires early { All IsEarly marks.now }
     ensures { OnOk result (out.new.items
-        ≡ out.old.items ++ mark_lines layout ranks.now folded entries.now marks.now) }
+        ≡ out.old.items ++ mark_lines names.now layout ranks.now folded entries.now marks.now) }
 {
     for mark in marks {
-        put_mark(out, layout, ranks, folded, entries, *mark)?;
+        put_mark(out, names, layout, ranks, folded, entries, *mark)?;
     }
     Ok(())
 }
@@ -53,6 +55,7 @@ pub(crate) fn put_mark_place(
 /// Appends a mark in the row of its seat.
 fn put_mark(
     out: &mut Vec<u8>,
+    names: &Names,
     layout: Layout,
     ranks: &[u64],
     folded: u64,
@@ -64,14 +67,16 @@ fn put_mark(
     requires folded { folded < 2 ^ 63 }
     requires early { IsEarly mark }
     ensures { OnOk result (out.new.items
-        ≡ out.old.items ++ mark_line layout ranks.now folded entries.now mark) }
+        ≡ out.old.items ++ mark_line names.now layout ranks.now folded entries.now mark) }
 {
-    put_mark_in(out, layout, row_of(ranks, mark.seat), folded, entries, mark)
+    let row = row_of(ranks, mark.seat);
+    put_mark_in(out, names, layout, row, folded, entries, mark)
 }
 
 /// Appends a mark with its tooltip.
 fn put_mark_in(
     out: &mut Vec<u8>,
+    names: &Names,
     layout: Layout,
     row: u64,
     folded: u64,
@@ -81,11 +86,12 @@ fn put_mark_in(
     requires layout { IsLayout layout × (row < 2 ^ 16) }
     requires folded { folded < 2 ^ 63 }
     requires early { IsEarly mark }
-    ensures { OnOk result (out.new.items ≡ out.old.items ++ mark_in layout row folded entries.now mark) }
+    ensures { OnOk result (out.new.items
+        ≡ out.old.items ++ mark_in names.now layout row folded entries.now mark) }
 {
     put_mark_place(out, layout, mark.number, row)?;
     out.extend_from_slice(shape_of(mark.sign))?;
-    put_mark_title(out, folded, entries, mark)
+    put_mark_title(out, names, folded, entries, mark)
 }
 
 /// Returns the shape: a circle, a cross, a triangle that points up, one that points down, three strokes, a

@@ -6,6 +6,7 @@ ghost use Rattle.picture.specs.Marks.{IsEarly};
 ghost use Rattle.picture.specs.Pieces.{named};
 ghost use Rattle.picture.specs.Titles.{bar_title, bar_words, entry_words, maker_and_words, mark_title, span_words, state_words, wrong_title};
 
+use crate::names::{put_condition, put_seat};
 use crate::pieces::put;
 use drawing::bar::Bar;
 use drawing::kind::Kind;
@@ -13,77 +14,83 @@ use drawing::mark::Mark;
 use explain_text::words::put_entry;
 use history::entry::Entry;
 use history::number::put_wide;
+use naming::Names;
 use std::alloc::AllocError;
 
 /// Appends the tooltip of a bar, and the end of the bar: its seat, what the seat does and how long, and the
 /// bar's first entry.
 pub(crate) fn put_bar_title(
     out: &mut Vec<u8>,
+    names: &Names,
     folded: u64,
     entries: &[Entry],
     bar: Bar,
 ) -> Result<(), AllocError>
     requires folded { folded < 2 ^ 63 }
     requires short { IsShort bar }
-    ensures { OnOk result (out.new.items ≡ out.old.items ++ bar_title folded entries.now bar) }
+    ensures { OnOk result (out.new.items ≡ out.old.items ++ bar_title names.now folded entries.now bar) }
 {
-    put_bar_words(out, folded, bar)?;
+    put_bar_words(out, names, folded, bar)?;
     out.extend_from_slice(b"; ")?;
-    put_entry_words(out, folded, entries, bar.first)?;
+    put_entry_words(out, names, folded, entries, bar.first)?;
     out.extend_from_slice(b"</title></rect>\n")
 }
 
 /// Appends the seat of a bar, what the seat does and how long.
-fn put_bar_words(out: &mut Vec<u8>, folded: u64, bar: Bar) -> Result<(), AllocError>
+fn put_bar_words(out: &mut Vec<u8>, names: &Names, folded: u64, bar: Bar) -> Result<(), AllocError>
     requires folded { folded < 2 ^ 63 }
     requires short { IsShort bar }
-    ensures { OnOk result (out.new.items ≡ out.old.items ++ bar_words folded bar) }
+    ensures { OnOk result (out.new.items ≡ out.old.items ++ bar_words names.now folded bar) }
 {
-    put(out, b"'><title>seat ", u64::from(bar.seat))?;
-    put_state(out, bar.kind, bar.holds)?;
+    put_seat(out, names, b"'><title>seat ", bar.seat)?;
+    put_state(out, names, bar.kind, bar.holds)?;
     put_span(out, folded, bar)
 }
 
 /// Appends the tooltip of a mark, which is its entry, and the end of the mark.
 pub(crate) fn put_mark_title(
     out: &mut Vec<u8>,
+    names: &Names,
     folded: u64,
     entries: &[Entry],
     mark: Mark,
 ) -> Result<(), AllocError>
     requires folded { folded < 2 ^ 63 }
     requires early { IsEarly mark }
-    ensures { OnOk result (out.new.items ≡ out.old.items ++ mark_title folded entries.now mark) }
+    ensures { OnOk result (out.new.items ≡ out.old.items ++ mark_title names.now folded entries.now mark) }
 {
     out.extend_from_slice(b"'><title>")?;
-    put_entry_words(out, folded, entries, mark.number)?;
+    put_entry_words(out, names, folded, entries, mark.number)?;
     out.extend_from_slice(b"</title></path>\n")
 }
 
 /// Appends the tooltip of an illegal entry's field, and the end of the field.
 pub(crate) fn put_wrong_title(
     out: &mut Vec<u8>,
+    names: &Names,
     folded: u64,
     entries: &[Entry],
     number: u64,
 ) -> Result<(), AllocError>
     requires { folded + number < 2 ^ 64 }
-    ensures { OnOk result (out.new.items ≡ out.old.items ++ wrong_title folded entries.now number) }
+    ensures { OnOk result (out.new.items ≡ out.old.items ++ wrong_title names.now folded entries.now number) }
 {
     out.extend_from_slice(b"'><title>not legal: ")?;
-    put_entry_words(out, folded, entries, number)?;
+    put_entry_words(out, names, folded, entries, number)?;
     out.extend_from_slice(b"</title></rect>\n")
 }
 
 /// Appends what a seat does.
-fn put_state(out: &mut Vec<u8>, kind: Kind, holds: u128) -> Result<(), AllocError>
-    ensures { OnOk result (out.new.items ≡ out.old.items ++ state_words kind holds) }
+fn put_state(out: &mut Vec<u8>, names: &Names, kind: Kind, holds: u128) -> Result<(), AllocError>
+    ensures { OnOk result (out.new.items ≡ out.old.items ++ state_words names.now kind holds) }
 {
     match kind {
         Kind::Exclusive => put_holds(out, b", exclusive holds: ", holds),
         Kind::Shared => put_holds(out, b", shared holds: ", holds),
         Kind::InLine => out.extend_from_slice(b", in line"),
-        Kind::Asleep(condition) => put(out, b", asleep on condition ", u64::from(condition)),
+        Kind::Asleep(condition) => {
+            put_condition(out, names, b", asleep on condition ", condition)
+        }
     }
 }
 
@@ -108,15 +115,16 @@ fn put_span(out: &mut Vec<u8>, folded: u64, bar: Bar) -> Result<(), AllocError>
 /// Appends the entry of an index in words. Its number counts folded entries too.
 fn put_entry_words(
     out: &mut Vec<u8>,
+    names: &Names,
     folded: u64,
     entries: &[Entry],
     index: u64,
 ) -> Result<(), AllocError>
     requires { folded + index < 2 ^ 64 }
-    ensures { OnOk result (out.new.items ≡ out.old.items ++ entry_words folded entries.now index) }
+    ensures { OnOk result (out.new.items ≡ out.old.items ++ entry_words names.now folded entries.now index) }
 {
     put(out, b"entry ", folded + index)?;
-    put_maker(out, entry_at(entries, index))
+    put_maker(out, names, entry_at(entries, index))
 }
 
 /// Returns the entry of an index, if there is one.
@@ -127,13 +135,17 @@ pub(crate) fn entry_at(entries: &[Entry], index: u64) -> Option<Entry>
 }
 
 /// Appends who made an entry, and its words as a history text has them.
-pub(crate) fn put_maker(out: &mut Vec<u8>, entry: Option<Entry>) -> Result<(), AllocError>
-    ensures { OnOk result (out.new.items ≡ out.old.items ++ maker_and_words entry) }
+pub(crate) fn put_maker(
+    out: &mut Vec<u8>,
+    names: &Names,
+    entry: Option<Entry>,
+) -> Result<(), AllocError>
+    ensures { OnOk result (out.new.items ≡ out.old.items ++ maker_and_words names.now entry) }
 {
     match entry {
         None => Ok(()),
         Some(entry) => {
-            put(out, b": seat ", u64::from(entry.seat))?;
+            put_seat(out, names, b": seat ", entry.seat)?;
             out.extend_from_slice(b" ")?;
             put_entry(out, entry)
         }

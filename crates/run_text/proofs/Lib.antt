@@ -1,3 +1,4 @@
+mod AnswerLines
 pub mod EntryLines
 pub mod Judged
 pub mod Texts

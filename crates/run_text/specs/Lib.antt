@@ -1,2 +1,3 @@
 pub mod RunText
+pub mod Unrecorded
 pub mod inner

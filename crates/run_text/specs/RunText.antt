@@ -1,6 +1,7 @@
 -- The text of a run.
-use Rattle.std.specs.Prelude.{ℕ, List, [], ◌∷◌, ◌++◌, codes, Option, Result, Ok, Err}
+use Rattle.std.specs.Prelude.{ℕ, List, [], ◌∷◌, ◌++◌, codes, Option, None, Some, Result, Ok, Err}
 use Rattle.std.specs.Io.KnownBytes.{Appends, Keeps}
+use Rattle.std.specs.Global.{Vec}
 use Rattle.audit.specs.Verdict.{verdict_of}
 use Rattle.driver.specs.AuditText.{audit_text, number_line}
 use Rattle.history.specs.Base.{Base}
@@ -12,6 +13,9 @@ use Rattle.streams.specs.declared.stream_fault.StreamFault.{StreamFault}
 use Rattle.streams.specs.declared.stream_fault.StreamFault.TheVariants.{Text, ReadFailed, WriteFailed, Memory}
 use Rattle.streams.specs.Writing.{AppendsFront}
 use Rattle.workers.specs.declared.report.ObjectReport.{ObjectReport}
+use Rattle.workers.specs.declared.report.Report.{Report}
+use Rattle.workers.specs.declared.unrecorded.Unrecorded.{Unrecorded}
+use Rattle.run_text.specs.Unrecorded.{answer_lines}
 
 -- the base that the object's folded entries left
 abbrev pub base_of : ObjectReport → Base
@@ -57,3 +61,13 @@ parts_text (o ∷ objects) (part ∷ parts) = part_text o.0 part ++ parts_text o
 
 abbrev pub run_text : List Named → List ObjectReport → ℕ → List ℕ
 run_text objects parts unrecorded = parts_text objects parts ++ ended (unrecorded_line unrecorded)
+
+-- the line of how many answers no history records, and if they are listed a line for each
+abbrev pub last_lines : List Named → ℕ → Option (Vec Unrecorded) → List ℕ
+last_lines objects count None = ended (unrecorded_line count)
+last_lines objects count (Some list) = ended (unrecorded_line count) ++ answer_lines objects list.items
+
+-- the run text, and the lines of the answers that are listed
+abbrev pub report_text : List Named → Report → List ℕ
+report_text objects report =
+    parts_text objects report.objects.items ++ last_lines objects report.unrecorded report.listed

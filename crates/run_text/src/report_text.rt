@@ -3,12 +3,13 @@
 ghost use Rattle.std.specs.Prelude.{◌≡◌, ◌≤◌, ◌↔◌, [], false, All, IfErr, IfOk, IsErr, IsTrue, OnErr, OnOk, length};
 ghost use Rattle.std.specs.List.{concat};
 ghost use Rattle.std.specs.Io.KnownBytes.{Appends};
-ghost use Rattle.run_text.specs.RunText.{parts_text, run_text};
+ghost use Rattle.run_text.specs.RunText.{last_lines, parts_text, report_text};
 ghost use Rattle.run_text.specs.inner.{IsJudged};
 ghost use Rattle.streams.specs.Writing.{AppendsFront};
 ghost use Rattle.streams.specs.declared.stream_fault.StreamFault.TheVariants.{Memory};
 ghost use Rattle.workers.specs.Reports.{IsReport, IsSound};
 
+use crate::answer_lines::put_answers;
 use crate::part::PartText;
 use driver::audit_text::put_line;
 use driver::line_writer::LineWriter;
@@ -19,7 +20,7 @@ use streams::sink::Sink;
 use streams::source::DeviceFailed;
 use streams::stream_fault::StreamFault;
 use streams::writing::write_all;
-use workers::{ObjectReport, Report};
+use workers::{ObjectReport, Report, Unrecorded};
 
 /// The text of a run. All its memory is reserved.
 #[derive(Drop)]
@@ -62,8 +63,29 @@ fn parts_of(
     Ok(parts)
 }
 
+/// Returns the line of how many answers no history records, and if they are listed a line for each.
+fn last_of(
+    alloc: Global,
+    script: &Script,
+    unrecorded: u64,
+    listed: Option<Vec<Unrecorded>>,
+) -> Result<Vec<u8>, StreamFault>
+    ensures lines { IfOk result (λ last. last.items ≡ last_lines script.now.objects unrecorded listed) }
+    ensures err { IfErr result (λ fault. fault ≡ Memory) }
+{
+    let mut last = Vec::new(alloc);
+    put_line(&mut last, b"unrecorded ", unrecorded)?;
+    match listed {
+        None => Ok(last),
+        Some(answers) => {
+            put_answers(&mut last, script.objects(), &answers)?;
+            Ok(last)
+        }
+    }
+}
+
 impl RunText {
-    /// Returns the text of a run of the script, from its report.
+    /// Returns the text of a run of the script, from its report, with a line for each answer that it lists.
     ///
     /// # Errors
     ///
@@ -71,18 +93,17 @@ impl RunText {
     pub fn of(alloc: Global, script: &Script, report: Report) -> Result<RunText, StreamFault>
         requires report { IsReport script.now report }
         requires sound { All IsSound report.objects.items }
-        ensures text { IfOk result (λ text.
-            text ≡ run_text script.now.objects report.objects.items report.unrecorded) }
+        ensures text { IfOk result (λ text. text ≡ report_text script.now.objects report) }
         ensures err { IfErr result (λ fault. fault ≡ Memory) }
     {
         let Report {
             objects,
             unrecorded,
+            listed,
         } = report;
         let lines = LineWriter::open(alloc, b"")?;
         let parts = parts_of(alloc, script, objects)?;
-        let mut last = Vec::new(alloc);
-        put_line(&mut last, b"unrecorded ", unrecorded)?;
+        let last = last_of(alloc, script, unrecorded, listed)?;
         Ok(RunText { lines, parts, last })
     }
 

@@ -98,8 +98,8 @@ pub(crate) fn put_name(
     }
 }
 
-/// Appends a call, as a script spells it.
-pub(crate) fn put_call(
+/// Appends a call, as a script spells it. On an error only its first bytes may have been appended.
+pub fn put_call(
     out: &mut Vec<u8>,
     objects: &IndexMap<String, Header>,
     call: Call,

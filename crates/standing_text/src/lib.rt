@@ -6,6 +6,8 @@
 //!
 //! The threads were looked at one after another. So the text is a finding: a thread that waits may be about to
 //! go on.
+//!
+//! [`put_call`] spells a call, for this text and for others.
 #![tactic(auto)]
 
 mod call_text;
@@ -16,5 +18,6 @@ mod text;
 mod thread_lines;
 mod waiting;
 
+pub use call_text::put_call;
 pub use link::Link;
 pub use text::standing_text;

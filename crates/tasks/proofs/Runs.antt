@@ -1,15 +1,16 @@
 -- What the run of a script returns.
-use Rattle.std.proofs.Common.{ℕ, List, Option, Ok, Err}
+use Rattle.std.proofs.Common.{ℕ, List, ◌++◌, Option, Ok, Err, ap, subst}
 use Rattle.std.specs.Prelude.{IfSome}
 use Rattle.std.proofs.lemmas.Option.{IfSome_then}
 use Rattle.std.proofs.KnownBytes.{Keeps-refl}
-use Rattle.run_text.specs.RunText.{run_text}
+use Rattle.run_text.specs.RunText.{last_lines, parts_text, report_text}
 use Rattle.script.specs.Reading.{Reads}
 use Rattle.script.specs.Script.{ScriptView}
 use Rattle.workers.specs.declared.fault.RunFault.{RunFault}
 use Rattle.workers.specs.declared.fault.RunFault.TheVariants.{GateShut, NotStarted, Memory as RunMemory}
 use Rattle.workers.specs.declared.report.Report.{Report}
-use Rattle.workers.specs.Reports.{IsReport}
+use Rattle.workers.specs.Reports.{IsListed, IsReport}
+use Rattle.workers.specs.declared.unrecorded.Keep.TheVariants.{Count}
 use Rattle.workers.specs.Gates.{IsFaultOfRun}
 use Rattle.tasks.specs.declared.fault.Fault.TheVariants.{Run}
 use Rattle.tasks.specs.RunScript.{IsRun, Runs}
@@ -26,11 +27,19 @@ not_run left old script (NotStarted worker) reads is = (
 )
 not_run left old script (GateShut worker) reads is = stops_nobody 0 script.workers worker is
 
--- the run of a script, and what is written of it
+-- the run of a script, and what is written of it: no list of answers is asked for
 pub has_run : (left : Option (List ℕ)) (script : ScriptView) (report : Report) (Written : List ℕ → Type 0) →
-    IfSome left (λ text. Reads text (Ok script)) → IsReport script report →
-    Written (run_text script.objects report.objects.items report.unrecorded) →
+    IfSome left (λ text. Reads text (Ok script)) → IsReport script report → IsListed Count report.listed →
+    Written (report_text script.objects report) →
     IfSome left (λ text. IsRun text Written)
-has_run left script report Written reads is written =
+has_run left script report Written reads is counted written =
+    let objects = script.objects in
+    let same = ap (λ l. parts_text objects report.objects.items ++ last_lines objects report.unrecorded l) counted in
     IfSome_then left reads
-    (λ text p. record { script = script; reads = p; report = report; is = is; written = written })
+    (λ text p. record {
+      script = script;
+      reads = p;
+      report = report;
+      is = is;
+      written = subst Written same written;
+    })

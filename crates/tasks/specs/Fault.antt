@@ -3,7 +3,7 @@ use Rattle.std.specs.Prelude.{ℕ}
 use Rattle.script.specs.declared.fault.ScriptFault.{ScriptFault}
 use Rattle.script.specs.declared.fault.ScriptFault.TheVariants.{NotJson, BadTop, BadObject, BadThread, BadCall, OutOfMemory}
 use Rattle.tasks.specs.declared.fault.Fault.{Fault}
-use Rattle.tasks.specs.declared.fault.Fault.TheVariants.{Usage, BadFrom, BadTo, BadAt, BadRunOption, Memory, Stream, Script, Run}
+use Rattle.tasks.specs.declared.fault.Fault.TheVariants.{Usage, BadFrom, BadTo, BadAt, BadRunOption, BadNaming, Memory, Stream, Script, Run}
 use Rattle.tasks.specs.StreamFault.{stream_status}
 use Rattle.workers.specs.declared.fault.RunFault.{RunFault}
 use Rattle.workers.specs.declared.fault.RunFault.TheVariants as run
@@ -23,13 +23,14 @@ run_status run.Memory = 5
 run_status (run.GateShut worker) = 4
 run_status (run.NotStarted worker) = 4
 
--- 2 for the command line
+-- 2 for the command line, 3 for a text
 abbrev pub status_of : Fault → ℕ
 status_of Usage = 2
 status_of BadFrom = 2
 status_of BadTo = 2
 status_of BadAt = 2
 status_of (BadRunOption option) = 2
+status_of (BadNaming line) = 3
 status_of Memory = 5
 status_of (Stream fault) = stream_status fault
 status_of (Script fault) = script_status fault

@@ -1,6 +1,7 @@
 pub mod Explain
 pub mod ExplainJson
 pub mod Fault
+pub mod Names
 pub mod StreamFault
 pub mod Perform
 pub mod Ran

@@ -4,15 +4,18 @@ use Rattle.std.specs.Io.KnownBytes.{IsAtEnd}
 use Rattle.audit.specs.declared.verdict.Verdict.{Verdict}
 use Rattle.audit.specs.declared.verdict.Verdict.TheVariants.{Legal, NotLegal}
 use Rattle.driver.specs.AuditStream.{AuditsIn, HistoryReadOut}
-use Rattle.driver.specs.DrawStream.{Draws}
+use Rattle.driver.specs.declared.choice.Choice.{Choice}
+use Rattle.driver.specs.DrawStream.{Draws, DrawsWith}
 use Rattle.driver.specs.ExplainStream.{Explains}
 use Rattle.driver.specs.PageStream.{Pages}
 use Rattle.driver.specs.ReplayStream.{Replays, StepsReadOut}
 use Rattle.driver.specs.SummaryStream.{SummarisesIn}
+use Rattle.naming.specs.Names.{Given}
+use Rattle.streams.specs.declared.stream_fault.StreamFault.{StreamFault}
 use Rattle.tasks.specs.declared.task.Task.{Task}
 use Rattle.tasks.specs.declared.task.Task.TheVariants.{Replay, Audit, Draw, Explain, Page, Summary}
 use Rattle.tasks.specs.declared.fault.Fault.{Fault}
-use Rattle.tasks.specs.declared.fault.Fault.TheVariants.{Usage, BadFrom, BadTo, BadAt, BadRunOption, Memory, Stream, Script, Run}
+use Rattle.tasks.specs.declared.fault.Fault.TheVariants.{Usage, BadFrom, BadTo, BadAt, BadRunOption, BadNaming, Memory, Stream, Script, Run}
 
 -- a history that isn't legal ends the program with status 1
 abbrev pub status_for : Verdict → ℕ
@@ -28,6 +31,7 @@ Performs (Replay form) left old new (Err BadFrom) = ⊥
 Performs (Replay form) left old new (Err BadTo) = ⊥
 Performs (Replay form) left old new (Err BadAt) = ⊥
 Performs (Replay form) left old new (Err (BadRunOption option)) = ⊥
+Performs (Replay form) left old new (Err (BadNaming line)) = ⊥
 Performs (Replay form) left old new (Err Memory) = ⊥
 Performs (Replay form) left old new (Err (Script fault)) = ⊥
 Performs (Replay form) left old new (Err (Run fault)) = ⊥
@@ -39,6 +43,7 @@ Performs (Audit notation) left old new (Err BadFrom) = ⊥
 Performs (Audit notation) left old new (Err BadTo) = ⊥
 Performs (Audit notation) left old new (Err BadAt) = ⊥
 Performs (Audit notation) left old new (Err (BadRunOption option)) = ⊥
+Performs (Audit notation) left old new (Err (BadNaming line)) = ⊥
 Performs (Audit notation) left old new (Err Memory) = ⊥
 Performs (Audit notation) left old new (Err (Script fault)) = ⊥
 Performs (Audit notation) left old new (Err (Run fault)) = ⊥
@@ -50,6 +55,7 @@ Performs (Draw choice) left old new (Err BadFrom) = ⊥
 Performs (Draw choice) left old new (Err BadTo) = ⊥
 Performs (Draw choice) left old new (Err BadAt) = ⊥
 Performs (Draw choice) left old new (Err (BadRunOption option)) = ⊥
+Performs (Draw choice) left old new (Err (BadNaming line)) = ⊥
 Performs (Draw choice) left old new (Err Memory) = ⊥
 Performs (Draw choice) left old new (Err (Script fault)) = ⊥
 Performs (Draw choice) left old new (Err (Run fault)) = ⊥
@@ -61,6 +67,7 @@ Performs (Page choice) left old new (Err BadFrom) = ⊥
 Performs (Page choice) left old new (Err BadTo) = ⊥
 Performs (Page choice) left old new (Err BadAt) = ⊥
 Performs (Page choice) left old new (Err (BadRunOption option)) = ⊥
+Performs (Page choice) left old new (Err (BadNaming line)) = ⊥
 Performs (Page choice) left old new (Err Memory) = ⊥
 Performs (Page choice) left old new (Err (Script fault)) = ⊥
 Performs (Page choice) left old new (Err (Run fault)) = ⊥
@@ -72,6 +79,7 @@ Performs (Explain at) left old new (Err BadFrom) = ⊥
 Performs (Explain at) left old new (Err BadTo) = ⊥
 Performs (Explain at) left old new (Err BadAt) = ⊥
 Performs (Explain at) left old new (Err (BadRunOption option)) = ⊥
+Performs (Explain at) left old new (Err (BadNaming line)) = ⊥
 Performs (Explain at) left old new (Err Memory) = ⊥
 Performs (Explain at) left old new (Err (Script fault)) = ⊥
 Performs (Explain at) left old new (Err (Run fault)) = ⊥
@@ -83,9 +91,29 @@ Performs (Summary notation) left old new (Err BadFrom) = ⊥
 Performs (Summary notation) left old new (Err BadTo) = ⊥
 Performs (Summary notation) left old new (Err BadAt) = ⊥
 Performs (Summary notation) left old new (Err (BadRunOption option)) = ⊥
+Performs (Summary notation) left old new (Err (BadNaming line)) = ⊥
 Performs (Summary notation) left old new (Err Memory) = ⊥
 Performs (Summary notation) left old new (Err (Script fault)) = ⊥
 Performs (Summary notation) left old new (Err (Run fault)) = ⊥
+
+-- what a stream leaves that judges a history, and the program's exit status for it
+abbrev pub Judges : (Result Verdict StreamFault → Type 0) → Result ℕ Fault → Type 0
+Judges Leaves (Ok status) = (verdict : Verdict) × (status ≡ status_for verdict) × Leaves (Ok verdict)
+Judges Leaves (Err (Stream fault)) = Leaves (Err fault)
+Judges Leaves (Err Usage) = ⊥
+Judges Leaves (Err BadFrom) = ⊥
+Judges Leaves (Err BadTo) = ⊥
+Judges Leaves (Err BadAt) = ⊥
+Judges Leaves (Err (BadRunOption option)) = ⊥
+Judges Leaves (Err (BadNaming line)) = ⊥
+Judges Leaves (Err Memory) = ⊥
+Judges Leaves (Err (Script fault)) = ⊥
+Judges Leaves (Err (Run fault)) = ⊥
+
+-- what drawing with names leaves
+abbrev pub DrawsNamed : Given → Choice → Option (List ℕ) → Option (List ℕ) → Option (List ℕ) → Result ℕ Fault →
+    Type 0
+DrawsNamed names choice left old new = Judges (DrawsWith names choice left old new)
 
 -- How far a task reads: as its stream does. The arguments are what the source had left and what it has left.
 abbrev pub IsReadOutFor : Task → Option (List ℕ) → Result ℕ Fault → Option (List ℕ) → Type 0
@@ -101,6 +129,7 @@ IsReadOutFor task text (Err BadFrom) left = ⊥
 IsReadOutFor task text (Err BadTo) left = ⊥
 IsReadOutFor task text (Err BadAt) left = ⊥
 IsReadOutFor task text (Err (BadRunOption option)) left = ⊥
+IsReadOutFor task text (Err (BadNaming line)) left = ⊥
 IsReadOutFor task text (Err Memory) left = ⊥
 IsReadOutFor task text (Err (Script fault)) left = ⊥
 IsReadOutFor task text (Err (Run fault)) left = ⊥

@@ -1,12 +1,12 @@
 -- A script, what a run of its threads left, and what is written of it.
 use Rattle.std.specs.Prelude.{◌≡◌, ◌<◌, ℕ, List, Option, Result, Ok, Err, length}
 use Rattle.std.specs.Io.KnownBytes.{Appends, Keeps}
-use Rattle.run_text.specs.RunText.{run_text}
+use Rattle.run_text.specs.RunText.{report_text}
 use Rattle.script.specs.Script.{ScriptView, WorkerView}
 use Rattle.streams.specs.declared.stream_fault.StreamFault.TheVariants.{Text, ReadFailed, WriteFailed, Memory as StreamMemory}
 use Rattle.streams.specs.Writing.{AppendsFront}
 use Rattle.tasks.specs.declared.fault.Fault.{Fault}
-use Rattle.tasks.specs.declared.fault.Fault.TheVariants.{Usage, BadFrom, BadTo, BadAt, BadRunOption, Memory, Stream, Script, Run}
+use Rattle.tasks.specs.declared.fault.Fault.TheVariants.{Usage, BadFrom, BadTo, BadAt, BadRunOption, BadNaming, Memory, Stream, Script, Run}
 use Rattle.workers.specs.declared.fault.RunFault.TheVariants.{GateShut, NotStarted, Memory as RunMemory}
 use Rattle.workers.specs.declared.report.Report.{Report}
 use Rattle.workers.specs.Refused.{WasRefused}
@@ -27,11 +27,12 @@ IsFaultOfThreads ws BadFrom = ⊥
 IsFaultOfThreads ws BadTo = ⊥
 IsFaultOfThreads ws BadAt = ⊥
 IsFaultOfThreads ws (BadRunOption option) = ⊥
+IsFaultOfThreads ws (BadNaming line) = ⊥
 IsFaultOfThreads ws Memory = ⊥
 
 -- the text of what a run left
 abbrev pub text_of_run : RanView → List ℕ
-text_of_run ran = run_text ran.script.objects ran.report.objects.items ran.report.unrecorded
+text_of_run ran = report_text ran.script.objects ran.report
 
 -- what is written of a run; what the sink held before and holds after
 abbrev pub WritesRan : RanView → Option (List ℕ) → Option (List ℕ) → Result ℕ Fault → Type 0
@@ -48,3 +49,4 @@ WritesRan ran old new (Err BadFrom) = ⊥
 WritesRan ran old new (Err BadTo) = ⊥
 WritesRan ran old new (Err BadAt) = ⊥
 WritesRan ran old new (Err (BadRunOption option)) = ⊥
+WritesRan ran old new (Err (BadNaming line)) = ⊥

@@ -7,7 +7,7 @@ use Rattle.script.specs.Script.{ScriptView}
 use Rattle.streams.specs.declared.stream_fault.StreamFault.TheVariants.{Text, ReadFailed, WriteFailed, Memory as StreamMemory}
 use Rattle.streams.specs.Writing.{AppendsFront}
 use Rattle.tasks.specs.declared.fault.Fault.{Fault}
-use Rattle.tasks.specs.declared.fault.Fault.TheVariants.{Usage, BadFrom, BadTo, BadAt, BadRunOption, Memory, Stream, Script, Run}
+use Rattle.tasks.specs.declared.fault.Fault.TheVariants.{Usage, BadFrom, BadTo, BadAt, BadRunOption, BadNaming, Memory, Stream, Script, Run}
 use Rattle.workers.specs.declared.fault.RunFault.TheVariants.{GateShut, NotStarted, Memory as RunMemory}
 use Rattle.workers.specs.Refused.{WasRefused}
 use Rattle.workers.specs.declared.report.Report.{Report}
@@ -45,6 +45,7 @@ Runs left old new (Err BadFrom) = ⊥
 Runs left old new (Err BadTo) = ⊥
 Runs left old new (Err BadAt) = ⊥
 Runs left old new (Err (BadRunOption option)) = ⊥
+Runs left old new (Err (BadNaming line)) = ⊥
 Runs left old new (Err Memory) = Keeps old new
 
 -- a script was read to its end, unless reading failed or an allocation for its text did
@@ -68,4 +69,5 @@ IsFaultOfScript left BadFrom = ⊥
 IsFaultOfScript left BadTo = ⊥
 IsFaultOfScript left BadAt = ⊥
 IsFaultOfScript left (BadRunOption option) = ⊥
+IsFaultOfScript left (BadNaming line) = ⊥
 IsFaultOfScript left Memory = ⊥

@@ -6,7 +6,7 @@ use Rattle.manual.specs.Pages.{page_text}
 use Rattle.streams.specs.declared.stream_fault.StreamFault.TheVariants.{Text, ReadFailed, WriteFailed, Memory as StreamMemory}
 use Rattle.streams.specs.Writing.{AppendsFront}
 use Rattle.tasks.specs.declared.fault.Fault.{Fault}
-use Rattle.tasks.specs.declared.fault.Fault.TheVariants.{Usage, BadFrom, BadTo, BadAt, BadRunOption, Memory, Stream, Script, Run}
+use Rattle.tasks.specs.declared.fault.Fault.TheVariants.{Usage, BadFrom, BadTo, BadAt, BadRunOption, BadNaming, Memory, Stream, Script, Run}
 
 -- what the sink held before and holds after
 abbrev pub Tells : Page → Option (List ℕ) → Option (List ℕ) → Result ℕ Fault → Type 0
@@ -20,6 +20,7 @@ Tells page old new (Err BadFrom) = ⊥
 Tells page old new (Err BadTo) = ⊥
 Tells page old new (Err BadAt) = ⊥
 Tells page old new (Err (BadRunOption option)) = ⊥
+Tells page old new (Err (BadNaming line)) = ⊥
 Tells page old new (Err Memory) = ⊥
 Tells page old new (Err (Script fault)) = ⊥
 Tells page old new (Err (Run fault)) = ⊥

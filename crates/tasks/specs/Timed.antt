@@ -3,16 +3,18 @@ use Rattle.std.specs.Prelude.{◌≡◌, ℕ, List, length}
 use Rattle.script.specs.Script.{ScriptView, WorkerView}
 use Rattle.standing_text.specs.StandingText.{IsStandingText}
 use Rattle.tasks.specs.declared.fault.Fault.{Fault}
-use Rattle.tasks.specs.declared.fault.Fault.TheVariants.{Usage, BadFrom, BadTo, BadAt, BadRunOption, Memory, Stream, Script, Run}
+use Rattle.tasks.specs.declared.fault.Fault.TheVariants.{Usage, BadFrom, BadTo, BadAt, BadRunOption, BadNaming, Memory, Stream, Script, Run}
 use Rattle.tasks.specs.declared.timed.Timed.{Timed}
 use Rattle.tasks.specs.declared.timed.Timed.TheVariants.{Ended, Late}
 use Rattle.tasks.specs.Ran.{IsFaultOfThreads}
+use Rattle.workers.specs.Reports.{IsListed}
 use Rattle.workers.specs.declared.standing.Standing.{Standing}
+use Rattle.workers.specs.declared.unrecorded.Keep.{Keep}
 
 -- what its threads left, or the text of how each of them stood
-abbrev pub IsTimed : ℕ → ScriptView → Timed → Type 0
-IsTimed ms s (Ended ran) = ran.script ≡ s
-IsTimed ms s (Late text) =
+abbrev pub IsTimed : ℕ → Keep → ScriptView → Timed → Type 0
+IsTimed ms keep s (Ended ran) = (ran.script ≡ s) × IsListed keep ran.report.listed
+IsTimed ms keep s (Late text) =
     (ts : List Standing) × (length ts ≡ length s.workers) × IsStandingText ms s ts text.items
 
 -- as without a limit, or memory lacks for the text
@@ -26,3 +28,4 @@ IsFaultOfTimed ws BadFrom = ⊥
 IsFaultOfTimed ws BadTo = ⊥
 IsFaultOfTimed ws BadAt = ⊥
 IsFaultOfTimed ws (BadRunOption option) = ⊥
+IsFaultOfTimed ws (BadNaming line) = ⊥

@@ -42,6 +42,9 @@ pub enum Fault {
     /// is none, or the time is none.
     #[error("bad --{0}")]
     BadRunOption(RunOption),
+    /// This line of the names of seats and conditions, counted from 1, is wrong.
+    #[error("bad name {0}")]
+    BadNaming(u64),
     #[error("out of memory")]
     Memory,
     #[error("{0}")]
@@ -62,6 +65,7 @@ impl Fault {
             Fault::Usage => 2,
             Fault::BadFrom | Fault::BadTo | Fault::BadAt => 2,
             Fault::BadRunOption(_) => 2,
+            Fault::BadNaming(_) => 3,
             Fault::Stream(StreamFault::Memory)
             | Fault::Memory
             | Fault::Script(ScriptFault::OutOfMemory)

@@ -6,6 +6,7 @@ pub mod as_json;
 pub mod ending;
 pub mod explain;
 pub mod fault;
+pub mod names;
 pub mod perform;
 pub mod ran;
 pub mod run_script;

@@ -2,18 +2,21 @@
 
 ghost use Rattle.std.specs.Prelude.{◌≡◌, ◌↔◌, false, IsErrOf, IsTrue};
 ghost use Rattle.streams.specs.declared.stream_fault.StreamFault.TheVariants.{ReadFailed, WriteFailed};
-ghost use Rattle.tasks.specs.Perform.{IsReadOutFor, Performs, status_for};
+ghost use Rattle.tasks.specs.Perform.{DrawsNamed, IsReadOutFor, Performs, status_for};
 ghost use Rattle.tasks.specs.declared.fault.Fault.TheVariants.{Stream};
+ghost use Rattle.tasks.specs.declared.task.Task.TheVariants.{Draw};
 
 use crate::fault::Fault;
 use crate::task::Task;
 use audit::verdict::Verdict;
 use driver::audit_stream::audit_stream_in;
-use driver::draw_stream::draw_stream;
+use driver::choice::Choice;
+use driver::draw_stream::{draw_stream, draw_stream_with};
 use driver::explain_stream::explain_stream;
 use driver::page_stream::page_stream;
 use driver::replay_stream::replay_stream;
 use driver::summary_stream::summary_stream_in;
+use naming::Names;
 use std::alloc::Global;
 use streams::sink::Sink;
 use streams::source::Source;
@@ -58,4 +61,24 @@ pub fn perform<R: Source, W: Sink>(
             Ok(status_for(summary_stream_in(alloc, reader, writer, notation)?))
         }
     }
+}
+
+/// Draws the history of a history text with the names that were given to seats and conditions, as [`perform`] draws
+/// it without.
+pub fn draw_with<R: Source, W: Sink>(
+    alloc: Global,
+    names: &Names,
+    reader: &mut R,
+    writer: &mut W,
+    choice: Choice,
+) -> Result<u8, Fault>
+    requires reader { R.failed reader.old ≡ false }
+    requires writer { W.failed writer.old ≡ false }
+    ensures draws { DrawsNamed names.now choice (R.left reader.old) (W.held writer.old) (W.held writer.new) result }
+    ensures end { IsReadOutFor (Draw choice) (R.left reader.old) result (R.left reader.new) }
+    ensures read { IsErrOf result (Stream ReadFailed) ↔ IsTrue (R.failed reader.new) }
+    ensures write { IsErrOf result (Stream WriteFailed) ↔ IsTrue (W.failed writer.new) }
+{
+    let verdict = draw_stream_with(alloc, names, reader, writer, choice)?;
+    Ok(status_for(verdict))
 }

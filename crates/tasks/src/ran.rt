@@ -6,7 +6,7 @@ ghost use Rattle.history.specs.declared.header.Header.{Header};
 ghost use Rattle.streams.specs.declared.stream_fault.StreamFault.TheVariants.{WriteFailed};
 ghost use Rattle.tasks.specs.Ran.{IsFaultOfThreads, WritesRan};
 ghost use Rattle.tasks.specs.declared.fault.Fault.TheVariants.{Stream};
-ghost use Rattle.workers.specs.Reports.{IsReport, IsSound};
+ghost use Rattle.workers.specs.Reports.{IsListed, IsReport, IsSound};
 
 use crate::fault::Fault;
 use run_text::RunText;
@@ -18,7 +18,7 @@ use std::thread::Threads;
 use std::time::Clock;
 use streams::sink::Sink;
 use streams::stream_fault::StreamFault;
-use workers::{ObjectReport, OpenGate, Report, run_threads};
+use workers::{Keep, ObjectReport, OpenGate, Report, run_threads};
 
 /// A script, and what a run of its threads left.
 #[derive(Drop)]
@@ -41,7 +41,8 @@ impl Model for Ran {
 }
 
 impl Ran {
-    /// Runs the threads of a script to their ends. If they wait for each other, this may never return.
+    /// Runs the threads of a script to their ends. If they wait for each other, this may never return. `keep` says
+    /// what is kept of the answers that no history records.
     ///
     /// # Errors
     ///
@@ -49,11 +50,13 @@ impl Ran {
     pub fn of<T: AllocGlobal + Threads + Wait + Clock + Sync>(
         rt: &T,
         script: Arc<Script>,
+        keep: Keep,
     ) -> Result<Ran, Fault>
         ensures ok { IfOk result (λ ran. ran.script ≡ arc_value script) }
+        ensures listed { IfOk result (λ ran. IsListed keep ran.report.listed) }
         ensures err { IfErr result (IsFaultOfThreads (arc_value script).workers) }
     {
-        let report = run_threads(rt, rt.alloc(), &*script, &OpenGate)?;
+        let report = run_threads(rt, rt.alloc(), &*script, &OpenGate, keep)?;
         Ok(Ran { script, report })
     }
 
@@ -79,7 +82,8 @@ impl Ran {
         Some((name.as_str(), part))
     }
 
-    /// Writes the run text. Returns the exit status, which is 0, since each history is legal.
+    /// Writes the run text, with a line for each answer that is listed. Returns the exit status, which is 0, since
+    /// each history is legal.
     ///
     /// # Errors
     ///

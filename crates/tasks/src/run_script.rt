@@ -19,7 +19,7 @@ use streams::rest::read_all;
 use streams::sink::Sink;
 use streams::source::Source;
 use streams::stream_fault::StreamFault;
-use workers::{ObjectReport, OpenGate, run_threads};
+use workers::{Keep, ObjectReport, OpenGate, run_threads};
 
 /// Returns the script that a source has. It is read to its end.
 pub fn script_of<R: Source>(alloc: Global, reader: &mut R) -> Result<Script, Fault>
@@ -69,7 +69,7 @@ pub fn run_script<T: AllocGlobal + Threads + Wait + Clock + Sync, R: Source, W: 
 {
     let alloc = rt.alloc();
     let script = script_of(alloc, reader)?;
-    let report = run_threads(rt, alloc, &script, &OpenGate)?;
+    let report = run_threads(rt, alloc, &script, &OpenGate, Keep::Count)?;
     let status = status_of(&report.objects);
     let text = RunText::of(alloc, &script, report)?;
     match text.write(writer) {

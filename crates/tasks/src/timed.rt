@@ -16,7 +16,7 @@ use std::sync::{Arc, Wait};
 use std::thread::Threads;
 use std::time::Clock;
 use streams::sink::Sink;
-use workers::{Outcome, run_threads_within};
+use workers::{Keep, Outcome, run_threads_within};
 
 /// How a run for a limited time went.
 #[derive(Drop)]
@@ -36,11 +36,12 @@ pub fn run_within<T: AllocGlobal + Threads + Wait + Clock + Sync + Send + Copy +
     rt: &T,
     script: Arc<Script>,
     milliseconds: u32,
+    keep: Keep,
 ) -> Result<Timed, Fault>
-    ensures timed { IfOk result (IsTimed milliseconds (arc_value script)) }
+    ensures timed { IfOk result (IsTimed milliseconds keep (arc_value script)) }
     ensures err { IfErr result (IsFaultOfTimed (arc_value script).workers) }
 {
-    match run_threads_within(rt, rt.alloc(), &script, milliseconds)? {
+    match run_threads_within(rt, rt.alloc(), &script, milliseconds, keep)? {
         Outcome::Ended(report) => Ok(Timed::Ended(Ran::made(script, report))),
         Outcome::Late(standings) => {
             let text = standing_text(rt.alloc(), milliseconds, &*script, &standings)?;

@@ -16,7 +16,7 @@ use std::thread::Threads;
 use std::time::Clock;
 use test_support::memory::Memory;
 use workers::RunFault::{Memory as NoMemory, NotStarted};
-use workers::{Gate, OpenGate, RunFault, run_threads};
+use workers::{Gate, Keep, OpenGate, RunFault, run_threads};
 
 /// The stack of a thread fits in a piece of this size.
 const WIDE: usize = 1 << 24;
@@ -40,7 +40,7 @@ fn ended<G: Gate + Sync, R: Threads + Wait + Clock + AllocGlobal + Sync>(
     script: &Script,
     gate: &G,
 ) -> Result<(u64, u64), RunFault> {
-    let report = run_threads(rt, rt.alloc(), script, gate)?;
+    let report = run_threads(rt, rt.alloc(), script, gate, Keep::Count)?;
     match report.objects.first() {
         Some(part) => Ok((part.share, report.unrecorded)),
         None => Ok((0, 0)),

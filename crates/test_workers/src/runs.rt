@@ -9,7 +9,7 @@ use std::sync::Wait;
 use std::thread::Threads;
 use std::time::Clock;
 use streams::device::Device;
-use workers::{Gate, RunFault, run_threads};
+use workers::{Gate, Keep, RunFault, run_threads};
 
 /// Runs the script of a text, and writes the run text over what was there. Returns the fault if there is
 /// none.
@@ -21,7 +21,7 @@ pub fn run<G: Gate + Sync, R: Abort + Threads + Wait + Clock + AllocGlobal + Syn
 ) -> Option<RunFault> {
     written.clear();
     let script = read_script(rt.alloc(), text.as_bytes()).expect(rt, "a script");
-    let report = match run_threads(rt, rt.alloc(), &script, gate) {
+    let report = match run_threads(rt, rt.alloc(), &script, gate, Keep::Each) {
         Ok(report) => report,
         Err(fault) => return Some(fault),
     };

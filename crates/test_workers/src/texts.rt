@@ -15,7 +15,7 @@ use tasks::fault::Fault;
 use tasks::run_script::run_script;
 use test_support::memory::Memory;
 use test_support::watch::Watch;
-use workers::{OpenGate, RunFault, run_threads};
+use workers::{Keep, OpenGate, RunFault, run_threads};
 
 /// The calls of one thread at an object of each kind. Two of their results aren't recorded. Each object
 /// except the last is trimmed.
@@ -38,6 +38,9 @@ const WRITTEN: &str = "object a\naqs-history 2 lock fair seats 1 conditions 1 ca
     legal\nbase 1\nentries 1\ncalls 1\ncount 2 line 0\nshares 1\n\
     object d\naqs-history 1 rw nonfair seats 1 conditions 0 cap 16\n0 0 got s 1\nend 1 1\n\
     legal\nentries 1\ncalls 1\nholds x 0 s 1 line 0 sleepers 0\nshares 1\nunrecorded 2\n";
+
+/// The lines of the answers that no history records.
+const LISTED: &str = "thread 0 call 8 BadAmount a give x 2\nthread 0 call 13 WrongMode d drain\n";
 
 /// More bytes than are ever written.
 const PLACES: usize = 4096;
@@ -133,7 +136,7 @@ const FREE: usize = 64;
 /// Returns the run text of the script, which is still to be written.
 fn run_text<R: Abort + Threads + Wait + Clock + AllocGlobal + Sync>(rt: &R) -> RunText {
     let script = read_script(rt.alloc(), SCRIPT.as_bytes()).expect(rt, "a script");
-    let report = run_threads(rt, rt.alloc(), &script, &OpenGate).expect(rt, "a run");
+    let report = run_threads(rt, rt.alloc(), &script, &OpenGate, Keep::Each).expect(rt, "a run");
     RunText::of(rt.alloc(), &script, report).expect(rt, "memory")
 }
 
@@ -142,6 +145,6 @@ fn a_run_text_is_written_in_no_memory_though_there_is_some(rt: HostRuntime) {
     let text = run_text(&rt);
     let mut watch = Watch::open(rt.alloc(), FREE).expect(&rt, "memory");
     let end = text.write(&mut Device::new(&mut watch));
-    assert!(rt; end.is_ok() && watch.written() == WRITTEN.len());
+    assert!(rt; end.is_ok() && watch.written() == WRITTEN.len() + LISTED.len());
     assert_eq!(rt; watch.missed(), 0);
 }

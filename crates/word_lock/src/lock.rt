@@ -343,3 +343,6 @@ impl<T: Chronicle> WordLock<T> {
         }
     }
 }
+
+#[cfg(test)]
+mod tests;

@@ -27,9 +27,6 @@ use std::sync::atomic::{AtomicU64, Ordering};
 
 const WAKE: u64 = 1;
 
-// The bits of the wakes.
-const WAKES: u64 = 0xffff_ffff;
-
 const ON_THE_WAY: u64 = 1 << 32;
 
 const ENLISTED: u64 = 1 << 33;
@@ -39,6 +36,17 @@ const ENLISTED: u64 = 1 << 33;
 pub(crate) struct Enlisted {
     // how many wakes were sent as it enlisted
     wakes: u32,
+}
+
+impl Enlisted {
+    // What the step that enlisted a thread found in the word. The thread may have been enlisted before.
+    fn at(found: u64, before: Option<Enlisted>) -> Enlisted
+        ensures { result.wakes ≡ wakes found }
+    {
+        if let Some(Enlisted { wakes: _ }) = before {}
+        let wakes = (found % ON_THE_WAY) as u32;
+        Enlisted { wakes }
+    }
 }
 
 #[derive(Drop)]
@@ -60,11 +68,9 @@ impl Sleepers {
 
     /// Enlists a thread. It may have been enlisted before.
     pub(crate) fn enlist(&self, before: Option<Enlisted>) -> Enlisted {
-        let was = self.word.fetch_add(ENLISTED, Ordering::SeqCst);
+        let enlisted = Enlisted::at(self.word.fetch_add(ENLISTED, Ordering::SeqCst), before);
         self.clear();
-        if let Some(Enlisted { wakes: _ }) = before {}
-        let wakes = (was & WAKES) as u32;
-        Enlisted { wakes }
+        enlisted
     }
 
     /// Sleeps until the number of wakes has changed. It may return early.
@@ -118,3 +124,6 @@ pub(crate) fn pause(n: u32) {
         own.fetch_add(1, Ordering::SeqCst);
     }
 }
+
+#[cfg(test)]
+pub(crate) mod tests;

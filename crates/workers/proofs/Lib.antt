@@ -1,6 +1,7 @@
 mod Closed
 pub mod Columns
 mod Dealing
+mod Keeping
 mod Objects
 mod Passing
 mod Settling

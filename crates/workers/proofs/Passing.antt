@@ -1,7 +1,9 @@
 -- The passes of a worker after its calls.
-use Rattle.std.proofs.Common.{◌≡◌, ℕ, zero, suc, ◌+◌, ◌<◌, List, [], ◌∷◌, ◌++◌, length, map, reverse, take, refl, ap, sym, subst, arith, ◌∙◌, get_or, set}
-use Rattle.std.proofs.lemmas.List.{length-map, reverse-append, take_more}
+use Rattle.std.proofs.Common.{◌≡◌, ℕ, zero, suc, ◌+◌, ◌*◌, ◌<◌, List, [], ◌∷◌, ◌++◌, length, map, reverse, take, Option, refl, ap, sym, subst, arith, ◌∙◌, get_or, set}
+use Rattle.std.proofs.lemmas.List.{append-nil, append_assoc, length-append, length-map, length-reverse, length-take-le, reverse-append, take_more}
 use Rattle.std.proofs.lemmas.Option.{slice_get_read}
+use Rattle.std.proofs.Math.Nat.{suc-mul, zero-mul}
+use Rattle.history.specs.declared.fault.Fault.{Fault}
 use Rattle.monitor.specs.Shown.{Shown, IsSound}
 use Rattle.monitor.specs.Stepping.{IsSame}
 use Rattle.script.specs.declared.action.Action.{Action}
@@ -9,7 +11,8 @@ use Rattle.script.specs.declared.call.Call.{Call}
 use Rattle.script.specs.declared.call.Call.TheVariants.{On}
 use Rattle.word_lock.specs.Ticket.{LockId}
 use Rattle.workers.specs.declared.reply.Reply.{Reply}
-use Rattle.workers.specs.Calls.{IsActed, IsCalled, Made, rounds, unrecorded_by}
+use Rattle.workers.specs.declared.unrecorded.Unrecorded.{Unrecorded}
+use Rattle.workers.specs.Calls.{IsActed, IsCalled, Made, fault_of, rounds, unrecorded_by}
 use Rattle.workers.specs.inner.Homes.{homes, home_of, lock_of}
 
 -- one pass that is of the same monitor and seat
@@ -25,9 +28,9 @@ set_homes (p ∷ ps) (suc k) was now below at same =
 pub acts_on : (call : Call) (place : ℕ) (action : Action) (ps : List Shown) (was now : Shown)
     (reply : Reply) (seats : ℕ) → call ≡ On place action → place < length ps → was ≡ get_or ps place was →
     IsActed seats action was reply now → IsSame was now → IsSound now →
-    IsCalled call ps (unrecorded_by reply) (set ps place now)
+    IsCalled call ps (fault_of reply) (set ps place now)
 acts_on call place action ps was now reply seats is below at acted same shows =
-    subst (λ (z : Call). IsCalled z ps (unrecorded_by reply) (set ps place now)) (sym is) record {
+    subst (λ (z : Call). IsCalled z ps (fault_of reply) (set ps place now)) (sym is) record {
       before = was;
       there = slice_get_read ps (length ps) place was refl below at;
       reply = reply;
@@ -59,38 +62,76 @@ pub same_locks : (ps qs : List Shown) → homes ps ≡ homes qs → map lock_of 
 same_locks ps qs same = locks_are ps ∙ ap locks_of same ∙ sym (locks_are qs)
 
 -- one call more
-pub made_more : (done : List Call) (call : Call) (old : List Shown) (u : ℕ) (between : List Shown) (v : ℕ)
-    (new : List Shown) → Made (reverse done) old u between → IsCalled call between v new →
-    Made (reverse (done ++ call ∷ [])) old (u + v) new
-made_more done call old u between v new made called =
-    subst (λ (z : List Call). Made z old (u + v) new) (sym (reverse-append done (call ∷ [])))
-    (between, u, v, made, called, refl)
+pub made_more : (thread first : ℕ) (done : List Call) (call : Call) (old : List Shown) (before : List Unrecorded)
+    (between : List Shown) (fault : Option Fault) (new : List Shown) →
+    Made thread first (reverse done) old before between → IsCalled call between fault new →
+    Made thread first (reverse (done ++ call ∷ [])) old
+    (before ++ unrecorded_by thread (first + length done) call fault) new
+made_more thread first done call old before between fault new made called =
+    let all = before ++ unrecorded_by thread (first + length done) call fault in
+    let number : first + length done ≡ first + length (reverse done) =
+    ap (λ (n : ℕ). first + n) (sym (length-reverse done)) in
+    subst (λ (z : List Call). Made thread first z old all new) (sym (reverse-append done (call ∷ [])))
+    (between, before, fault, made, called, ap (λ (n : ℕ). before ++ unrecorded_by thread n call fault) number)
 
 -- calls after calls
-pub made_both : (later earlier : List Call) (old : List Shown) (u : ℕ) (between : List Shown) (v : ℕ)
-    (new : List Shown) → Made earlier old u between → Made later between v new →
-    Made (later ++ earlier) old (u + v) new
-made_both [] earlier old u between v new first (same, none) =
-    subst (λ (z : List Shown). Made earlier old (u + v) z) (sym same)
-    (subst (λ (z : ℕ). Made earlier old z between) (omega (arith, none)) first)
-made_both (call ∷ later) earlier old u between v new first (there, w, x, made, called, sum) =
-    (there, u + w, x, made_both later earlier old u between w there first made, called, omega (arith, sum))
+pub made_both : (thread first : ℕ) (later earlier : List Call) (old : List Shown) (x : List Unrecorded)
+    (between : List Shown) (y : List Unrecorded) (new : List Shown) →
+    Made thread first earlier old x between → Made thread (first + length earlier) later between y new →
+    Made thread first (later ++ earlier) old (x ++ y) new
+made_both thread first [] earlier old x between y new made (same, none) =
+    subst (λ (z : List Shown). Made thread first earlier old (x ++ y) z) (sym same)
+    (subst (λ (z : List Unrecorded). Made thread first earlier old z between)
+    (sym (ap (λ (z : List Unrecorded). x ++ z) none ∙ append-nil x)) made)
+made_both thread first (call ∷ later) earlier old x between y new made (there, z, fault, rest, called, sum) =
+    let lengths = length-append later earlier in
+    let number : first + length earlier + length later ≡ first + length (later ++ earlier) =
+    omega (arith, lengths) in (
+      there,
+      x ++ z,
+      fault,
+      made_both thread first later earlier old x between z there made rest,
+      called,
+      ap (λ (l : List Unrecorded). x ++ l) (sum ∙ ap (λ (n : ℕ). z ++ unrecorded_by thread n call fault) number)
+          ∙ sym (append_assoc x z (unrecorded_by thread (first + length (later ++ earlier)) call fault)),
+    )
+
+rounds_length : (n : ℕ) (calls : List Call) → length (rounds n calls) ≡ n * length calls
+rounds_length zero calls = sym (zero-mul (length calls))
+rounds_length (suc n) calls =
+    let both = length-append (reverse calls) (rounds n calls) in
+    let one = length-reverse calls in
+    let before = rounds_length n calls in
+    let more = suc-mul n (length calls) in
+    omega (arith, both, one, before, more)
 
 -- one round more
-pub rounds_more : (n : ℕ) (calls made : List Call) (old : List Shown) (u : ℕ) (between : List Shown) (v : ℕ)
-    (new : List Shown) → made ≡ calls → Made (rounds n calls) old u between →
-    Made (reverse made) between v new → Made (rounds (n + 1) calls) old (u + v) new
-rounds_more n calls made old u between v new is first round =
+pub rounds_more : (thread n first : ℕ) (calls made : List Call) (old : List Shown) (x : List Unrecorded)
+    (between : List Shown) (y : List Unrecorded) (new : List Shown) → made ≡ calls → first ≡ n * length calls →
+    Made thread 0 (rounds n calls) old x between → Made thread first (reverse made) between y new →
+    Made thread 0 (rounds (n + 1) calls) old (x ++ y) new
+rounds_more thread n first calls made old x between y new is number before round =
     let up : suc n ≡ n + 1 = omega arith in
-    subst (λ (z : ℕ). Made (rounds z calls) old (u + v) new) up
-    (made_both (reverse calls) (rounds n calls) old u between v new first
-    (subst (λ (z : List Call). Made (reverse z) between v new) is round))
+    let all = rounds_length n calls in
+    let at : first ≡ 0 + length (rounds n calls) = omega (arith, number, all) in
+    subst (λ (z : ℕ). Made thread 0 (rounds z calls) old (x ++ y) new) up
+    (made_both thread 0 (reverse calls) (rounds n calls) old x between y new before
+    (subst (λ (z : ℕ). Made thread z (reverse calls) between y new) at
+    (subst (λ (z : List Call). Made thread first (reverse z) between y new) is round)))
 
 -- the call at a place
-pub made_next : (calls : List Call) (k : ℕ) (d : Call) (old : List Shown) (u : ℕ)
-    (between : List Shown) (v : ℕ)
-    (new : List Shown) → k < length calls → Made (reverse (take k calls)) old u between →
-    IsCalled (get_or calls k d) between v new → Made (reverse (take (k + 1) calls)) old (u + v) new
-made_next calls k d old u between v new below made called =
-    subst (λ (z : List Call). Made (reverse z) old (u + v) new) (sym (take_more calls k d below))
-    (made_more (take k calls) (get_or calls k d) old u between v new made called)
+pub made_next : (thread first : ℕ) (calls : List Call) (k number : ℕ) (d : Call) (old : List Shown)
+    (x : List Unrecorded) (between : List Shown) (fault : Option Fault) (new : List Shown) → k < length calls →
+    number ≡ first + k → Made thread first (reverse (take k calls)) old x between →
+    IsCalled (get_or calls k d) between fault new →
+    Made thread first (reverse (take (k + 1) calls)) old
+    (x ++ unrecorded_by thread number (get_or calls k d) fault) new
+made_next thread first calls k number d old x between fault new below is made called =
+    let call = get_or calls k d in
+    let long = length-take-le k calls (omega (arith, below)) in
+    let at : first + length (take k calls) ≡ number = omega (arith, long, is) in
+    subst (λ (n : ℕ). Made thread first (reverse (take (k + 1) calls)) old
+    (x ++ unrecorded_by thread n call fault) new) at
+    (subst (λ (z : List Call). Made thread first (reverse z) old
+    (x ++ unrecorded_by thread (first + length (take k calls)) call fault) new) (sym (take_more calls k d below))
+    (made_more thread first (take k calls) call old x between fault new made called))

@@ -1,17 +1,20 @@
 -- What all workers leave.
-use Rattle.std.proofs.Common.{◌≡◌, ℕ, suc, ◌+◌, ◌*◌, ◌<◌, ◌≤◌, ◌⊎◌, Bool, true, List, [], ◌∷◌, length, Ok, Err, Result, ap, sym, subst, arith, ◌∙◌, inl, inr, ⊎_elim, get_or}
+use Rattle.std.proofs.Common.{◌≡◌, ℕ, suc, ◌+◌, ◌*◌, ◌<◌, ◌≤◌, ◌⊎◌, Bool, true, List, [], ◌∷◌, ◌++◌, length, IfOk, Ok, Err, Result, refl, ap, sym, subst, arith, ◌∙◌, inl, inr, ⊎_elim, get_or}
 use Rattle.std.proofs.lemmas.Option.{same_Some}
 use Rattle.std.proofs.Math.Nat.{eq-or-lt_of_le, mul-le-mul_right, suc-mul}
 use Rattle.monitor.specs.Shown.{Shown}
 use Rattle.script.specs.Script.{WorkerView}
 use Rattle.workers.specs.declared.fault.RunFault.{RunFault}
 use Rattle.workers.specs.declared.fault.RunFault.TheVariants.{Memory, GateShut, NotStarted}
+use Rattle.workers.specs.declared.kept.Kept.{Kept}
+use Rattle.workers.specs.declared.unrecorded.Unrecorded.{Unrecorded}
 use Rattle.workers.specs.declared.work.Worked.{Worked}
 use Rattle.workers.specs.Calls.{Made, rounds}
 use Rattle.workers.specs.Reports.{AllMade}
 use Rattle.workers.specs.Refused.{WasRefused}
 use Rattle.workers.specs.Gates.{IsFaultOfRun, LetsAll, LetsBelow, StopsBelow, StopsFirst, calls_of}
-use Rattle.workers.specs.inner.Results.{AddUp, Ends, HasStopped, HasWorked, WorksAt, passes_left}
+use Rattle.workers.specs.inner.Keeping.{HaveKept, IsKept}
+use Rattle.workers.specs.inner.Results.{Ends, HasStopped, HasWorked, HaveEnded, WorksAt, passes_left}
 
 -- the results of all workers, of which the first has this seat
 abbrev pub AllWorked : (ℕ → ℕ → Bool → Type 0) → ℕ → List WorkerView → List (List Shown) → List Worked →
@@ -69,40 +72,55 @@ all_worked answers seat (w ∷ ws) (old ∷ olds) (done ∷ dones) rows worked e
 )
 
 ended_well : (answers : ℕ → ℕ → Bool → Type 0) (seat : ℕ) (w : WorkerView) (old : List Shown)
-    (ended : Result ℕ RunFault) (new : List Shown) (u : ℕ) → ended ≡ Ok u →
+    (ended : Result Kept RunFault) (new : List Shown) (kept : Kept) → ended ≡ Ok kept →
     Ends answers seat w old ended new →
-    Made (rounds w.repeat w.calls) old u new × LetsBelow answers seat (calls_of w)
-ended_well answers seat w old ended new u is ends =
-    subst (λ (z : Result ℕ RunFault). Ends answers seat w old z new) is ends
+    ((its : List Unrecorded) × IsKept kept its × Made seat 0 (rounds w.repeat w.calls) old its new)
+    × LetsBelow answers seat (calls_of w)
+ended_well answers seat w old ended new kept is ends =
+    subst (λ (z : Result Kept RunFault). Ends answers seat w old z new) is ends
+
+-- what all workers made and kept
+abbrev pub AllKept : ℕ → List WorkerView → List (List Shown) → List Worked → List Unrecorded → Type 0
+AllKept seat ws olds dones answers =
+    HaveKept dones answers × AllMade seat ws olds (passes_left dones) answers
+
+one_more : (seat : ℕ) (w : WorkerView) (ws : List WorkerView) (old : List Shown) (olds : List (List Shown))
+    (done : Worked) (dones : List Worked) (kept : Kept) (its : List Unrecorded) → done.ended ≡ Ok kept →
+    IsKept kept its → Made seat 0 (rounds w.repeat w.calls) old its done.passes →
+    ((others : List Unrecorded) × AllKept (suc seat) ws olds dones others) →
+    (answers : List Unrecorded) × AllKept seat (w ∷ ws) (old ∷ olds) (done ∷ dones) answers
+one_more seat w ws old olds done dones kept its ended is made (others, (have, all)) = (
+  its ++ others,
+  (
+    (its, others, subst (λ (z : Result Kept RunFault). IfOk z (λ k. IsKept k its)) (sym ended) is, have, refl),
+    (its, others, made, all, refl),
+  ),
+)
 
 pub all_made : (answers : ℕ → ℕ → Bool → Type 0) (seat : ℕ) (ws : List WorkerView) (olds : List (List Shown))
-    (dones : List Worked) (u : ℕ) → AllWorked answers seat ws olds dones → AddUp dones u →
-    AllMade ws olds (passes_left dones) u
-all_made answers seat [] [] [] u worked sum = sum
-all_made answers seat [] [] (done ∷ dones) u worked sum = absurd worked
-all_made answers seat [] (old ∷ olds) dones u worked sum = absurd worked
-all_made answers seat (w ∷ ws) [] dones u worked sum = absurd worked
-all_made answers seat (w ∷ ws) (old ∷ olds) [] u worked sum = absurd worked
-all_made answers seat (w ∷ ws) (old ∷ olds) (done ∷ dones) u (first, rest) (v, x, ended, others, sum) = (
-  v,
-  x,
-  (ended_well answers seat w old done.ended done.passes v ended first.ended).0,
-  all_made answers (suc seat) ws olds dones x rest others,
-  sum,
-)
+    (dones : List Worked) → AllWorked answers seat ws olds dones → HaveEnded dones →
+    (unrecorded : List Unrecorded) × AllKept seat ws olds dones unrecorded
+all_made answers seat [] [] [] worked ended = ([], (refl, refl))
+all_made answers seat [] [] (done ∷ dones) worked ended = absurd worked
+all_made answers seat [] (old ∷ olds) dones worked ended = absurd worked
+all_made answers seat (w ∷ ws) [] dones worked ended = absurd worked
+all_made answers seat (w ∷ ws) (old ∷ olds) [] worked ended = absurd worked
+all_made answers seat (w ∷ ws) (old ∷ olds) (done ∷ dones) (first, rest) ((kept, is), others) =
+    let its = (ended_well answers seat w old done.ended done.passes kept is first.ended).0 in
+    one_more seat w ws old olds done dones kept its.0 is its.1 its.2
+    (all_made answers (suc seat) ws olds dones rest others)
 
 -- the gate stopped no worker
 pub all_let : (answers : ℕ → ℕ → Bool → Type 0) (seat : ℕ) (ws : List WorkerView) (olds : List (List Shown))
-    (dones : List Worked) (u : ℕ) → AllWorked answers seat ws olds dones → AddUp dones u →
-    LetsAll answers seat ws
-all_let answers seat [] [] [] u worked sum = tt
-all_let answers seat [] [] (done ∷ dones) u worked sum = absurd worked
-all_let answers seat [] (old ∷ olds) dones u worked sum = absurd worked
-all_let answers seat (w ∷ ws) [] dones u worked sum = absurd worked
-all_let answers seat (w ∷ ws) (old ∷ olds) [] u worked sum = absurd worked
-all_let answers seat (w ∷ ws) (old ∷ olds) (done ∷ dones) u (first, rest) (v, x, ended, others, sum) = (
-  (ended_well answers seat w old done.ended done.passes v ended first.ended).1,
-  all_let answers (suc seat) ws olds dones x rest others,
+    (dones : List Worked) → AllWorked answers seat ws olds dones → HaveEnded dones → LetsAll answers seat ws
+all_let answers seat [] [] [] worked ended = tt
+all_let answers seat [] [] (done ∷ dones) worked ended = absurd worked
+all_let answers seat [] (old ∷ olds) dones worked ended = absurd worked
+all_let answers seat (w ∷ ws) [] dones worked ended = absurd worked
+all_let answers seat (w ∷ ws) (old ∷ olds) [] worked ended = absurd worked
+all_let answers seat (w ∷ ws) (old ∷ olds) (done ∷ dones) (first, rest) ((kept, is), others) = (
+  (ended_well answers seat w old done.ended done.passes kept is first.ended).1,
+  all_let answers (suc seat) ws olds dones rest others,
 )
 
 -- why the first that stopped did, of workers from a seat on
@@ -137,7 +155,7 @@ stopped_from answers seat (w ∷ ws) [] dones fault worked stopped = absurd work
 stopped_from answers seat (w ∷ ws) (old ∷ olds) [] fault worked stopped = absurd worked
 stopped_from answers seat (w ∷ ws) (old ∷ olds) (done ∷ dones) fault (first, rest) (inl ended) =
     first_stops_for answers seat w ws old fault done.passes
-    (subst (λ (z : Result ℕ RunFault). Ends answers seat w old z done.passes) ended first.ended)
+    (subst (λ (z : Result Kept RunFault). Ends answers seat w old z done.passes) ended first.ended)
 stopped_from answers seat (w ∷ ws) (old ∷ olds) (done ∷ dones) fault (first, rest) (inr (v, ended, others)) =
     later_stops_for answers seat w ws fault
     (ended_well answers seat w old done.ended done.passes v ended first.ended).1

@@ -1,5 +1,5 @@
 -- The report of a run.
-use Rattle.std.specs.Prelude.{◌≡◌, ℕ, ◌+◌, zero, suc, Bool, true, false, List, [], ◌∷◌, All, map, length, replicate}
+use Rattle.std.specs.Prelude.{◌≡◌, ℕ, zero, suc, Bool, true, false, Option, None, IfSome, IsSome, List, [], ◌∷◌, ◌++◌, All, map, length, replicate}
 use Rattle.audit.specs.declared.verdict.Judgement.{Judgement}
 use Rattle.audit.specs.declared.verdict.Judgement.TheVariants.{Legal, NotLegal}
 use Rattle.audit.specs.Totals.{totals_of}
@@ -14,6 +14,9 @@ use Rattle.script.specs.Script.{ScriptView, WorkerView}
 use Rattle.word_lock.specs.Ticket.{LockId}
 use Rattle.workers.specs.declared.report.ObjectReport.{ObjectReport}
 use Rattle.workers.specs.declared.report.Report.{Report}
+use Rattle.workers.specs.declared.unrecorded.Keep.{Keep}
+use Rattle.workers.specs.declared.unrecorded.Keep.TheVariants.{Count, Each}
+use Rattle.workers.specs.declared.unrecorded.Unrecorded.{Unrecorded}
 use Rattle.workers.specs.Calls.{Made, rounds}
 use Rattle.workers.specs.Rows.{dealt}
 
@@ -56,12 +59,15 @@ abbrev pub opening_rows : List LockId → ℕ → ℕ → List (List Shown)
 opening_rows locks seat zero = []
 opening_rows locks seat (suc n) = opening_row locks seat ∷ opening_rows locks (suc seat) n
 
--- the calls of each worker turned its opening row into its row, and u results weren't recorded
-abbrev pub AllMade : List WorkerView → List (List Shown) → List (List Shown) → ℕ → Type 0
-AllMade [] [] [] u = u ≡ 0
-AllMade (w ∷ ws) (old ∷ olds) (new ∷ news) u =
-    (v : ℕ) × (x : ℕ) × Made (rounds w.repeat w.calls) old v new × AllMade ws olds news x × (u ≡ v + x)
-AllMade _ _ _ u = ⊥
+-- The calls of each worker turned its opening row into its row, and these are the answers that no history records.
+-- The first worker has this number.
+abbrev pub AllMade : ℕ → List WorkerView → List (List Shown) → List (List Shown) → List Unrecorded → Type 0
+AllMade thread [] [] [] answers = answers ≡ []
+AllMade thread (w ∷ ws) (old ∷ olds) (new ∷ news) answers =
+    (its : List Unrecorded) × (others : List Unrecorded)
+    × Made thread 0 (rounds w.repeat w.calls) old its new
+    × AllMade (suc thread) ws olds news others × (answers ≡ its ++ others)
+AllMade thread _ _ _ answers = ⊥
 
 -- rows added to columns: each row adds a pass to each column
 abbrev pub dealt_all : List (List Shown) → List (List Shown) → List (List Shown)
@@ -80,5 +86,13 @@ pub record IsReport (s : ScriptView) (r : Report) : Type 0 where
   pub locks : List LockId
   pub headers : map header_of locks ≡ headers_of s
   pub rows : List (List Shown)
-  pub made : AllMade s.workers (opening_rows locks 0 (length s.workers)) rows r.unrecorded
+  pub answers : List Unrecorded
+  pub made : AllMade 0 s.workers (opening_rows locks 0 (length s.workers)) rows answers
+  pub unrecorded : r.unrecorded ≡ length answers
+  pub listed : IfSome r.listed (λ list. list.items ≡ answers)
   pub parts : AreParts locks (dealt_all rows (replicate (length locks) [])) r.objects.items
+
+-- there is a list of these answers if it is asked for, and else there is none
+abbrev pub IsListed : {A : Type 0} → Keep → Option A → Type 0
+IsListed Count listed = listed ≡ None
+IsListed Each listed = IsSome listed

@@ -1,3 +1,4 @@
 -- What only contracts of private functions cite: no promise of the crate rests on it.
 pub mod Homes
+pub mod Keeping
 pub mod Results

@@ -6,7 +6,8 @@
 //! first call before all threads are started.
 //!
 //! When all have ended, each object is closed. The [`Report`] has what closing returns. Each history is
-//! proved to be legal, so none is audited.
+//! proved to be legal, so none is audited. [`Keep`] says whether the report also lists the answers that no history
+//! records.
 //!
 //! [`run_threads_within`] waits for the end at most a given time. After that it returns how each thread stands: how
 //! many of its calls have ended, whether it waits, and what it holds.
@@ -22,6 +23,7 @@
 mod act;
 mod fault;
 mod gate;
+mod kept;
 mod notes;
 mod opened;
 mod passes;
@@ -32,6 +34,7 @@ mod run;
 mod standing;
 mod start;
 mod threads;
+mod unrecorded;
 mod within;
 mod work;
 
@@ -40,4 +43,5 @@ pub use gate::{Gate, OpenGate};
 pub use report::{ObjectReport, Report};
 pub use run::run_threads;
 pub use standing::{Held, Standing};
+pub use unrecorded::{Keep, Unrecorded};
 pub use within::{Outcome, run_threads_within};

@@ -1,6 +1,6 @@
 //! What a call of a worker returns.
 ghost use Rattle.std.specs.Prelude.{◌≡◌};
-ghost use Rattle.workers.specs.Calls.{unrecorded_by};
+ghost use Rattle.workers.specs.Calls.{fault_of};
 
 use history::entry::Entry;
 use history::fault::Fault;
@@ -15,15 +15,15 @@ pub(crate) enum Reply {
 }
 
 impl Reply {
-    /// Returns how many results aren't recorded: 1 for a fault, else 0.
-    pub(crate) fn unrecorded(&self) -> u64
-        ensures { result ≡ unrecorded_by self.now }
+    /// Returns what isn't recorded: a fault alone.
+    pub(crate) fn fault(&self) -> Option<Fault>
+        ensures { result ≡ fault_of self.now }
     {
         match self {
-            Reply::Entered(Ok(_)) => 0,
-            Reply::Entered(Err(_)) => 1,
-            Reply::Trimmed(Ok(_)) => 0,
-            Reply::Trimmed(Err(_)) => 1,
+            Reply::Entered(Ok(_)) => None,
+            Reply::Entered(Err(fault)) => Some(*fault),
+            Reply::Trimmed(Ok(_)) => None,
+            Reply::Trimmed(Err(fault)) => Some(*fault),
         }
     }
 }

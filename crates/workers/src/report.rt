@@ -3,6 +3,7 @@
 ghost use Rattle.std.specs.Prelude.{◌≡◌};
 ghost use Rattle.workers.specs.Reports.{is_legal};
 
+use crate::unrecorded::Unrecorded;
 use audit::verdict::Judgement;
 use history::entries::History;
 use history::header::Header;
@@ -26,6 +27,8 @@ pub struct Report {
     pub objects: Vec<ObjectReport>,
     /// How many calls of all workers returned a fault that no history records.
     pub unrecorded: u64,
+    /// Each of these answers, if the run was to keep them.
+    pub listed: Option<Vec<Unrecorded>>,
 }
 
 impl ObjectReport {

@@ -1,15 +1,18 @@
 //! Running a script.
-ghost use Rattle.std.specs.Prelude.{◌≡◌, ◌<◌, ◌≤◌, ◌⊎◌, [], All, IfErr, IfOk, OnOk, Some, length, map, replicate, slice_get};
+ghost use Rattle.std.specs.Prelude.{◌≡◌, ◌<◌, ◌≤◌, ◌⊎◌, [], List, All, IfErr, IfOk, OnOk, Some, length, map, replicate, slice_get};
 ghost use Rattle.history.specs.Header.{IsInRange};
 ghost use Rattle.script.specs.declared.limits.TheConstants.{MOST_THREADS};
 ghost use Rattle.workers.specs.Gates.{IsFaultOfRun, LetsAll};
-ghost use Rattle.workers.specs.Reports.{AreParts, IsReport, IsSound, dealt_all, header_of, headers_of, opening_rows};
+ghost use Rattle.workers.specs.Reports.{AreParts, IsListed, IsReport, IsSound, dealt_all, header_of, headers_of, opening_rows};
 ghost use Rattle.workers.specs.declared.fault.RunFault.TheVariants.{Memory};
+ghost use Rattle.workers.specs.declared.unrecorded.Unrecorded.{Unrecorded};
 ghost use Rattle.workers.specs.inner.Homes.{HaveColumns};
-ghost use Rattle.workers.specs.inner.Results.{AddUp, HasStopped, most_calls, passes_left};
+ghost use Rattle.workers.specs.inner.Keeping.{HaveKept, IsKept};
+ghost use Rattle.workers.specs.inner.Results.{HasStopped, HaveEnded, most_calls, passes_left};
 
 use crate::fault::RunFault;
 use crate::gate::Gate;
+use crate::kept::Kept;
 use crate::notes::Notes;
 use crate::opened::Opened;
 use crate::passes::{Passes, deal};
@@ -17,6 +20,7 @@ use crate::post::Post;
 use crate::report::{ObjectReport, Report};
 use crate::start::Start;
 use crate::threads::run_all;
+use crate::unrecorded::Keep;
 use crate::work::{Shared, Worked};
 use history::header::Header;
 use permit::ThreadParking;
@@ -67,27 +71,34 @@ fn open_all(alloc: Global, script: &Script) -> Result<(Vec<Opened>, Vec<Passes>)
     Ok((objects, rows))
 }
 
-/// Sorts the passes of the workers into columns, one for each object, and adds up what wasn't recorded. If
+/// Sorts the passes of the workers into columns, one for each object, and puts what they kept together. If
 /// workers stopped, the fault of the first one by number is returned.
-fn settle(worked: Vec<Worked>, columns: &mut Vec<Passes>) -> Result<u64, RunFault>
+fn settle(
+    worked: Vec<Worked>,
+    columns: &mut Vec<Passes>,
+    alloc: Global,
+    keep: Keep,
+) -> Result<Kept, RunFault>
     requires rows { All (λ done. length done.passes ≤ length columns.old.items) worked.items }
-    requires few { All (λ done. IfOk done.ended (λ u. u ≤ most_calls)) worked.items }
+    requires few { All (λ done. IfOk done.ended (λ kept. kept.count ≤ most_calls)) worked.items }
     requires workers { length worked.items ≤ MOST_THREADS }
-    ensures sum { IfOk result (AddUp worked.items) }
+    ensures ended { IfOk result (λ _. HaveEnded worked.items) }
+    ensures kept { IfOk result (λ kept. (answers : List Unrecorded) → HaveKept worked.items answers →
+        IsKept kept answers) }
     ensures columns { OnOk result (columns.new.items
         ≡ dealt_all (passes_left worked.items) columns.old.items) }
     ensures fault { IfErr result (λ fault. (fault ≡ Memory) ⊎ HasStopped fault worked.items) }
 {
-    let mut unrecorded = 0;
+    let mut all = Kept::new(alloc, keep);
     for done in worked {
         let Worked { passes, ended } = done;
         match ended {
-            Ok(count) => unrecorded += count,
+            Ok(kept) => all.join(kept),
             Err(fault) => return Err(fault),
         }
         deal(passes, columns)?;
     }
-    Ok(unrecorded)
+    Ok(all)
 }
 
 /// Closes each object with its column of passes.
@@ -118,9 +129,11 @@ pub(crate) fn run_noted<G: Gate + Sync, R: Threads + Wait + Clock + Sync>(
     alloc: Global,
     script: &Script,
     gate: &G,
+    keep: Keep,
     notes: Option<Arc<Notes>>,
 ) -> Result<Report, RunFault>
     ensures report { IfOk result (IsReport script.now) }
+    ensures listed { IfOk result (λ report. IsListed keep report.listed) }
     ensures sound { IfOk result (λ report. All IsSound report.objects.items) }
     ensures asked { IfOk result (λ _. LetsAll (G.answers gate.now) 0 script.now.workers) }
     ensures fault { IfErr result (IsFaultOfRun (G.answers gate.now) script.now.workers) }
@@ -137,26 +150,27 @@ pub(crate) fn run_noted<G: Gate + Sync, R: Threads + Wait + Clock + Sync>(
         parking,
         objects,
         start,
+        alloc,
+        keep,
     };
     let worked = run_all(rt, alloc, &shared, gate, workers, rows)?;
-    let unrecorded = settle(worked, &mut columns)?;
-    let Shared {
-        parking: _,
-        objects,
-        start: _,
-    } = shared;
+    let kept = settle(worked, &mut columns, alloc, keep)?;
+    let Shared { objects, .. } = shared;
     let objects = close_all(rt, alloc, objects, columns)?;
+    let unrecorded = kept.count;
+    let listed = kept.into_list(keep)?;
     Ok(Report {
         objects,
         unrecorded,
+        listed,
     })
 }
 
 /// Runs a script, with a thread for each worker, and returns the report of all objects.
 ///
 /// No worker makes its first call before all threads are started. `gate` is asked before each call, and
-/// notified after it. A call that returns a fault is counted as unrecorded, and the worker goes on. If
-/// workers wait for each other, this may never return.
+/// notified after it. If a call returns a fault that no history records, the worker goes on. `keep` says what the
+/// report has of such answers. If workers wait for each other, this may never return.
 ///
 /// # Errors
 ///
@@ -164,17 +178,20 @@ pub(crate) fn run_noted<G: Gate + Sync, R: Threads + Wait + Clock + Sync>(
 ///   a call.
 /// - [`RunFault::GateShut`] if the gate refused a call: the first such worker by number. The others ran to
 ///   their ends.
-/// - [`RunFault::Memory`] if an allocation fails, before the calls or after them. No contract says when.
+/// - [`RunFault::Memory`] if an allocation fails, before the calls or after them. No contract says when. If one
+///   for the list of answers fails, the workers make all their calls nevertheless.
 pub fn run_threads<G: Gate + Sync, R: Threads + Wait + Clock + Sync>(
     rt: &R,
     alloc: Global,
     script: &Script,
     gate: &G,
+    keep: Keep,
 ) -> Result<Report, RunFault>
     ensures report { IfOk result (IsReport script.now) }
+    ensures listed { IfOk result (λ report. IsListed keep report.listed) }
     ensures sound { IfOk result (λ report. All IsSound report.objects.items) }
     ensures asked { IfOk result (λ _. LetsAll (G.answers gate.now) 0 script.now.workers) }
     ensures fault { IfErr result (IsFaultOfRun (G.answers gate.now) script.now.workers) }
 {
-    run_noted(rt, alloc, script, gate, None)
+    run_noted(rt, alloc, script, gate, keep, None)
 }

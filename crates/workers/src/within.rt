@@ -11,6 +11,7 @@ use crate::report::Report;
 use crate::run::run_noted;
 use crate::standing::Standing;
 use crate::threads::not_started;
+use crate::unrecorded::Keep;
 use script::Script;
 use std::alloc::Global;
 use std::snapshot::Snapshot;
@@ -32,12 +33,13 @@ pub enum Outcome {
 #[derive(Drop)]
 struct Runs {
     script: Snapshot<Script>,
+    keep: Keep,
 }
 
 impl Promise<Result<Report, RunFault>> for Runs {
     ghost use Rattle.workers.specs.Within.{IsEnd};
 
-    ghost kept_by = { λ p done. IsEnd p.script.value done };
+    ghost kept_by = { λ p done. IsEnd p.script.value p.keep done };
 }
 
 /// Runs a script with notes, and tells whoever waits that it has ended.
@@ -45,12 +47,13 @@ fn run_and_tell<R: Threads + Wait + Clock + Sync>(
     rt: &R,
     alloc: Global,
     script: &Script,
+    keep: Keep,
     notes: &Arc<Notes>,
 ) -> Result<Report, RunFault>
-    ensures { IsEnd script.now result }
+    ensures { IsEnd script.now keep result }
 {
     let ended = match Arc::try_clone(notes) {
-        Ok(theirs) => run_noted(rt, alloc, script, &OpenGate, Some(theirs)),
+        Ok(theirs) => run_noted(rt, alloc, script, &OpenGate, keep, Some(theirs)),
         Err(_) => Err(RunFault::Memory),
     };
     notes.tell_end();
@@ -72,8 +75,9 @@ pub fn run_threads_within<R: Threads + Wait + Clock + Sync + Send + Copy + 'stat
     alloc: Global,
     script: &Arc<Script>,
     milliseconds: u32,
+    keep: Keep,
 ) -> Result<Outcome, RunFault>
-    ensures outcome { IfOk result (IsOutcome (arc_value script.now)) }
+    ensures outcome { IfOk result (IsOutcome (arc_value script.now) keep) }
     ensures fault { IfErr result (IsFaultOfRun lets (arc_value script.now).workers) }
 {
     let notes = Arc::new(alloc, Notes::of(alloc, &**script)?)?;
@@ -82,13 +86,14 @@ pub fn run_threads_within<R: Threads + Wait + Clock + Sync + Send + Copy + 'stat
     let handle = *rt;
     let promise = Runs {
         script: Snapshot::of(&**script),
+        keep,
     };
     let child = thread::spawn_with(
         rt,
         promise,
         move || -> Result<Report, RunFault>
-            ensures { IsEnd (arc_value shared) result }
-        { run_and_tell(&handle, alloc, &*shared, &theirs) },
+            ensures { IsEnd (arc_value shared) keep result }
+        { run_and_tell(&handle, alloc, &*shared, keep, &theirs) },
     );
     let child = match child {
         Ok(child) => child,

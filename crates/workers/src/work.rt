@@ -1,20 +1,26 @@
 //! What a worker does.
-ghost use Rattle.std.specs.Prelude.{◌≡◌, ◌+◌, ◌<◌, ◌≤◌, ◌^◌, All, IfNone, IfOk, IfSome, length, map, reverse};
+ghost use Rattle.std.specs.Prelude.{◌≡◌, ◌+◌, ◌<◌, ◌≤◌, ◌^◌, All, IfNone, IfSome, List, length, map, reverse};
 ghost use Rattle.script.specs.Script.{IsCall, IsWorker};
 ghost use Rattle.workers.specs.Calls.{IsCalled, Made, rounds};
 ghost use Rattle.workers.specs.Gates.{LetsBelow, StopsBelow, calls_of};
+ghost use Rattle.workers.specs.declared.unrecorded.Unrecorded.{Unrecorded};
 ghost use Rattle.workers.specs.inner.Homes.{homes, lock_of};
+ghost use Rattle.workers.specs.inner.Keeping.{Adds, IsKept};
 ghost use Rattle.workers.specs.inner.Results.{HasWorked, most_calls};
 
 use crate::act::act;
 use crate::fault::RunFault;
 use crate::gate::Gate;
+use crate::kept::Kept;
 use crate::opened::Opened;
 use crate::passes::Passes;
 use crate::post::Post;
 use crate::start::Start;
+use crate::unrecorded::Keep;
+use history::fault::Fault;
 use permit::Parking;
 use script::{Call, Worker};
+use std::alloc::Global;
 use std::sync::Wait;
 use std::time::Clock;
 
@@ -24,23 +30,29 @@ pub(crate) struct Shared {
     pub parking: Post,
     pub objects: Vec<Opened>,
     pub start: Start,
+    pub alloc: Global,
+    pub keep: Keep,
 }
 
-/// The result of a worker: its passes, and how many of its results weren't recorded, or why it stopped.
+/// The result of a worker: its passes, and its answers that no history records, or why it stopped.
 #[derive(Drop)]
 pub(crate) struct Worked {
     pub passes: Passes,
-    pub ended: Result<u64, RunFault>,
+    pub ended: Result<Kept, RunFault>,
 }
 
-/// Makes a call, and returns how many results weren't recorded: 1 or 0.
-fn make_call<R: Wait + Clock>(rt: &R, shared: &Shared, passes: &mut Passes, call: Call) -> u64
+/// Makes a call, and returns what no history records: its fault, if it has one.
+fn make_call<R: Wait + Clock>(
+    rt: &R,
+    shared: &Shared,
+    passes: &mut Passes,
+    call: Call,
+) -> Option<Fault>
     requires own { map lock_of passes.old ≡ shared.now.objects.items }
     requires places { All (λ m. m.header.seats ≤ shared.now.parking) shared.now.objects.items }
     requires call { IsCall (length shared.now.objects.items) shared.now.parking call }
     ensures same { homes passes.new ≡ homes passes.old }
     ensures called { IsCalled call passes.old result passes.new }
-    ensures few { result ≤ 1 }
 {
     match call {
         Call::On(place, action) => {
@@ -48,49 +60,51 @@ fn make_call<R: Wait + Clock>(rt: &R, shared: &Shared, passes: &mut Passes, call
             let monitor = shared.objects[place].monitor();
             let reply = act(rt, &shared.parking, monitor, pass, action);
             shared.parking.note_reply(pass.seat(), place, reply);
-            reply.unrecorded()
+            reply.fault()
         }
         Call::Interrupt(thread) => {
             shared.parking.interrupt(thread);
-            0
+            None
         }
     }
 }
 
-/// Makes the calls of one round, which are numbered from `first` on. Returns how many results weren't
-/// recorded, or `None` if the gate refused a call.
+/// Makes the calls of one round, which are numbered from `first` on. Returns `None` if the gate refused a call.
 fn make_round<G: Gate, R: Wait + Clock>(
     rt: &R,
     shared: &Shared,
     gate: &G,
     passes: &mut Passes,
+    kept: &mut Kept,
     seat: u16,
     calls: &[Call],
     first: u64,
-) -> Option<u64>
+) -> Option<()>
     requires own { map lock_of passes.old ≡ shared.now.objects.items }
     requires places { All (λ m. m.header.seats ≤ shared.now.parking) shared.now.objects.items }
     requires calls { All (IsCall (length shared.now.objects.items) shared.now.parking) calls.now }
     requires few { first + length calls.now < 2 ^ 63 }
+    requires kept { kept.old.count + length calls.now < 2 ^ 63 }
     requires asked { LetsBelow (G.answers gate.now) seat first }
     ensures same { homes passes.new ≡ homes passes.old }
-    ensures made { IfSome result (λ u. Made (reverse calls.now) passes.old u passes.new) }
-    ensures few { IfSome result (λ u. u ≤ length calls.now) }
+    ensures made { IfSome result (λ _. (answers : List Unrecorded) × Adds kept.old answers kept.new
+        × Made seat first (reverse calls.now) passes.old answers passes.new) }
+    ensures few { IfSome result (λ _. kept.new.count ≤ kept.old.count + length calls.now) }
     ensures asked { IfSome result (λ _. LetsBelow (G.answers gate.now) seat (first + length calls.now)) }
     ensures shut { IfNone result (StopsBelow (G.answers gate.now) seat (first + length calls.now)) }
 {
     let mut number = first;
-    let mut unrecorded = 0;
     for call in calls {
         if !gate.before(rt, seat, number) {
             return None;
         }
-        unrecorded += make_call(rt, shared, passes, *call);
+        let fault = make_call(rt, shared, passes, *call);
+        kept.add(seat, number, *call, fault);
         shared.parking.note_end(seat, number);
         gate.after(rt, seat, number);
         number += 1;
     }
-    Some(unrecorded)
+    Some(())
 }
 
 /// Makes all calls of a worker, round after round.
@@ -101,25 +115,25 @@ fn make_rounds<G: Gate, R: Wait + Clock>(
     passes: &mut Passes,
     seat: u16,
     worker: &Worker,
-) -> Option<u64>
+) -> Option<Kept>
     requires own { map lock_of passes.old ≡ shared.now.objects.items }
     requires places { All (λ m. m.header.seats ≤ shared.now.parking) shared.now.objects.items }
     requires worker { IsWorker (length shared.now.objects.items) shared.now.parking worker.now }
     ensures same { homes passes.new ≡ homes passes.old }
-    ensures made { IfSome result (λ u.
-        Made (rounds worker.now.repeat worker.now.calls) passes.old u passes.new) }
-    ensures few { IfSome result (λ u. u ≤ most_calls) }
+    ensures made { IfSome result (λ kept. (answers : List Unrecorded) × IsKept kept answers
+        × Made seat 0 (rounds worker.now.repeat worker.now.calls) passes.old answers passes.new) }
+    ensures few { IfSome result (λ kept. kept.count ≤ most_calls) }
     ensures asked { IfSome result (λ _. LetsBelow (G.answers gate.now) seat (calls_of worker.now)) }
     ensures shut { IfNone result (StopsBelow (G.answers gate.now) seat (calls_of worker.now)) }
 {
     let calls = worker.calls();
     let mut first = 0;
-    let mut unrecorded = 0;
+    let mut kept = Kept::new(shared.alloc, shared.keep);
     for _ in 0..worker.repeat() {
-        unrecorded += make_round(rt, shared, gate, passes, seat, calls, first)?;
+        make_round(rt, shared, gate, passes, &mut kept, seat, calls, first)?;
         first += calls.len() as u64;
     }
-    Some(unrecorded)
+    Some(kept)
 }
 
 /// Waits for the start, and then makes all calls of a worker.
@@ -142,7 +156,7 @@ pub(crate) fn work<G: Gate, R: Wait + Clock>(
         return Worked { passes, ended };
     }
     let ended = match make_rounds(rt, shared, gate, &mut passes, seat, worker) {
-        Some(unrecorded) => Ok(unrecorded),
+        Some(kept) => Ok(kept),
         None => Err(RunFault::GateShut(seat)),
     };
     Worked { passes, ended }

@@ -1,13 +1,13 @@
 //! The mutex as those who know std's or parking_lot's expect it.
 
+mod support;
+
 use aqs::{Condvar, Error, MappedMutexGuard, Mutex, MutexGuard, Options, Thread};
 use std::sync::atomic::{AtomicU32, Ordering};
 use std::sync::Arc;
 use std::time::{Duration, Instant};
 use std::{panic, thread};
-
-const SHORT: Duration = Duration::from_millis(10);
-const LONG: Duration = Duration::from_secs(30);
+use support::{until, LONG, SHORT};
 
 #[derive(Debug, PartialEq, Eq)]
 struct Only(i32);
@@ -168,7 +168,7 @@ fn times_may_be_as_long_as_durations() {
             let mutex = &mutex;
             scope.spawn(move || *mutex.try_lock_for(time).unwrap() += 1);
         }
-        thread::sleep(SHORT);
+        until(|| mutex.queue_length() == 2);
         drop(guard);
     });
     assert_eq!(mutex.into_inner(), 2);

@@ -160,7 +160,7 @@ fn interrupts_end_waits() {
             mutex.lock_interruptibly().err()
         });
         let thread = receive.recv().unwrap();
-        thread::sleep(SHORT);
+        until(|| mutex.queue_length() == 1);
         thread.interrupt().unwrap();
         assert_eq!(waiter.join().unwrap(), Some(Error::Interrupted));
     });

@@ -1,16 +1,16 @@
 //! The read-write lock as those who know std's or parking_lot's expect it.
 
+mod support;
+
 use aqs::{
     Error, MappedRwLockReadGuard, MappedRwLockWriteGuard, Options, RwLock, RwLockReadGuard, RwLockWriteGuard,
     Thread,
 };
 use std::sync::mpsc::channel;
 use std::sync::Arc;
-use std::time::{Duration, Instant};
+use std::time::Instant;
 use std::{panic, thread};
-
-const SHORT: Duration = Duration::from_millis(10);
-const LONG: Duration = Duration::from_secs(30);
+use support::{until, LONG, SHORT};
 
 #[test]
 fn writers_are_alone_and_readers_are_not() {
@@ -111,7 +111,7 @@ fn a_reader_reads_again_before_a_waiting_writer() {
     let first = lock.read();
     thread::scope(|scope| {
         let writer = scope.spawn(|| *lock.write() += 1);
-        thread::sleep(SHORT * 5);
+        until(|| lock.queue_length() == 1);
         let second = lock.read_recursive();
         assert_eq!((*first, *second, writer.is_finished()), (1, 1, false));
         drop((first, second));
@@ -143,12 +143,9 @@ fn a_downgrade_comes_before_a_waiting_writer() {
     let writer = lock.write();
     thread::scope(|scope| {
         scope.spawn(|| *lock.write() += 1);
-        while lock.queue_length() == 0 {
-            thread::yield_now();
-        }
+        until(|| lock.queue_length() == 1);
         let reader = writer.downgrade();
-        thread::sleep(SHORT);
-        assert_eq!(*reader, 0);
+        assert_eq!((*reader, lock.queue_length()), (0, 1));
     });
     assert_eq!(lock.into_inner(), 1);
 }

@@ -20,6 +20,11 @@ abbrev pub IsTake : Asked → Type 0
 IsTake (asked.Await condition how) = ⊥
 IsTake _ = Unit {0}
 
+-- a call that lets all holds go, and has them again
+abbrev pub LetsAllGo : Asked → Type 0
+LetsAllGo (asked.Await condition how) = Unit {0}
+LetsAllGo _ = ⊥
+
 -- the holds that such a call adds
 abbrev pub gained_by : Asked → Result Entry Fault → ℕ
 gained_by (asked.Acquire how) reply = gained (whether_of reply)

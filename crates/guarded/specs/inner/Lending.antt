@@ -4,5 +4,5 @@ use Rattle.guarded.specs.declared.slot.Slot.{Slot}
 use Rattle.guarded.specs.declared.slot.Slot.TheVariants.{Full}
 use Rattle.guarded.specs.contracts.slot.Slot.{the_row}
 
-abbrev pub LendsSlot : (T : RattleType) → MutBor (Slot T.Denot) → MutBor T.Denot → Fml
-LendsSlot T s r = Lends (the_row T) T s r (λ w. Full w)
+abbrev pub LendsSlot : (T I : RattleType) → MutBor (Slot T.Denot I.Denot) → MutBor T.Denot → Fml
+LendsSlot T I s r = Lends (the_row T I) T s r (λ w. Full w)

@@ -7,6 +7,7 @@ pub const SHORT: Duration = Duration::from_millis(10);
 pub const LONG: Duration = Duration::from_secs(30);
 
 /// Puts a history into the folder that AQS_HISTORIES names, for `aqs audit`.
+#[allow(dead_code)] // not each file has one
 pub fn keep(name: &str, history: String) {
     assert!(history.starts_with("aqs-history "));
     if let Some(folder) = env::var_os("AQS_HISTORIES") {

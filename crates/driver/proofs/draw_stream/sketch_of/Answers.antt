@@ -35,11 +35,11 @@ returns-clause-ok g c =
     let judged = c.in_ok-judged.judged in
     let verdict = c.verdict-verdict.result in
     let folded = c.folded-folded.ensures.value ∙ c.in_ok-entries.ensures.start.folded in
-    is_verdict_text (drawn_text c.args.choice) left b k.entries judged.judgement verdict
+    is_verdict_text (drawn_text c.args.names.now c.args.choice) left b k.entries judged.judgement verdict
     c.in_ok-text.text.items (k.is left c.in_ok-entries.ensures.ok) k.judged c.verdict-verdict.ensures
-    (same_picture c.args.choice verdict (base_held now) b now.place.count (length k.entries)
+    (same_picture c.args.names.now c.args.choice verdict (base_held now) b now.place.count (length k.entries)
     c.deref.result.now (take (end_of c.args.choice b.entries) (reverse k.entries)) c.in_ok-text.text.items
     (base_kept first now k.header k.base) k.count
     (c.deref.ensures.value ∙ k.front
     ∙ ap (λ n. take n (reverse k.entries)) (c.end.ensures ∙ ap (end_of c.args.choice) folded))
-    c.in_ok-text.ensures ∙ ap (drawn_text c.args.choice b k.entries) c.verdict-verdict.ensures)
+    c.in_ok-text.ensures ∙ ap (drawn_text c.args.names.now c.args.choice b k.entries) c.verdict-verdict.ensures)

@@ -46,5 +46,6 @@ pub returns-clause-moves : goal.returns-clause-moves
 returns-clause-moves g c = λ t k.
     moves_by c.args.when_full t (held_ticket c.args.held) c.unlock_quietly.new.token c.args.held.value.laden.value.core
     c.step-answer.new.self.laden.value.core c.args.seat c.args.share.now c.share_behind.result
-    (around t _ _ _ _ _ _ k c.unlock_quietly.ensures c.step-answer.ensures.kept) g.L.Load.is_counted g.L.Load.amount
+    (around t _ _ _ _ _ _ k c.unlock_quietly.ensures c.step-answer.ensures.kept) g.L.Load.fit g.L.Load.is_counted
+    g.L.Load.amount
     c.args.load.now c.step-answer.new.there c.args.step c.step-answer.result c.step-answer.ensures.stepped

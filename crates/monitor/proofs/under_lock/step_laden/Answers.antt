@@ -2,15 +2,16 @@ use mir.Syntax.{w64}
 use mir.Val.{SFits}
 use Rattle.std.proofs.Common.{ℕ, ◌∙◌, rules, sym, ap, subst}
 use Rattle.std.proofs.lemmas.Int.{to_z-of_z}
+use Rattle.history.specs.declared.step.Step.{Step}
 use Rattle.frame.specs.Core.{counts_of}
 use Rattle.monitor.specs.Lawful.{IsLawfulCore}
-use Rattle.monitor.specs.Load.{Brings, Moves, given_by, holds_in}
+use Rattle.monitor.specs.Load.{Brings, LetsGo, Moves, given_by, holds_in}
 use Rattle.monitor.proofs.Loads.{told_free, turn, turn_step}
 use Rattle.monitor.proofs.under_lock.step_laden.Goals as goal
 
 traded : (g : _) (c : goal.After-trade g) → g.L.Load.rests c.trade.new.self (counts_of c.step-answer.new.self)
     × g.L.Load.carries c.trade.new.there (holds_in c.step-answer.new.self c.args.seat)
-    × Moves g.L.Load.is_counted g.L.Load.amount c.args.there.now (counts_of c.args.laden.now.core).free
+    × Moves g.L.Load.fit g.L.Load.is_counted g.L.Load.amount c.args.there.now (counts_of c.args.laden.now.core).free
     c.trade.new.there (counts_of c.step-answer.new.self).free
 traded g c =
     let kept : IsLawfulCore c.step-answer.new.self = search rules in
@@ -25,6 +26,9 @@ traded g c =
     (subst (λ (n : ℕ). Brings g.L.Load.is_counted (g.L.Load.amount c.args.there.now) n)
     (ap given_by (sym (turn_step c.args.laden.now.core c.step-answer.new.self c.args.seat c.args.step
     c.step-answer.result c.requires.kept kept c.requires.seat c.step-answer.ensures.answered))) c.requires.brings)
+    (λ go. c.requires.fit (subst (λ (z : Step). LetsGo z (holds_in c.args.laden.now.core c.args.seat))
+    (turn_step c.args.laden.now.core c.step-answer.new.self c.args.seat c.args.step
+    c.step-answer.result c.requires.kept kept c.requires.seat c.step-answer.ensures.answered) go))
 
 pub returns-clause-rests : goal.returns-clause-rests
 returns-clause-rests g c = (traded g c).0

@@ -3,10 +3,10 @@ use Rattle.frame.specs.Core.{CoreView, counts_of}
 use Rattle.history.specs.declared.entry.Mode.{Mode}
 use Rattle.history.specs.declared.fault.Fault.{Fault}
 use Rattle.history.specs.declared.fault.Fault.TheVariants.{HistoryFull}
-use Rattle.monitor.specs.Load.{Moves}
+use Rattle.monitor.specs.Load.{LetsGo, Moves}
 use Rattle.monitor.specs.inner.CoreSteps.{IsCoreStep}
-use Rattle.monitor.proofs.Freeing.{brings_still, moves_since}
-use Rattle.monitor.proofs.Rooms.{no_fold, no_room, not_full, refused_stays, trimmed_holds}
+use Rattle.monitor.proofs.Freeing.{brings_still, fit_still, moves_since}
+use Rattle.monitor.proofs.Rooms.{no_fold, no_room, no_room_holds, not_full, refused_stays, trimmed_holds}
 use Rattle.monitor.proofs.under_lock.step_laden_in_room.Goals.{After-trim_laden}
 use Rattle.monitor.proofs.under_lock.step_laden_in_room.Goals as goal
 
@@ -33,9 +33,23 @@ refused g c =
 stays : (g : _) (c : After-trim_laden g) → g.L.Load.is_counted ≡ true →
     c.step_laden-answer.new.there ≡ c.args.there.now
 stays g c =
-    refused_stays g.L.Load.is_counted g.L.Load.amount c.args.laden.now.core c.step_laden-answer.new.laden.core
+    refused_stays g.L.Load.fit g.L.Load.is_counted g.L.Load.amount c.args.laden.now.core c.step_laden-answer.new.laden.core
     c.args.seat c.args.step c.requires.kept c.step_laden-answer.ensures.kept c.args.there.now
     c.step_laden-answer.new.there HistoryFull (refused g c) c.step_laden-answer.ensures.moves
+
+still_fit : (g : _) (c : After-trim_laden g) → g.L.Load.fit c.args.there.now →
+    g.L.Load.fit c.step_laden-answer.new.there
+still_fit g c =
+    fit_still g.L.Load.fit g.L.Load.is_counted g.L.Load.amount c.args.there.now c.step_laden-answer.new.there _ _
+    c.step_laden-answer.ensures.moves
+
+pub step_laden-requires-clause-fit : goal.step_laden-requires-clause-fit
+step_laden-requires-clause-fit g c = λ go.
+    let before = (goal.at.step_laden-requires-clause-fit g c).After-trim_laden in
+    still_fit g before (c.requires.fit (subst (λ (f : Mode → ℕ). LetsGo c.args.step f)
+    (no_room_holds c.args.laden.now.core c.step_laden-answer.new.laden.core c.trim_laden.new.laden.core
+    c.in-Ok.field-0 c.args.seat c.args.step HistoryFull c.requires.kept c.step_laden-answer.ensures.kept
+    (refused g before) c.in-Ok.ensures.trimmed) go))
 
 pub step_laden-requires-clause-carries : goal.step_laden-requires-clause-carries
 step_laden-requires-clause-carries g c =
@@ -63,17 +77,18 @@ returns-in-Ok-clause-stepped g c =
       trimmed = c.in-Ok.ensures.trimmed;
       fold_kept = c.trim_laden.ensures.kept;
       made = record { answered = s.answered; told = s.told; owed = s.owed };
-      since = moves_since g.L.Load.is_counted g.L.Load.amount c.args.there.now c.step_laden-answer.new.there
+      since = moves_since g.L.Load.fit g.L.Load.is_counted g.L.Load.amount c.args.there.now c.step_laden-answer.new.there
           c.step_laden.new.there (counts_of c.trim_laden.new.laden.core).free
           (counts_of c.trim_laden.new.laden.core).free (counts_of c.step_laden.new.laden.core).free
-          (stays g before) refl s.moves;
+          (stays g before)
+          (still_fit g before) refl s.moves;
     })
 
 pub returns-in-Err-clause-stepped : goal.returns-in-Err-clause-stepped
 returns-in-Err-clause-stepped g c =
     let before = (goal.at.returns-in-Err-clause-stepped g c).After-trim_laden in
     let x = no_fold c.args.laden.now.core c.step_laden-answer.new.laden.core _ c.args.seat c.args.step _
-    (λ (z : CoreView). Moves g.L.Load.is_counted g.L.Load.amount c.args.there.now
+    (λ (z : CoreView). Moves g.L.Load.fit g.L.Load.is_counted g.L.Load.amount c.args.there.now
     (counts_of c.args.laden.now.core).free c.step_laden-answer.new.there (counts_of z).free)
     (refused g before) c.step_laden-answer.ensures.moves c.in-Err.ensures.trimmed in
     inr (inr (x.0, x.1, x.2, ap (λ (f : Fault). Err f) x.3))

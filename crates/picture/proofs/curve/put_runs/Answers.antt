@@ -2,12 +2,12 @@ use Rattle.std.proofs.Common.{◌++◌, ap, ◌∙◌, arith}
 use Rattle.std.specs.List.{flat_map}
 use Rattle.std.proofs.lemmas.List.{take_all}
 use Rattle.picture.specs.Curve.{run_of, runs_of}
-use Rattle.picture.proofs.Appending.{one_more, three}
+use Rattle.picture.proofs.Appending.{four, one_more}
 use Rattle.picture.proofs.curve.put_runs.Goals as goal
 
 pub loop-amount-preserved : goal.loop-amount-preserved
 loop-amount-preserved c =
-    one_more (run_of c.args.range c.args.step) c.args.amounts.now c.loop-amount.amount-index _
+    one_more (run_of c.args.range c.args.layout.step) c.args.amounts.now c.loop-amount.amount-index _
     c.extend_from_slice.new.self.items c.loop-amount.out.items c.put_run.new.out.items c.loop-amount-test.true
     c.loop-amount.invariant c.in_ok-put_run.ensures
 
@@ -15,8 +15,8 @@ pub returns : goal.returns
 unfolding runs_of
 returns c =
     let start = c.extend_from_slice.new.self.items in
-    let run = run_of c.args.range c.args.step in
-    three _ _ _ _ _ _ _ c.in_ok-extend_from_slice.ensures.items
+    let run = run_of c.args.range c.args.layout.step in
+    four _ _ _ _ _ _ _ _ _ c.in_ok-put.ensures c.in_ok-extend_from_slice.ensures.items
     (c.loop-amount.invariant
     ∙ ap (λ ys. start ++ flat_map run ys)
     (take_all c.loop-amount.amount-index c.args.amounts.now (omega (arith, c.loop-amount-test.false))))

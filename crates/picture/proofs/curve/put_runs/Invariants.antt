@@ -5,4 +5,4 @@ use Rattle.picture.proofs.curve.put_runs.Given as goal
 
 abbrev pub invariant-loop-amount : goal.invariant-loop-amount
 invariant-loop-amount l =
-    l.out.items ≡ l.initial.out.items ++ flat_map (run_of l.range l.step) (take l.amount-index l.amounts)
+    l.out.items ≡ l.initial.out.items ++ flat_map (run_of l.range l.layout.step) (take l.amount-index l.amounts)

@@ -21,10 +21,10 @@ returns-in-Ok-clause-runs g c =
       c.status_of-status.ensures.legal.1
           (rw c.deref.ensures.value (histories_legal script report c.in_ok-report.ensures.report)),
       has_run _ script report (Appends _ _) c.in_ok-script.ensures.ok c.in_ok-report.ensures.report
-          (rw c.in_ok-text.ensures.text at c.in-Ok.ensures.ok),
+          c.in_ok-report.ensures.listed (rw c.in_ok-text.ensures.text at c.in-Ok.ensures.ok),
     )
 
 pub returns-clause-runs : goal.returns-clause-runs
 returns-clause-runs g c =
     has_run _ c.in_ok-script.script c.in_ok-report.report (AppendsFront _ _) c.in_ok-script.ensures.ok
-    c.in_ok-report.ensures.report (rw c.in_ok-text.ensures.text at c.in-Err.ensures.err)
+    c.in_ok-report.ensures.report c.in_ok-report.ensures.listed (rw c.in_ok-text.ensures.text at c.in-Err.ensures.err)

@@ -5,6 +5,7 @@ use Rattle.workers.specs.Reports.{AreParts, IsSound, dealt_all, opening_rows}
 use Rattle.workers.specs.inner.Homes.{HaveColumns}
 use Rattle.workers.specs.inner.Results.{passes_left}
 use Rattle.workers.proofs.Columns.{all_columns, each_part, part_sound, rows_count, rows_fit}
+use Rattle.workers.proofs.Keeping.{listed_is}
 use Rattle.workers.proofs.AllWorkers.{all_own, all_places, all_seats, ran}
 use Rattle.workers.proofs.Working.{AllWorked, all_let, all_made, fault_of_run}
 use Rattle.workers.proofs.run.run_noted.Goals as goal
@@ -45,8 +46,8 @@ settle-requires-clause-rows g c =
     rows_fit answers s.workers objects 0 (length s.workers) (length c.in_ok-columns.columns.items) dones
     (omega (arith, made, len, many)) worked
 
-pub returns-in_err-unrecorded-clause-fault : goal.returns-in_err-unrecorded-clause-fault
-returns-in_err-unrecorded-clause-fault g c =
+pub returns-in_err-kept-clause-fault : goal.returns-in_err-kept-clause-fault
+returns-in_err-kept-clause-fault g c =
     let answers = g.G.Gate.answers c.args.gate.now in
     let s = c.args.script.now in
     let objects = c.in_ok-objects.objects.items in
@@ -57,8 +58,8 @@ returns-in_err-unrecorded-clause-fault g c =
     c.workers-workers.ensures.value c.in_ok-objects.ensures.rows (omega (arith, all, fits))
     c.in_ok-worked.ensures.worked.1 in
     let fault = fault_of_run answers s.workers (opening_rows objects 0 (length s.workers)) dones
-    c.in_err-unrecorded.field-0.0 worked c.in_err-unrecorded.ensures.fault in
-    let same : c.from_residual-in_err-unrecorded.result ≡ Err c.in_err-unrecorded.field-0.0 = search rules in
+    c.in_err-kept.field-0.0 worked c.in_err-kept.ensures.fault in
+    let same : c.from_residual-in_err-kept.result ≡ Err c.in_err-kept.field-0.0 = search rules in
     subst (λ z. IfErr z (IsFaultOfRun answers s.workers)) (sym same) fault
 
 pub close_all-requires : goal.close_all-requires
@@ -75,7 +76,7 @@ close_all-requires g c =
     let len = c.len.ensures in
     let many = c.in_ok-objects.objects.ok.0 in
     let len_is : c.len.result ≡ length objects = omega (arith, len, many) in
-    let left = c.in_ok-unrecorded.ensures.columns
+    let left = c.in_ok-kept.ensures.columns
     ∙ ap (dealt_all (passes_left dones)) (c.in_ok-columns.ensures ∙ ap (λ n. replicate n []) len_is) in
     subst (HaveColumns objects) (sym left)
     (all_columns answers s.workers objects (length s.workers) dones
@@ -102,15 +103,19 @@ returns-clause-report g c =
     let len = c.len.ensures in
     let many = c.in_ok-objects.objects.ok.0 in
     let len_is : c.len.result ≡ length objects = omega (arith, len, many) in
-    let left = c.in_ok-unrecorded.ensures.columns
+    let left = c.in_ok-kept.ensures.columns
     ∙ ap (dealt_all (passes_left dones)) (c.in_ok-columns.ensures ∙ ap (λ n. replicate n []) len_is) in
+    let all = all_made (g.G.Gate.answers c.args.gate.now) 0 s.workers
+    (opening_rows objects 0 (length s.workers)) dones (worked g c) c.in_ok-kept.ensures.ended in
+    let kept = c.in_ok-kept.ensures.kept all.0 all.1.0 in
     record {
       locks = objects;
       headers = c.in_ok-objects.ensures.headers;
       rows = passes_left dones;
-      made =
-          all_made (g.G.Gate.answers c.args.gate.now) 0 s.workers (opening_rows objects 0 (length s.workers))
-          dones c.in_ok-unrecorded.unrecorded (worked g c) c.in_ok-unrecorded.ensures.sum;
+      answers = all.0;
+      made = all.1.1;
+      unrecorded = kept.0;
+      listed = listed_is _ _ c.in_ok-listed.listed kept.1 c.in_ok-listed.ensures.list;
       parts =
           subst (λ z. AreParts objects z c.in_ok-objects-2.objects.items) left
           c.in_ok-objects-2.ensures.parts;
@@ -126,4 +131,4 @@ returns-clause-asked g c =
     let s = c.args.script.now in
     all_let (g.G.Gate.answers c.args.gate.now) 0 s.workers
     (opening_rows c.in_ok-objects.objects.items 0 (length s.workers)) c.in_ok-worked.worked.items
-    c.in_ok-unrecorded.unrecorded (worked g c) c.in_ok-unrecorded.ensures.sum
+    (worked g c) c.in_ok-kept.ensures.ended

@@ -2,7 +2,7 @@ use Rattle.std.proofs.Common.{rules, ◌≡◌, ◌<◌, length, ap, subst, ◌�
 use Rattle.script.specs.Script.{IsCall}
 use Rattle.script.specs.declared.call.Call.{Call}
 use Rattle.workers.proofs.Passing.{set_homes, acts_on, place_below}
-use Rattle.workers.specs.Calls.{IsCalled, unrecorded_by}
+use Rattle.workers.specs.Calls.{IsCalled, fault_of}
 use Rattle.workers.specs.inner.Homes.{homes}
 use Rattle.workers.proofs.work.make_call.Goals as goal
 
@@ -28,8 +28,8 @@ returns-in-On-clause-called g c =
     let below : c.in-On.place < length ps =
     place_below ps c.args.shared.now.objects.items c.in-On.place (search rules) place in
     let here : ps ≡ c.args.passes.now = search rules in
-    let count : unrecorded_by c.act-reply.result ≡ c.unrecorded.result = search rules in
-    subst (λ z. IsCalled c.args.call z c.unrecorded.result
+    let count : fault_of c.act-reply.result ≡ c.fault.result = search rules in
+    subst (λ z. IsCalled c.args.call z c.fault.result
     (set ps c.in-On.place c.act-reply.new.pass)) here
     (subst (λ z. IsCalled c.args.call ps z (set ps c.in-On.place c.act-reply.new.pass)) count
     (acts_on c.args.call c.in-On.place c.in-On.action ps _ c.act-reply.new.pass c.act-reply.result

@@ -1,13 +1,16 @@
-use Rattle.std.proofs.Common.{◌≡◌, ◌*◌, ◌≤◌, length}
+use Rattle.std.proofs.Common.{◌≡◌, ◌*◌, ◌≤◌, List, length}
 use Rattle.script.specs.declared.limits.TheConstants.{MOST_CALLS}
+use Rattle.workers.specs.declared.unrecorded.Unrecorded.{Unrecorded}
 use Rattle.workers.specs.Calls.{Made, rounds}
 use Rattle.workers.specs.Gates.{LetsBelow}
 use Rattle.workers.specs.inner.Homes.{homes}
+use Rattle.workers.specs.inner.Keeping.{IsKept}
 use Rattle.workers.proofs.work.make_rounds.Given as goal
 
 abbrev pub invariant-loop : goal.invariant-loop
 invariant-loop g l =
-    (l.first ≤ MOST_CALLS * l.counter) × (l.unrecorded ≤ MOST_CALLS * l.counter)
+    (l.first ≤ MOST_CALLS * l.counter) × (l.kept.count ≤ MOST_CALLS * l.counter)
     × (homes l.passes ≡ homes l.fn.passes)
-    × Made (rounds l.counter l.worker.calls) l.fn.passes l.unrecorded l.passes
+    × ((answers : List Unrecorded) × IsKept l.kept answers
+    × Made l.seat 0 (rounds l.counter l.worker.calls) l.fn.passes answers l.passes)
     × (l.first ≡ l.counter * length l.worker.calls) × LetsBelow (g.G.Gate.answers l.gate) l.seat l.first

@@ -43,7 +43,7 @@ loop-preserved g c =
     (owner c.wait.new.self.pass.now c.wait.new.self.slot)
     = waited_again one (owner c.args.self.now.pass.now c.args.self.now.slot)
     (owner c.loop.self.pass.now c.loop.self.slot) (owner c.wait.new.self.pass.now c.wait.new.self.slot)
-    c.in_ok-wait.field-0 c.loop.invariant.8
+    c.in_ok-wait.field-0 c.loop.invariant.9
     (waits_there (FnReturnsAt g.F.Fn c.args.predicate)
     (λ (m : MutexView) (place : _). CallReturns m.when_full
     (awaits (g.P.Parking.did place) c.args.condition Interruptible))
@@ -55,8 +55,9 @@ loop-preserved g c =
       c.wait.ensures.same_lock.0 ∙ c.loop.invariant.3,
       c.wait.ensures.same_lock.1 ∙ c.loop.invariant.4,
       c.wait.ensures.guards,
+      c.wait.ensures.kept,
       search rules,
-      c.wait.ensures.keeps ∙ c.loop.invariant.7,
+      c.wait.ensures.keeps ∙ c.loop.invariant.8,
       next,
     )
 
@@ -81,7 +82,7 @@ returns-in_err-wait-clause-failed g c =
     let failed : WaitFailed one (owner c.args.self.now.pass.now c.args.self.now.slot)
     (owner c.wait.new.self.pass.now c.wait.new.self.slot) c.in_err-wait.field-0.0 = (
       owner c.loop.self.pass.now c.loop.self.slot,
-      c.loop.invariant.8,
+      c.loop.invariant.9,
       waits_there (FnReturnsAt g.F.Fn c.args.predicate)
           (λ (m : MutexView) (place : _). CallReturns m.when_full
           (awaits (g.P.Parking.did place) c.args.condition Interruptible))

@@ -5,6 +5,7 @@ use Rattle.monitor.specs.declared.how.How.TheVariants.{Interruptible}
 use Rattle.monitor_fronts.specs.Holding.{holds}
 use Rattle.guarded.specs.Asking.{CallReturns, awaits}
 use Rattle.guarded.specs.Guarding.{Guards}
+use Rattle.guarded.specs.Stowed.{Kept}
 use Rattle.guarded.specs.Waiting.{Waited, WaitsWhile, owner}
 use Rattle.guarded.proofs.guard.Guard.wait_while.Given as goal
 
@@ -14,6 +15,7 @@ invariant-loop g l =
     × (l.self.pass.ghost_name ≡ l.initial.self.pass.ghost_name)
     × (l.self.lock.now ≡ l.fn.self.lock.now) × (l.self.parking.now ≡ l.fn.self.parking.now)
     × Guards l.self.lock.now (g.P.Parking.seats l.self.parking.now) l.self.pass.now l.self.slot
+    × Kept g.I.Keeps.invariant l.self.slot
     × IsSame l.fn.self.pass.now l.self.pass.now × (holds l.self.pass.now ≡ holds l.fn.self.pass.now)
     × Waited
     (WaitsWhile (FnReturnsAt g.F.Fn l.fn.predicate) (CallReturns l.fn.self.lock.now.when_full

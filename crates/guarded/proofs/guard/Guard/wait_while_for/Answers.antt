@@ -57,7 +57,7 @@ loop-preserved g c =
     = waited_again one (owner c.args.self.now.pass.now c.args.self.now.slot)
     (owner c.loop.self.pass.now c.loop.self.slot)
     (owner c.wait_for.new.self.pass.now c.wait_for.new.self.slot)
-    c.in_ok-wait_for.field-0 c.loop.invariant.8
+    c.in_ok-wait_for.field-0 c.loop.invariant.9
     (waits_there (FnReturnsAt g.F.Fn c.args.predicate)
     (λ (m : MutexView) (place : _). AwaitsUntil (g.P.Parking.did place) m.when_full
     c.args.condition (moment_after c.now-begun.result c.args.ms))
@@ -70,8 +70,9 @@ loop-preserved g c =
       c.wait_for.ensures.same_lock.0 ∙ c.loop.invariant.3,
       c.wait_for.ensures.same_lock.1 ∙ c.loop.invariant.4,
       c.wait_for.ensures.guards,
+      c.wait_for.ensures.kept,
       search rules,
-      c.wait_for.ensures.keeps ∙ c.loop.invariant.7,
+      c.wait_for.ensures.keeps ∙ c.loop.invariant.8,
       next,
     )
 
@@ -97,7 +98,7 @@ returns-in_err-wait_for-clause-failed g c =
     let failed : WaitFailed one (owner c.args.self.now.pass.now c.args.self.now.slot)
     (owner c.wait_for.new.self.pass.now c.wait_for.new.self.slot) c.in_err-wait_for.field-0.0 = (
       owner c.loop.self.pass.now c.loop.self.slot,
-      c.loop.invariant.8,
+      c.loop.invariant.9,
       waits_there (FnReturnsAt g.F.Fn c.args.predicate)
           (λ (m : MutexView) (place : _). AwaitsUntil (g.P.Parking.did place) m.when_full
           c.args.condition (moment_after c.now-begun.result c.args.ms))

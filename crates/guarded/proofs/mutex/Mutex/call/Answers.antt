@@ -1,3 +1,6 @@
+use Rattle.std.proofs.Common.{subst, sym}
+use Rattle.guarded.specs.declared.asking.Asked.{Asked}
+use Rattle.guarded.specs.inner.Asking.{LetsAllGo}
 use Rattle.guarded.proofs.Calling.{call_gains, is_of_lock}
 use Rattle.guarded.proofs.mutex.Mutex.call.Goals as goal
 
@@ -21,3 +24,7 @@ returns-in-Await-clause-gains g c =
     c.await_on_with.new.pass c.await_on_with.result c.in-Await.is
     (is_of_lock c.self.view_is c.self.invariant c.requires.can.is_of)
     c.await_on_with.ensures.called.same c.await_on_with.ensures.awaited
+
+pub await_on_with-requires-clause-fit : goal.await_on_with-requires-clause-fit
+await_on_with-requires-clause-fit g c =
+    c.requires.fit (subst (λ (a : Asked). LetsAllGo a) (sym c.in-Await.is) tt)

@@ -1,14 +1,20 @@
 use Rattle.std.proofs.Common.{subst}
 use Rattle.history.specs.Counts.{counts}
 use Rattle.history.specs.Entries.{start_on}
-use Rattle.guarded.specs.Stowed.{MutexView, Rests, slot_of}
-use Rattle.guarded.proofs.Stowing.{rests_as}
+use Rattle.guarded.specs.inner.Stowed.{value_in}
+use Rattle.guarded.specs.Stowed.{MutexView, Rests}
+use Rattle.guarded.proofs.Stowing.{kept_value, rests_as, value_as}
 use Rattle.guarded.proofs.mutex.Mutex.close.Goals as goal
 
 pub returns-in-Ok-clause-value : goal.returns-in-Ok-clause-value
 returns-in-Ok-clause-value g c =
     let h = c.in-Ok.closed.history in
-    subst (λ (v : MutexView). Rests (slot_of c.into_value.result) (counts (start_on v.lock.header h) h.entries))
+    subst (λ (v : MutexView). Rests c.into_value.result (counts (start_on v.lock.header h) h.entries))
     c.self.view_is
-    (rests_as c.in-Ok.slot (slot_of c.into_value.result)
-    (counts (start_on c.self.inside.monitor.header h) h.entries) c.into_value.ensures c.in-Ok.ensures.rests)
+    (rests_as (value_in c.in-Ok.slot) c.into_value.result
+    (counts (start_on c.self.inside.monitor.header h) h.entries) c.into_value.ensures c.in-Ok.ensures.rests.0)
+
+pub returns-in-Ok-clause-kept : goal.returns-in-Ok-clause-kept
+returns-in-Ok-clause-kept g c =
+    value_as g.I.Keeps.invariant (value_in c.in-Ok.slot) c.into_value.result c.into_value.ensures
+    (kept_value g.I.Keeps.invariant c.in-Ok.slot c.in-Ok.ensures.rests.1)

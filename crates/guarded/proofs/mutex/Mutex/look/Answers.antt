@@ -1,4 +1,5 @@
 use Rattle.std.proofs.Common.{◌∙◌, ◌<◌, sym, subst, ℕ}
+use Rattle.guarded.specs.Stowed.{IsFull}
 use Rattle.guarded.proofs.Readers.{looks_on, saw_there, value_lies}
 use Rattle.guarded.proofs.mutex.Mutex.look.Goals as goal
 
@@ -6,12 +7,13 @@ pub unreachable-requires : goal.unreachable-requires
 unreachable-requires g c =
     let look = c.look_with-seen.ensures in
     let on = looks_on c.args.pass.now c.look_with-seen.new.pass look.looked in
-    value_lies c.look_with-seen.new.pass look.saw.0 look.looked.shows
+    value_lies g.I.Keeps.invariant c.look_with-seen.new.pass look.saw.0 look.looked.shows
     (subst (λ (n : ℕ). 0 < n) (sym on.0) c.requires.reads)
-    (on.1 ∙ c.requires.writes_not) look.saw.1 (sym look.saw.2.2 ∙ look.saw.2.1.1 c.in-None.is)
+    (on.1 ∙ c.requires.writes_not) look.saw.1
+    (λ full. look.saw.2.1.1 c.in-None.is (subst (λ s. IsFull s) (sym look.saw.2.2) full))
 
 pub returns-clause-saw : goal.returns-clause-saw
 returns-clause-saw g c =
     let look = c.look_with-seen.ensures in
-    saw_there _ c.look_with-seen.new.pass look.saw.0 look.saw.2.0.now c.look_with-seen.result c.in-Some.seen
-    look.saw.1 look.saw.2.2 look.saw.2.1.0 c.in-Some.is
+    saw_there g.I.Keeps.invariant _ c.look_with-seen.new.pass look.saw.0 look.saw.2.0.now c.look_with-seen.result
+    c.in-Some.seen look.saw.1 look.saw.2.2 look.saw.2.1.0 c.in-Some.is

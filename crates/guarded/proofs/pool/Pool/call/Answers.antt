@@ -10,8 +10,8 @@ acquire_with-requires-clause-brings g c = c.requires.brings ∙ ap brought_by c.
 acquired : (g : _) (c : goal.After-acquire_with g) →
     Ends c.args.asked (whether_of c.acquire_with.result) c.args.shelf.now c.acquire_with.new.load
 acquired g c =
-    call_ends (g.P.Parking.did c.args.parking.now) c.self.inside.when_full c.args.asked _ c.args.pass.now
-    c.acquire_with.new.pass c.acquire_with.result c.args.shelf.now
+    call_ends (λ s. Unit {0}) (g.P.Parking.did c.args.parking.now) c.self.inside.when_full c.args.asked _
+    c.args.pass.now c.acquire_with.new.pass c.acquire_with.result c.args.shelf.now
     c.acquire_with.new.load c.in-Acquire.is
     (is_of_semaphore c.self.view_is c.self.invariant c.requires.can.is_of) c.requires.brings
     c.acquire_with.ensures.called.same c.acquire_with.ensures.called.shows
@@ -32,8 +32,8 @@ enter-requires-clause-brings g c = c.requires.brings ∙ ap brought_by c.in-Try.
 tried : (g : _) (c : goal.After-enter g) →
     Ends c.args.asked (whether_of c.enter.result) c.args.shelf.now c.enter.new.load
 tried g c =
-    call_ends (g.P.Parking.did c.args.parking.now) c.self.inside.when_full c.args.asked _ c.args.pass.now
-    c.enter.new.pass c.enter.result c.args.shelf.now
+    call_ends (λ s. Unit {0}) (g.P.Parking.did c.args.parking.now) c.self.inside.when_full c.args.asked _
+    c.args.pass.now c.enter.new.pass c.enter.result c.args.shelf.now
     c.enter.new.load c.in-Try.is
     (is_of_semaphore c.self.view_is c.self.invariant c.requires.can.is_of) c.requires.brings
     c.enter.ensures.called.same c.enter.ensures.called.shows
@@ -55,8 +55,8 @@ released : (g : _) (c : goal.After-enter-in-Release g) →
     Ends c.args.asked (whether_of c.enter-in-Release.result) c.args.shelf.now
     c.enter-in-Release.new.load
 released g c =
-    call_ends (g.P.Parking.did c.args.parking.now) c.self.inside.when_full c.args.asked _ c.args.pass.now
-    c.enter-in-Release.new.pass c.enter-in-Release.result c.args.shelf.now
+    call_ends (λ s. Unit {0}) (g.P.Parking.did c.args.parking.now) c.self.inside.when_full c.args.asked _
+    c.args.pass.now c.enter-in-Release.new.pass c.enter-in-Release.result c.args.shelf.now
     c.enter-in-Release.new.load c.in-Release.is
     (is_of_semaphore c.self.view_is c.self.invariant c.requires.can.is_of) c.requires.brings
     c.enter-in-Release.ensures.called.same c.enter-in-Release.ensures.called.shows

@@ -6,7 +6,11 @@ use Rattle.monitor_fronts.proofs.Permits.{drains_left, drains_take_free}
 use Rattle.guarded.specs.Pooling.{drains}
 use Rattle.guarded.specs.Stowed.{MutexView}
 use Rattle.guarded.proofs.Fetching.{as_many, drained_items}
+use Rattle.guarded.proofs.Shelving.{in_none}
 use Rattle.guarded.proofs.pool.Pool.drain.Goals as goal
+
+pub enter-reply-requires-clause-carries : goal.enter-reply-requires-clause-carries
+enter-reply-requires-clause-carries g c = in_none g.I.Keeps.invariant _ c.new.ensures
 
 pub returns-in-Ok-clause-returned : goal.returns-in-Ok-clause-returned
 returns-in-Ok-clause-returned g c =
@@ -16,7 +20,7 @@ returns-in-Ok-clause-returned g c =
           c.enter-reply.new.pass) c.self.view_is c.enter-reply.ensures.entered,
       as_many (number_of r) (length c.enter-reply.new.load.items) c.in-Ok.field-0
           (sym c.number.ensures ∙ c.in-Ok.is)
-          (drained_items _ c.enter-reply.new.load _ _ (number_of r) (ap length c.new.ensures)
+          (drained_items (λ s. Unit {0}) _ c.enter-reply.new.load _ _ (number_of r) (ap length c.new.ensures)
           (drains_left (g.P.Parking.did c.args.parking.now) c.self.inside.when_full c.args.pass.now
           c.enter-reply.new.pass r c.enter-reply.ensures.called.same
           c.enter-reply.ensures.entered) c.enter-reply.ensures.moves),

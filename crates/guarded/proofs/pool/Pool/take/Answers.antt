@@ -2,10 +2,14 @@ use Rattle.std.proofs.Common.{rules, ◌≡◌, ◌∙◌, Bool, true, false, Ok
 use Rattle.history.specs.declared.fault.Fault.{Fault}
 use Rattle.guarded.specs.Pooling.{Answers}
 use Rattle.guarded.specs.inner.Pooling.{has_after}
+use Rattle.guarded.proofs.Shelving.{in_none}
 use Rattle.guarded.proofs.pool.Pool.take.Goals as goal
 
 pub call-reply-requires-clause-brings : goal.call-reply-requires-clause-brings
 call-reply-requires-clause-brings g c = ap length c.new.ensures ∙ sym c.requires.brings
+
+pub call-reply-requires-clause-kept : goal.call-reply-requires-clause-kept
+call-reply-requires-clause-kept g c = in_none g.I.Keeps.invariant _ c.new.ensures
 
 pub returns-in-Ok-true-clause-items : goal.returns-in-Ok-true-clause-items
 returns-in-Ok-true-clause-items g c =

@@ -2,6 +2,11 @@ use Rattle.std.proofs.Common.{refl, sym}
 use Rattle.monitor.proofs.Sections.{called_since}
 use Rattle.guarded.proofs.pool.Pool.with_item.Goals as goal
 
+pub release_one-requires-clause-kept : goal.release_one-requires-clause-kept
+release_one-requires-clause-kept g c =
+    c.requires.kept c.in-Ok.item c.work-answer.result c.work-answer.new.arg2 c.in-Ok.ensures.kept
+    record { shown = _; shows = refl; left = _; met = c.work-answer.ensures; leaves = refl }
+
 pub returns-in-Ok-release_one-clause-called : goal.returns-in-Ok-release_one-clause-called
 returns-in-Ok-release_one-clause-called g c =
     called_since c.args.pass.now c.acquire_one.new.pass c.release_one.new.pass c.acquire_one.ensures.called

@@ -1,11 +1,11 @@
 use Rattle.std.proofs.Common.{subst}
 use Rattle.history.specs.Counts.{counts}
 use Rattle.history.specs.Entries.{start_on}
-use Rattle.guarded.specs.Stowed.{MutexView, Rests, slot_of}
+use Rattle.guarded.specs.Stowed.{MutexView, Rests}
 use Rattle.guarded.proofs.rw_mutex.RwMutex.close.Goals as goal
 
 pub returns-in-Ok-clause-value : goal.returns-in-Ok-clause-value
 returns-in-Ok-clause-value g c =
     let h = c.in-Ok.closed.0.history in
-    subst (λ (v : MutexView). Rests (slot_of c.in-Ok.closed.1) (counts (start_on v.lock.header h) h.entries))
+    subst (λ (v : MutexView). Rests c.in-Ok.closed.1 (counts (start_on v.lock.header h) h.entries))
     c.self.view_is c.in-Ok.ensures.value

@@ -1,7 +1,8 @@
 use Rattle.std.proofs.Common.{subst, ℕ, sym, ap, ◌∙◌}
-use Rattle.monitor.specs.Load.{Brings, given_by}
+use Rattle.history.specs.declared.step.Step.{Step}
+use Rattle.monitor.specs.Load.{Brings, LetsGo, given_by, holds_of}
 use Rattle.monitor.proofs.RoomTurns.{awake_in, step_in_as}
-use Rattle.monitor.proofs.TurnByTurn.{step_gives_none}
+use Rattle.monitor.proofs.TurnByTurn.{step_gives_none, step_lets}
 use Rattle.monitor.proofs.monitor.Monitor.begin.Goals as goal
 
 pub first_turn-requires : goal.first_turn-requires
@@ -24,3 +25,8 @@ step_with-answer-requires-clause-brings g c =
     subst (λ (n : ℕ). Brings g.L.Load.is_counted (g.L.Load.amount c.args.load.now) n)
     (sym (ap given_by c.step-step.ensures ∙ step_gives_none c.args.request c.args.how c.args.interrupted))
     c.requires.brings
+
+pub step_with-answer-requires-clause-fit : goal.step_with-answer-requires-clause-fit
+step_with-answer-requires-clause-fit g c = λ go.
+    c.requires.fit (step_lets c.args.request c.args.how c.args.interrupted (holds_of c.args.pass.now)
+    (subst (λ (z : Step). LetsGo z (holds_of c.args.pass.now)) c.step-step.ensures go))

@@ -1,8 +1,9 @@
 use Rattle.std.proofs.Common.{rules, ◌≡◌, None, sym, ◌∙◌, subst, ℕ, ap}
-use Rattle.monitor.specs.Load.{Brings, given_by}
+use Rattle.history.specs.declared.step.Step.{Step}
+use Rattle.monitor.specs.Load.{Brings, LetsGo, given_by, holds_of}
 use Rattle.monitor.specs.Machine.{step_by}
 use Rattle.monitor.specs.Stepping.{IsStep, answer_of}
-use Rattle.monitor.proofs.TurnByTurn.{begins_awake, busy_now, stepped_now, step_gives_none}
+use Rattle.monitor.proofs.TurnByTurn.{begins_awake, busy_now, stepped_now, step_gives_none, step_lets}
 use Rattle.monitor.proofs.monitor.Monitor.begin_quietly.Goals.{In-Some}
 use Rattle.monitor.proofs.monitor.Monitor.begin_quietly.Goals as goal
 
@@ -37,3 +38,8 @@ step_quietly-requires-clause-brings g c =
     subst (λ (n : ℕ). Brings g.L.Load.is_counted (g.L.Load.amount c.args.load.now) n)
     (sym (ap given_by c.step-step.ensures ∙ step_gives_none c.args.request c.args.how c.args.interrupted))
     c.requires.brings
+
+pub step_quietly-requires-clause-fit : goal.step_quietly-requires-clause-fit
+step_quietly-requires-clause-fit g c = λ go.
+    c.requires.fit (step_lets c.args.request c.args.how c.args.interrupted (holds_of c.args.pass.now)
+    (subst (λ (z : Step). LetsGo z (holds_of c.args.pass.now)) c.step-step.ensures go))

@@ -1,8 +1,8 @@
 use Rattle.std.proofs.Common.{ap, ◌∙◌, subst, ℕ, sym}
 use Rattle.history.specs.declared.step.Step.{Step}
 use Rattle.monitor.specs.Machine.{later_turn}
-use Rattle.monitor.specs.Load.{Brings, given_by}
-use Rattle.monitor.proofs.TurnByTurn.{goes_on, later_gives_none, step_as}
+use Rattle.monitor.specs.Load.{Brings, LetsGo, given_by, holds_of}
+use Rattle.monitor.proofs.TurnByTurn.{goes_on, later_gives_none, later_lets_none, step_as}
 use Rattle.monitor.proofs.monitor.Monitor.go_on.Goals as goal
 
 pub turn-requires : goal.turn-requires
@@ -23,3 +23,8 @@ step_with-answer-requires-clause-brings g c =
     subst (λ (n : ℕ). Brings g.L.Load.is_counted (g.L.Load.amount c.args.load.now) n)
     (sym (ap given_by c.step-step.ensures ∙ later_gives_none c.args.waiting c.args.woke))
     c.requires.brings
+
+pub step_with-answer-requires-clause-fit : goal.step_with-answer-requires-clause-fit
+step_with-answer-requires-clause-fit g c = λ go.
+    absurd (later_lets_none c.args.waiting c.args.woke (holds_of c.args.pass.now)
+    (subst (λ (z : Step). LetsGo z (holds_of c.args.pass.now)) c.step-step.ensures go))

@@ -1,9 +1,9 @@
 use Rattle.std.proofs.Common.{rules, ◌≡◌, None, sym, ap, ◌∙◌, subst, ℕ}
 use Rattle.history.specs.declared.step.Step.{Step}
-use Rattle.monitor.specs.Load.{Brings, given_by}
+use Rattle.monitor.specs.Load.{Brings, LetsGo, given_by, holds_of}
 use Rattle.monitor.specs.Machine.{later_turn, step_of_waiting}
 use Rattle.monitor.specs.Stepping.{IsStep, answer_of}
-use Rattle.monitor.proofs.TurnByTurn.{goes_on, busy_now, stepped_now, later_gives_none}
+use Rattle.monitor.proofs.TurnByTurn.{goes_on, busy_now, stepped_now, later_gives_none, later_lets_none}
 use Rattle.monitor.proofs.monitor.Monitor.go_on_quietly.Goals.{In-Some}
 use Rattle.monitor.proofs.monitor.Monitor.go_on_quietly.Goals as goal
 
@@ -38,3 +38,8 @@ step_quietly-requires-clause-brings g c =
     subst (λ (n : ℕ). Brings g.L.Load.is_counted (g.L.Load.amount c.args.load.now) n)
     (sym (ap given_by c.step-step.ensures ∙ later_gives_none c.args.waiting c.args.woke))
     c.requires.brings
+
+pub step_quietly-requires-clause-fit : goal.step_quietly-requires-clause-fit
+step_quietly-requires-clause-fit g c = λ go.
+    absurd (later_lets_none c.args.waiting c.args.woke (holds_of c.args.pass.now)
+    (subst (λ (z : Step). LetsGo z (holds_of c.args.pass.now)) c.step-step.ensures go))

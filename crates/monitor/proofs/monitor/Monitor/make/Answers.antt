@@ -5,7 +5,7 @@ use Rattle.history.specs.declared.entry.Entry.{Entry}
 use Rattle.history.specs.declared.step.Answer.TheVariants.{Recorded}
 use Rattle.history.specs.declared.step.Step.{Step}
 use Rattle.frame.specs.AtOnce.{entry_at_once}
-use Rattle.monitor.specs.Load.{Brings, free_of, given_by}
+use Rattle.monitor.specs.Load.{Brings, LetsGo, free_of, given_by, holds_of}
 use Rattle.monitor.specs.Machine.{begun, step_by}
 use Rattle.history.specs.declared.point.Point.{Point}
 use Rattle.monitor.specs.Room.{IsBegunIn, IsCallIn, IsStepIn, at_point}
@@ -14,10 +14,10 @@ use Rattle.monitor.specs.declared.machine.Next.TheVariants as next
 use Rattle.monitor.specs.declared.machine.Waiting.{Waiting}
 use Rattle.monitor.proofs.Acquiring.{found_none, found_one}
 use Rattle.monitor.proofs.FastWay.{made_at_once}
-use Rattle.monitor.proofs.Freeing.{brings_still, moves_since, stays}
+use Rattle.monitor.proofs.Freeing.{brings_still, fit_still, moves_since, stays}
 use Rattle.monitor.proofs.RoomTurns.{awake_in, ends_in, place_first_in, place_in, same_at, step_in_as, waited_in, waits_from}
 use Rattle.monitor.proofs.Sections.{called_since}
-use Rattle.monitor.proofs.TurnByTurn.{Begins, begun_free, begun_waits, may_wait, step_gives_none, waits_now}
+use Rattle.monitor.proofs.TurnByTurn.{Begins, begun_free, begun_waits, may_wait, step_gives_none, step_lets, waits_now}
 use Rattle.monitor.proofs.monitor.Monitor.make.Goals.{After-first_turn-turn, After-unpark-in-Otherwise, In-Done}
 use Rattle.monitor.proofs.monitor.Monitor.make.Goals as goal
 
@@ -118,7 +118,7 @@ wait-requires-clause-brings g c =
     c.step_first.new.pass c.args.request c.args.how
     (same_at c.args.pass.now c.step_first.new.pass x.0 c.step_first.ensures.called.same) x.1.0 in
     brings_still g.L.Load.is_counted g.L.Load.amount c.args.load.now c.step_first.new.load 0
-    (stays g.L.Load.is_counted g.L.Load.amount c.args.load.now c.step_first.new.load
+    (stays g.L.Load.fit g.L.Load.is_counted g.L.Load.amount c.args.load.now c.step_first.new.load
     (free_of c.args.pass.now) (free_of c.step_first.new.pass) same c.step_first.ensures.moves)
     c.requires.brings
 
@@ -129,10 +129,12 @@ returns-in-Waits-clause-moves g c =
     let same = begun_free (g.P.Parking.did c.args.parking.now) (at_point c.args.pass.now x.0)
     c.step_first.new.pass c.args.request c.args.how
     (same_at c.args.pass.now c.step_first.new.pass x.0 c.step_first.ensures.called.same) x.1.0 in
-    moves_since g.L.Load.is_counted g.L.Load.amount c.args.load.now c.step_first.new.load c.wait.new.load
+    moves_since g.L.Load.fit g.L.Load.is_counted g.L.Load.amount c.args.load.now c.step_first.new.load c.wait.new.load
     (free_of c.args.pass.now) (free_of c.step_first.new.pass) (free_of c.wait.new.pass)
-    (stays g.L.Load.is_counted g.L.Load.amount c.args.load.now c.step_first.new.load
+    (stays g.L.Load.fit g.L.Load.is_counted g.L.Load.amount c.args.load.now c.step_first.new.load
     (free_of c.args.pass.now) (free_of c.step_first.new.pass) same c.step_first.ensures.moves)
+    (fit_still g.L.Load.fit g.L.Load.is_counted g.L.Load.amount c.args.load.now c.step_first.new.load _ _
+    c.step_first.ensures.moves)
     same c.wait.ensures.moves
 
 pub first_turn-turn-requires : goal.first_turn-turn-requires
@@ -146,6 +148,11 @@ pub step_first-requires-clause-brings : goal.step_first-requires-clause-brings
 step_first-requires-clause-brings g c =
     subst (λ (n : ℕ). Brings g.L.Load.is_counted (g.L.Load.amount c.args.load.now) n)
     (sym (ap given_by c.step-step.ensures ∙ step_gives_none c.args.request c.args.how false)) c.requires.brings
+
+pub step_first-requires-clause-fit : goal.step_first-requires-clause-fit
+step_first-requires-clause-fit g c = λ go.
+    c.requires.fit (step_lets c.args.request c.args.how false (holds_of c.args.pass.now)
+    (subst (λ (z : Step). LetsGo z (holds_of c.args.pass.now)) c.step-step.ensures go))
 
 -- a step that was done at once is that of the request
 done_so : (g : _) (c : In-Done g) → IsStepIn c.args.when_full c.args.pass.now

@@ -5,7 +5,7 @@ use Rattle.frame.specs.Core.{CoreView, counts_of}
 use Rattle.word_lock.specs.Held.{held_ticket}
 use Rattle.word_lock.specs.Ticket.{Ticket}
 use Rattle.monitor.specs.Calling.{Called}
-use Rattle.monitor.specs.Load.{Moves, free_of, holds_of}
+use Rattle.monitor.specs.Load.{LetsGo, Moves, free_of, holds_of}
 use Rattle.monitor.specs.Room.{IsStepIn}
 use Rattle.monitor.specs.Shown.{Shown, shown}
 use Rattle.monitor.specs.inner.CoreSteps.{IsCoreStepBy}
@@ -13,7 +13,7 @@ use Rattle.monitor.specs.inner.Sections.{Taking, Went}
 use Rattle.monitor.proofs.FastWay.{found_room, moves_by, one_more, went}
 use Rattle.monitor.proofs.Rooms.{Around}
 use Rattle.monitor.proofs.Sections.{not_called}
-use Rattle.monitor.proofs.Taking.{carries_left, carries_taken, follows_made, seat_taken, share_fits}
+use Rattle.monitor.proofs.Taking.{carries_left, carries_taken, fit_taken, follows_made, seat_taken, share_fits}
 use Rattle.monitor.proofs.monitor.Monitor.step_at_once.Goals.{After-one_call_more-pass-inside, In-None, In-Some}
 use Rattle.monitor.proofs.monitor.Monitor.step_at_once.Goals as goal
 
@@ -32,6 +32,13 @@ step_at_once-requires-clause-carries g c =
     carries_taken _ _ _ _ _ (took g (goal.at.step_at_once-requires-clause-carries g c).In-Some) g.L.Load.carries
     c.args.load.now
     (subst (λ (s : Shown). g.L.Load.carries c.args.load.now (holds_of s)) (sym c.pass.view_is) c.requires.carries)
+
+pub step_at_once-requires-clause-fit : goal.step_at_once-requires-clause-fit
+step_at_once-requires-clause-fit g c =
+    fit_taken _ _ _ _ _ (took g (goal.at.step_at_once-requires-clause-fit g c).In-Some) g.L.Load.fit
+    c.args.load.now c.args.step
+    (subst (λ (s : Shown). LetsGo c.args.step (holds_of s) → g.L.Load.fit c.args.load.now) (sym c.pass.view_is)
+    c.requires.fit)
 
 pub unlock-requires-clause-follows : goal.unlock-requires-clause-follows
 unlock-requires-clause-follows g c =
@@ -59,13 +66,13 @@ around_it g c =
     }
 
 recorded : (g : _) (c : After-one_call_more-pass-inside g) → IsCoreStepBy c.args.when_full
-    (λ z. Moves g.L.Load.is_counted g.L.Load.amount c.args.load.now (counts_of z).free c.step_at_once.new.there
+    (λ z. Moves g.L.Load.fit g.L.Load.is_counted g.L.Load.amount c.args.load.now (counts_of z).free c.step_at_once.new.there
     (counts_of c.step_at_once.new.self.laden.value.core).free)
     c.in-Some.held.value.laden.value.core c.pass.inside.seat c.args.step
     (Ok (Recorded (entry_at_once c.pass.inside.seat c.args.step) c.in-Some-step_at_once.named))
     c.step_at_once.new.self.laden.value.core
 recorded g c =
-    found_room c.args.when_full (λ z. Moves g.L.Load.is_counted g.L.Load.amount c.args.load.now (counts_of z).free
+    found_room c.args.when_full (λ z. Moves g.L.Load.fit g.L.Load.is_counted g.L.Load.amount c.args.load.now (counts_of z).free
     c.step_at_once.new.there (counts_of c.step_at_once.new.self.laden.value.core).free)
     c.in-Some.held.value.laden.value.core c.step_at_once.new.self.laden.value.core c.pass.inside.seat c.args.step
     (entry_at_once c.pass.inside.seat c.args.step) c.in-Some-step_at_once.named
@@ -109,12 +116,13 @@ returns-in-Some-step_at_once-clause-carries g c =
 pub returns-in-Some-step_at_once-clause-moves : goal.returns-in-Some-step_at_once-clause-moves
 returns-in-Some-step_at_once-clause-moves g c =
     let at = (goal.at.returns-in-Some-step_at_once-clause-moves g c).After-one_call_more-pass-inside in
-    subst (λ (s : Shown). Moves g.L.Load.is_counted g.L.Load.amount c.args.load.now (free_of s)
+    subst (λ (s : Shown). Moves g.L.Load.fit g.L.Load.is_counted g.L.Load.amount c.args.load.now (free_of s)
     c.step_at_once.new.there (free_of (shown c.unlock.new.token c.pass.inside.seat c.one_call_more-pass-inside.result)))
     c.pass.view_is
     (moves_by c.args.when_full c.pass.inside.token (held_ticket c.in-Some.held) c.unlock.new.token
     c.in-Some.held.value.laden.value.core c.step_at_once.new.self.laden.value.core c.pass.inside.seat
-    c.pass.inside.share c.one_call_more-pass-inside.result (around_it g at) g.L.Load.is_counted g.L.Load.amount
+    c.pass.inside.share c.one_call_more-pass-inside.result (around_it g at) g.L.Load.fit g.L.Load.is_counted
+    g.L.Load.amount
     c.args.load.now c.step_at_once.new.there c.args.step _ (recorded g at))
 
 -- one that wasn't
@@ -134,6 +142,15 @@ step_taken-answer-requires-clause-taken g c = (
       (sym c.in-None.ensures.stays)
       (subst (λ (s : Shown). g.L.Load.carries c.args.load.now (holds_of s)) (sym c.pass.view_is) c.requires.carries),
 )
+
+pub step_taken-answer-requires-clause-fit : goal.step_taken-answer-requires-clause-fit
+step_taken-answer-requires-clause-fit g c =
+    fit_taken _ _ _ _ _ (took_none g (goal.at.step_taken-answer-requires-clause-fit g c).In-None) g.L.Load.fit
+    c.step_at_once.new.there c.args.step
+    (subst (λ x. LetsGo c.args.step (holds_of (shown c.pass.inside.token c.pass.inside.seat c.pass.inside.share))
+    → g.L.Load.fit x) (sym c.in-None.ensures.stays)
+    (subst (λ (s : Shown). LetsGo c.args.step (holds_of s) → g.L.Load.fit c.args.load.now) (sym c.pass.view_is)
+    c.requires.fit))
 
 pub invariant_of-pass-in-None : goal.invariant_of-pass-in-None
 invariant_of-pass-in-None g c =
@@ -157,9 +174,9 @@ returns-in-None-clause-stepped g c =
 pub returns-in-None-clause-moves : goal.returns-in-None-clause-moves
 returns-in-None-clause-moves g c =
     let new = shown c.step_taken-answer.new.token c.pass.inside.seat c.step_taken-answer.new.share in
-    subst (λ x. Moves g.L.Load.is_counted g.L.Load.amount x (free_of c.args.pass.now) c.step_taken-answer.new.load
+    subst (λ x. Moves g.L.Load.fit g.L.Load.is_counted g.L.Load.amount x (free_of c.args.pass.now) c.step_taken-answer.new.load
     (free_of new)) c.in-None.ensures.stays
-    (subst (λ (s : Shown). Moves g.L.Load.is_counted g.L.Load.amount c.step_at_once.new.there (free_of s)
+    (subst (λ (s : Shown). Moves g.L.Load.fit g.L.Load.is_counted g.L.Load.amount c.step_at_once.new.there (free_of s)
     c.step_taken-answer.new.load (free_of new)) c.pass.view_is
     (c.step_taken-answer.ensures.moves c.pass.inside.token
     (took_none g (goal.at.returns-in-None-clause-moves g c).In-None)))

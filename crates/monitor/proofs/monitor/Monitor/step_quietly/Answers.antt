@@ -2,11 +2,12 @@ use Rattle.std.proofs.Common.{rules, ◌≡◌, subst, sym}
 use Rattle.word_lock.specs.Held.{held_ticket}
 use Rattle.word_lock.specs.Ticket.{Ticket}
 use Rattle.monitor.specs.Calling.{Called}
-use Rattle.monitor.specs.Load.{Moves, free_of, holds_of}
+use Rattle.monitor.specs.Load.{LetsGo, Moves, free_of, holds_of}
 use Rattle.monitor.specs.Shown.{Shown, shown}
 use Rattle.monitor.specs.Stepping.{IsStep}
 use Rattle.monitor.specs.inner.Sections.{Taking}
 use Rattle.monitor.proofs.Sections.{as_step_now, not_called}
+use Rattle.monitor.proofs.Taking.{fit_taken}
 use Rattle.monitor.proofs.monitor.Monitor.step_quietly.Goals.{In-Some}
 use Rattle.monitor.proofs.monitor.Monitor.step_quietly.Goals as goal
 
@@ -22,6 +23,13 @@ step_taken-answer-requires-clause-taken g c = (
   took g (goal.at.step_taken-answer-requires-clause-taken g c).In-Some,
   subst (λ (s : Shown). g.L.Load.carries c.args.load.now (holds_of s)) (sym c.pass.view_is) c.requires.carries,
 )
+
+pub step_taken-answer-requires-clause-fit : goal.step_taken-answer-requires-clause-fit
+step_taken-answer-requires-clause-fit g c =
+    fit_taken _ _ _ _ _ (took g (goal.at.step_taken-answer-requires-clause-fit g c).In-Some) g.L.Load.fit
+    c.args.load.now c.args.step
+    (subst (λ (s : Shown). LetsGo c.args.step (holds_of s) → g.L.Load.fit c.args.load.now) (sym c.pass.view_is)
+    c.requires.fit)
 
 pub invariant_of-pass-2 : goal.invariant_of-pass-2
 invariant_of-pass-2 g c =
@@ -44,7 +52,7 @@ returns-clause-stepped g c =
 
 pub returns-clause-moves : goal.returns-clause-moves
 returns-clause-moves g c =
-    subst (λ (s : Shown). Moves g.L.Load.is_counted g.L.Load.amount c.args.load.now (free_of s)
+    subst (λ (s : Shown). Moves g.L.Load.fit g.L.Load.is_counted g.L.Load.amount c.args.load.now (free_of s)
     c.step_taken-answer.new.load (free_of (shown c.step_taken-answer.new.token c.pass.inside.seat c.step_taken-answer.new.share)))
     c.pass.view_is (c.step_taken-answer.ensures.moves c.pass.inside.token
     (took g (goal.at.returns-clause-moves g c).In-Some))

@@ -6,7 +6,7 @@ use Rattle.monitor.specs.Load.{free_of}
 use Rattle.monitor.specs.Machine.{step_of_waiting}
 use Rattle.monitor.specs.Waits.{ComesOf}
 use Rattle.monitor.proofs.StillWaiting.{AllStillWait}
-use Rattle.monitor.proofs.Freeing.{brings_still, moves_since, stays}
+use Rattle.monitor.proofs.Freeing.{brings_still, fit_still, moves_since, stays}
 use Rattle.monitor.proofs.Sections.{called_since, not_called}
 use Rattle.monitor.proofs.TurnByTurn.{all_still_free, is_noted, place_later, replies, waits_on}
 use Rattle.monitor.proofs.Turns.{all_still_as, waits_first}
@@ -24,6 +24,7 @@ loop-init g c = (
   c.requires.carries,
   λ _. refl,
   not_called c.args.pass.now c.is_true.ensures,
+  λ k. k,
 )
 
 pub go_on-turn-requires-clause-brings : goal.go_on-turn-requires-clause-brings
@@ -85,8 +86,9 @@ returns-in-Ends-clause-waited g c =
 
 pub returns-in-Ends-clause-moves : goal.returns-in-Ends-clause-moves
 returns-in-Ends-clause-moves g c =
-    moves_since g.L.Load.is_counted g.L.Load.amount c.args.load.now c.loop.load c.go_on-turn.new.load
+    moves_since g.L.Load.fit g.L.Load.is_counted g.L.Load.amount c.args.load.now c.loop.load c.go_on-turn.new.load
     (free_of c.args.pass.now) (free_of c.loop.pass) (free_of c.go_on-turn.new.pass) c.loop.invariant.6
+    c.loop.invariant.8
     (all_still_free (g.P.Parking.did c.args.parking.now) c.args.pass.now c.args.waiting.stage c.args.waiting.limits
     (c.loop.interrupts.taken ≡ true) c.loop.pass c.loop.waiting.stage c.requires.waits c.loop.invariant.2)
     c.go_on-turn.ensures.moves
@@ -111,8 +113,11 @@ loop-preserved g c =
       c.next_woke-woke.ensures.seat ∙ c.loop.invariant.4,
       c.go_on-turn.ensures.carries,
       λ counted.
-          stays g.L.Load.is_counted g.L.Load.amount c.loop.load c.go_on-turn.new.load (free_of c.loop.pass)
+          stays g.L.Load.fit g.L.Load.is_counted g.L.Load.amount c.loop.load c.go_on-turn.new.load (free_of c.loop.pass)
           (free_of c.go_on-turn.new.pass) same c.go_on-turn.ensures.moves counted
           ∙ c.loop.invariant.6 counted,
       called_since c.args.pass.now c.loop.pass c.go_on-turn.new.pass c.loop.invariant.7 c.go_on-turn.ensures.called,
+      λ k.
+          fit_still g.L.Load.fit g.L.Load.is_counted g.L.Load.amount c.loop.load c.go_on-turn.new.load _ _
+          c.go_on-turn.ensures.moves (c.loop.invariant.8 k),
     )

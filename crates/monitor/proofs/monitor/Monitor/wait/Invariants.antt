@@ -14,3 +14,4 @@ invariant-loop g l =
     × g.L.Load.carries l.load (holds_of l.pass)
     × (g.L.Load.is_counted ≡ true → l.load ≡ l.fn.load)
     × Called l.fn.pass l.pass
+    × (g.L.Load.fit l.fn.load → g.L.Load.fit l.load)

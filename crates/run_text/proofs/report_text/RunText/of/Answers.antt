@@ -13,4 +13,4 @@ parts_of-requires-clause-named c =
 
 pub returns-clause-text : goal.returns-clause-text
 returns-clause-text c =
-    rw (c.in_ok-parts.ensures.text, c.in_ok-put_line.ensures, c.new-last.ensures.items) refl
+    rw (c.in_ok-parts.ensures.text, c.in_ok-last.ensures.lines) refl

@@ -1,0 +1,13 @@
+use Rattle.std.proofs.Common.{◌≡◌, List, sym, subst}
+use Rattle.std.specs.List.{All}
+use Rattle.monitor.specs.Lawful.{blank}
+use Rattle.monitor.specs.Shown.{Shown}
+use Rattle.monitor_fronts.specs.Holding.{holds}
+use Rattle.monitor_fronts.proofs.Counting.{none_yet}
+use Rattle.guarded.proofs.rw_mutex.RwMutex.open_keeping.Goals as goal
+
+pub returns-in-Ok-open_with-clause-free : goal.returns-in-Ok-open_with-clause-free
+returns-in-Ok-open_with-clause-free g c =
+    let opened = c.in-Ok-open_with in
+    subst (λ (l : List Shown). All (λ (s : Shown). holds s ≡ 0) l) (sym opened.ensures.passes)
+    (none_yet opened.monitor (blank opened.monitor.header) 0 c.args.seats)
