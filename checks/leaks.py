@@ -70,13 +70,13 @@ def counted(program, library, words, text, output=subprocess.PIPE, limit=None, n
     return Counts(*map(int, line), ran.stdout or b"") if len(line) == 5 else None
 
 
-def fault(counts, size, more=MORE):
-    """None, or what is wrong with the counts of a run on a text of some size, which may take so many writes more."""
+def fault(counts, size, more=MORE, files=1):
+    """None, or what is wrong with the counts of a run on so many files of some size, which may take so many writes more."""
     if counts is None:
         return "it ended before its end"
     if counts.taken != counts.given:
         return f"it took {counts.taken} blocks and gave {counts.given} back"
-    if counts.reads > size // PIECE + MORE:
+    if counts.reads > size // PIECE + files * MORE:
         return f"{counts.reads} reads for {size} bytes"
     objects = len(re.findall(rb"^object ", counts.told, re.M))
     if counts.writes > len(counts.told) // PIECE + more + PARTS * objects:
@@ -90,7 +90,8 @@ def of_case(program, library, case):
     counts = counted(program, library, case.words, text, named=case.names())
     if counts and "--timeout" in case.words and case.status == 1:
         counts = dataclasses.replace(counts, given=counts.taken)
-    return f"{case.file}, line {case.line}: {case.name}", fault(counts, len(text), more)
+    files = 2 if any("NAMES" in word or word.startswith("--names") for word in case.words) else 1
+    return f"{case.file}, line {case.line}: {case.name}", fault(counts, len(text), more, files)
 
 
 def of_devices(program, library):

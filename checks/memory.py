@@ -33,7 +33,7 @@ PAGE = 1024  # entries of a page
 LISTS = 32  # requests of lists that grow to thousands of answers
 IN_VAIN = 4  # requests of the reader of command lines that it can do without
 CALLS = 12  # requests of a script's calls that it can do without: a list that cannot grow by much grows by little
-KEPT = 2  # blocks of a thread that the kit keeps if it lacks memory for the list of what threads return
+KEPT = 2  # blocks of a thread that the kit keeps if it lacks memory for the list of what threads return, beside its list
 MORE = 4  # requests of a longer run text
 NO_MEMORY = (5, b"", b"aqs: out of memory\n")
 READ_FAILED = (4, b"", b"aqs: read failed\n")
@@ -129,7 +129,7 @@ def refused(program, library, words, text):
     whole, in_vain = run(program, library, words, text), 0
     for number in range(whole.counts.requests):
         answer, counts = run(program, library, words, text, REFUSED=number)
-        kept = KEPT if words[0] == "run" and answer == NO_MEMORY else 0
+        kept = KEPT + ("--unrecorded" in words) if words[0] == "run" and answer == NO_MEMORY else 0
         if not 0 <= counts.taken - counts.given <= kept:
             return f"request {number}: it took {counts.taken} blocks and gave {counts.given} back"
         in_vain += answer == whole.answer
