@@ -57,6 +57,7 @@ PLAIN = {
 # Tests of what each call does, which take no words.
 CONTENT = {
     "answers": "which step each call makes, and what it makes of each answer",
+    "members": "which call each member of aqs.hpp makes, and what it makes of each status",
     "wakes": "whom each call wakes",
     "interrupts": "what an interrupt does to each call",
     "statuses": "each status, and what is left after it",
@@ -321,6 +322,7 @@ def check_java(tests):
     tests.run("Java: the jar, beside the JDK's classes", scenarios, 240, cwd=folder)
     tests.run("Java: many threads", ["java", *classes, "AqsTest", kept], 240, cwd=folder)
     tests.run("Java: inside", ["java", "-Xcomp", *classes, "aqs.InsideTest"], 240, cwd=folder)
+    tests.run("Java: native memory", ["java", "-Xmx32m", *classes, "MemoryTest"], 120, cwd=folder)
     virtual = java_with_virtual_threads()
     if virtual:
         words = [virtual, "--enable-native-access=ALL-UNNAMED", *classes, "VirtualTest"]

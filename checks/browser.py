@@ -133,6 +133,11 @@ class Browser:
         """Returns what the panel says: the entry, the state after it, and what a search found."""
         return self.value(SHOWN)
 
+    def spoken(self):
+        """Returns what a screen reader is given of the page: the names of all that it can read."""
+        nodes = self.ask("Accessibility.getFullAXTree")["nodes"]
+        return {node.get("name", {}).get("value", "") for node in nodes}
+
     def screenshot(self):
         """Returns a picture of the page as wide as the window, as a PNG file has it."""
         width, height = self.value("[innerWidth, document.body.getBoundingClientRect().bottom + 15]")

@@ -2,7 +2,9 @@
 """Checks by the built program, one after the other: checks/by_program.py PROGRAM SEED.
 
 - `limits.py`: each limit at its value and one past it, and long texts.
+- `columns.py`: summaries in columns of long histories.
 - `devices.py`: devices that fail, a terminal, and ever less memory.
+- `progress.py`: the line on a terminal that says how much of a long text was read.
 - `leaks.py`: what each run takes and gives back.
 - `memory.py`: requests for memory, reads and writes that fail, one at a time.
 - `growth.py`: how time and memory grow with the input and with the seats.
@@ -36,7 +38,9 @@ def checks(seed):
     """The words of each check behind the program."""
     number = str(zlib.crc32(seed.encode()))
     yield ["limits.py"]
+    yield ["columns.py", number]
     yield ["devices.py"]
+    yield ["progress.py"]
     yield ["leaks.py"]
     yield ["memory.py"]
     yield ["growth.py"]

@@ -22,6 +22,7 @@ import sys
 import tempfile
 from collections import namedtuple
 
+import columns
 import crowds
 import leaks
 import rules
@@ -100,7 +101,10 @@ def commands():
         for name in ("audit", "explain", "summary"):
             yield [name, "--json"], text
         yield ["audit", "-o", "/dev/null"], text
-    yield ["draw", "--names", "/dev/stdin", str(EXAMPLES / "handed_over.history")], b"0 main\n1 parser\n"
+    for words in ("draw",), ("draw", "--page"):
+        yield [*words, "--names", "/dev/stdin", str(EXAMPLES / "handed_over.history")], b"0 main\n1 parser\n"
+    for part in "lock fair seats 3 conditions 2", "semaphore fair seats 3 permits 2":  # long enough for a summary
+        yield ["draw"], columns.history(part, columns.SUMMED + 1, 0, "memory").encode()
     last = ["explain", "--at", str(2 * PAGE - 1)]  # its state is that after two pages of entries
     yield last, rules.replay(pairs(PAGE), True)[1]
     for text in wrong_texts():

@@ -7,9 +7,12 @@
   name nothing outside the page.
 - The page's script runs under node, over `page_dom.js`. The panel says of an entry what `aqs explain` says of the state
   after it, at ten entries of each history. Keys, buttons, the slider, the search and clicks on bars move it.
+- The same with names of seats and conditions, among them such as would end a string or an element: they are data, and
+  stand in the panel, the rows, the tooltips and the seats to choose from, and nowhere as code.
 - A page of 10,000 entries has at most 5 MB, and shows its first entry within a second.
 - Where chromium or google-chrome starts, it opens each page: the panel says the same at ten entries, keys and a
-  button move it, and nothing is an error. A page of 10,000 entries is there within a second.
+  button move it, and nothing is an error. What a screen reader is given has the names. A page of 10,000 entries is
+  there within a second.
 
 What is left out for want of node or of a browser is said. The last line is 'N passed, M failed'.
 
@@ -36,6 +39,17 @@ SECONDS = 60
 MOST_BYTES, MOST_SECONDS = 5_000_000, 1.0
 HISTORIES = ["bounded_buffer", "writer_between_readers_fair", "permits_below_zero", "latch_counts_down",
              "taken_past_the_line"]
+# What the page says that an entry about a condition does.
+ABOUT_CONDITIONS = {
+    "await": "released all, and waits on {}.",
+    "lapse": "gave up its wait on {}, and joined the queue.",
+    "signal": "moved the longest waiter of {} to the queue, if there was one.",
+    "signalall": "moved all waiters of {} to the queue.",
+    "back": "came back from its wait on {}.",
+}
+# Names that would end a string, an element or a pattern if they were taken for anything else than a name.
+WILD = ["</script>", '"]};alert(1)//', "<!--<script>", "\\u003c/script>", "$&$`$'$1$$", "__proto__", "&lt;b&gt;&#39;",
+        "'-alert(1)-'", "constructor", '\\"\\n\\', "${alert(1)}", "<img/onerror=1>", "%3Cscript%3E"]
 
 
 def run(words, given=b""):
@@ -74,6 +88,21 @@ def kinds(key):
     return (kind, "xswz".index(kind)) if condition is None else (f"z{condition}", 3 + condition)
 
 
+def named(header, names):
+    """The names of a page, those of the object's seats and then of its conditions, or nothing if there are none."""
+    def escaped(name):
+        return "".join(f"\\u{ord(it):04x}" if it in "\"&'<>\\" else it for it in name)
+    keys = [("seat", number) for number in range(header.seats)]
+    keys += [("condition", number) for number in range(header.conditions)]
+    rows = [f',["{kind} {number}","{escaped(names[kind, number])}"]' for kind, number in keys if (kind, number) in names]
+    return [',"names":[["of","name"]', *rows, "]"] if rows else []
+
+
+def called(names, kind, number):
+    """What the page calls a seat or a condition."""
+    return f"{kind} {drawn.called(names, kind, number)}"
+
+
 def waiting(state):
     """Who waits, in order."""
     lines = [',"start":{"line":["seat"', *(f",{arrival.seat}" for arrival in state.line)]
@@ -82,7 +111,7 @@ def waiting(state):
     return [*lines, "]}"]
 
 
-def wanted(text, first=None, last=None):
+def wanted(text, first=None, last=None, names=None):
     """The data of the page of a history, by the rules: its lines. `first` and `last` are those chosen."""
     header, lines = rules.read_history(text)
     state, legal, wrong = lines.start(), [], None
@@ -115,7 +144,7 @@ def wanted(text, first=None, last=None):
     told += ["]", ',"amounts":["amount"', *amounts(lines, legal, begin), "]"]
     told += [',"entries_shown":[["seat","words"]']
     told += [f',[{entry.seat},"{rules.spelt(entry)}"]' for entry in shown]
-    return [*told, "]", *before, "}"]
+    return [*told, "]", *before, *named(header, names or {}), "}"]
 
 
 def has_data(page, text):
@@ -136,31 +165,32 @@ def plural(count, word):
     return f"{count} {word}" if count == "1" else f"{count} {word}s"
 
 
-def panel(explained):
+def panel(explained, names):
     """What the panel must say of the state that `aqs explain` told."""
     lines = [line.split() for line in explained.splitlines()]
     holds = [words for words in lines if words[0] == "holds"]
     amount = {words[0]: words[1] for words in lines if words[0] in ("free", "count", "readers")}
-    owners = [f"seat {words[1]} with {plural(words[3], 'hold')}" for words in holds if words[3] != "0"]
-    sharing = [(words[1], words[5]) for words in holds if words[5] != "0"]
+    owners = [f"{called(names, 'seat', words[1])} with {plural(words[3], 'hold')}" for words in holds if words[3] != "0"]
+    sharing = [(called(names, "seat", words[1]), words[5]) for words in holds if words[5] != "0"]
     told = []
     if "free" in amount:
-        held = [f"seat {seat} with {plural(count, 'permit')}" for seat, count in sharing]
+        held = [f"{seat} with {plural(count, 'permit')}" for seat, count in sharing]
         told += [f"Held: {', '.join(held) or 'nothing'}", f"Free permits: {amount['free']}"]
     elif "count" in amount:
         told.append(f"Count: {amount['count']}")
     else:
         told.append(f"Owner: {', '.join(owners) or 'nobody'}")
         if "readers" in amount:
-            readers = [f"seat {seat} with {plural(count, 'hold')}" for seat, count in sharing]
+            readers = [f"{seat} with {plural(count, 'hold')}" for seat, count in sharing]
             told.append(f"Readers: {', '.join(readers) or 'nobody'}")
-    queue = [f"seat {words[1]}" for words in lines if words[0] == "line"]
+    queue = [called(names, "seat", words[1]) for words in lines if words[0] == "line"]
     told.append(f"Queue, first to last: {', '.join(queue) or 'nobody'}")
     asleep = {}
     for words in lines:
         if words[0] == "sleeper":
-            asleep.setdefault(words[1], []).append(f"seat {words[2]}")
-    told += [f"Asleep on condition {at}, longest first: {', '.join(asleep[at])}" for at in sorted(asleep, key=int)]
+            asleep.setdefault(words[1], []).append(called(names, "seat", words[2]))
+    for at in sorted(asleep, key=int):
+        told.append(f"Asleep on {called(names, 'condition', at)}, longest first: {', '.join(asleep[at])}")
     return told
 
 
@@ -174,8 +204,20 @@ def acted(file, actions):
     return milliseconds, shown
 
 
-def state_after(program, history, number):
-    return panel(run([program, "explain", "--at", number + 1], history)[1].decode())
+def state_after(program, history, number, names):
+    return panel(run([program, "explain", "--at", number + 1], history)[1].decode(), names)
+
+
+def entry_line(lines, number, names):
+    """How the panel's line about an entry begins. Of an entry about a condition with a name it is all of that line, as
+    far as it says what the entry does."""
+    entry = lines.entries[number - lines.folded()]
+    words = rules.spelt(entry)
+    line = f"Entry {number}: {called(names, 'seat', entry.seat)} {words}. It "
+    word, at, *_ = [*words.split(), "", ""]
+    if word in ABOUT_CONDITIONS and ("condition", int(at)) in names:
+        line += ABOUT_CONDITIONS[word].format(called(names, "condition", at))
+    return line
 
 
 def ten(first, last):
@@ -183,16 +225,17 @@ def ten(first, last):
     return sorted({first + (last - first) * part // 9 for part in range(10)})
 
 
-def says(shown, program, history, number):
+def says(shown, program, history, number, names):
     """Whether a panel shows the entry of a number and the state after it."""
-    wanted_state = state_after(program, history, number)
-    good = shown["entry"].startswith(f"Entry {number}: seat ") and shown["state"] == wanted_state
+    wanted_state = state_after(program, history, number, names)
+    begins = entry_line(rules.read_history(history)[1], number, names)
+    good = shown["entry"].startswith(begins) and shown["state"] == wanted_state
     if not good:
         print(shown, wanted_state)
     return good
 
 
-def stepped(program, name, history, words, first, last, scratch):
+def stepped(program, name, history, words, first, last, scratch, names={}):
     """At ten entries the panel says what `aqs explain` says of the state after them."""
     file = scratch / "page.html"
     file.write_text(page_of(program, history, words))
@@ -201,7 +244,7 @@ def stepped(program, name, history, words, first, last, scratch):
     folded = int(told["folded"])
     _, shown = acted(file, [{"set": ["at", str(number - folded)]} for number in numbers])
     for number, at in zip(numbers, shown[1:]):
-        yield f"{name} {' '.join(words)}: the panel at entry {number}", says(at, program, history, number)
+        yield f"{name} {' '.join(words)}: the panel at entry {number}", says(at, program, history, number, names)
     yield f"{name} {' '.join(words)}: the panel at all ten", len(shown) == len(numbers) + 1
 
 
@@ -229,10 +272,10 @@ def moves(program, history, scratch):
     yield "a search that finds nothing says so", shown[22]["found"] == "No earlier entry is like that."
 
 
-def opened(program, name, history, seen, scratch):
+def opened(program, name, history, seen, scratch, words=(), names={}):
     """In a browser the arrows lead to ten entries, at which the panel says what `aqs explain` says."""
     file = scratch / "page.html"
-    file.write_text(page_of(program, history))
+    file.write_text(page_of(program, history, words))
     told = json.loads(parts(file.read_text())[1])
     folded, last, at = int(told["folded"]), told["to"] - 1, 0
     seen.open(file.as_uri())
@@ -240,14 +283,24 @@ def opened(program, name, history, seen, scratch):
         for _ in range(place - at):
             seen.press("ArrowRight")
         at = place
-        good = says(seen.shown(), program, history, folded + place)
+        good = says(seen.shown(), program, history, folded + place, names)
         yield f"{name}: the panel at entry {folded + place} in a browser", good
+        spoken, told = seen.spoken(), state_after(program, history, folded + place, names)
+        yield f"{name}: what a screen reader reads at entry {folded + place}", set(told) <= spoken
     for act, place in ((lambda: seen.press("Home"), 0), (lambda: seen.press("End"), last),
                        (lambda: seen.click("back"), last - 1)):
         act()
         shown = seen.shown()["entry"]
         yield f"{name}: {shown!r} is entry {folded + place} in a browser", shown.startswith(f"Entry {folded + place}: ")
+    seats = [called(names, "seat", seat) for seat in sorted({seat for seat, _ in told_entries(file)})]
+    yield f"{name}: the seats to choose from, in a browser", {"any seat", *seats} <= seen.spoken()
+    yield f"{name}: the elements of a page are its own", seen.value("document.querySelectorAll('script,img').length") == 2
     yield f"{name}: errors in a browser: {seen.errors}", seen.errors == []
+
+
+def told_entries(file):
+    """The seats and the words of a page's entries."""
+    return json.loads(parts(file.read_text())[1])["entries_shown"][1:]
 
 
 def opens_soon(program, seen, scratch):
@@ -265,6 +318,8 @@ def in_browser(program, scratch):
     with browser.Browser(scratch) as seen:
         for name in HISTORIES:
             yield from opened(program, name, history_of(name), seen, scratch)
+            names, words = given_names(scratch)
+            yield from opened(program, f"{name} with names", history_of(name), seen, scratch, words, names)
         yield from opens_soon(program, seen, scratch)
 
 
@@ -289,6 +344,43 @@ def is_data(program, name, history, words, chosen):
     yield f"{name} {' '.join(words)}: the fixed parts", head != "" and is_closed(head, foot)
 
 
+def given_names(scratch):
+    """Names of three seats in four and of three conditions in four, and the words that give them to a page."""
+    keys = [("seat", number) for number in range(256)] + [("condition", number) for number in range(16)]
+    kept = [key for place, key in enumerate(keys) if place % 4 != 3]
+    names = {key: WILD[place % len(WILD)] for place, key in enumerate(kept[::-1])}
+    lines = [f"{'condition ' * (kind == 'condition')}{number} {name}\n" for (kind, number), name in names.items()]
+    file = scratch / "given.names"
+    file.write_text("".join(lines))
+    return names, ["--names", str(file)]
+
+
+def with_names(program, name, history, scratch):
+    """The data of a page with names, and, if node is there, all places where it says a seat or a condition."""
+    names, words = given_names(scratch)
+    yield f"{name}: the names are names", drawn.names_of((scratch / "given.names").read_bytes()) == names
+    yield from is_data(program, f"{name} with names", history, words, {"names": names})
+    none = scratch / "none.names"
+    none.write_text("")
+    same = page_of(program, history) == page_of(program, history, ["--names", str(none)])
+    yield f"{name}: a file that names nobody changes nothing", same
+    if shutil.which("node") is None:
+        return
+    last = json.loads(parts(page_of(program, history))[1])["to"] - 1
+    yield from stepped(program, f"{name} with names", history, words, 0, last, scratch, names)
+    _, shown = acted(scratch / "page.html", [])
+    seats = sorted({seat for seat, _ in told_entries(scratch / "page.html")})
+    told = [called(names, "seat", seat) for seat in seats]
+    yield f"{name}: the rows have names", shown[0]["labels"] == told
+    yield f"{name}: the seats to choose from have names", shown[0]["seats"] == ["any seat", *told]
+    begins = tuple(f"{called(names, 'seat', seat)} " for seat in seats)
+    yield f"{name}: the tooltips have names", all(title.startswith(begins) for title in shown[0]["titles"])
+    found = re.compile(r" sleeps on condition (\d+)(.*), entries \d+ to \d+$")
+    asleep = [found.search(title) for title in shown[0]["titles"] if " sleeps on " in title]
+    told = [f"{it[1]}{it[2]}" == drawn.called(names, "condition", it[1]) for it in asleep]
+    yield f"{name}: the tooltips of sleepers have the condition's name", all(told)
+
+
 def history_of(name):
     kept = TOP / "examples" / f"{name}.history"
     return kept.read_bytes() if kept.exists() else rules.replay(kept.with_suffix(".steps").read_bytes(), True)[1]
@@ -302,6 +394,7 @@ def results(program, scratch):
         middle = count // 3
         chosen = {"first": middle, "last": count - 2}
         yield from is_data(program, name, history, ["--from", str(middle), "--to", str(count - 2)], chosen)
+        yield from with_names(program, name, history, scratch)
     based = (TOP / "examples" / "sleeper_of_a_base.history").read_bytes()
     yield from is_data(program, "sleeper_of_a_base", based, [], {})
     if shutil.which("node") is None:

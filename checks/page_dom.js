@@ -44,8 +44,10 @@ const shown = () => ({
   entry: byId.entry.textContent,
   state: byId.state.children.map((line) => line.textContent),
   found: byId.found.textContent,
-  bars: bars().map((bar) => bar.textContent),
-  rows: byId.picture.children.filter((it) => it.textContent.startsWith('seat ') && it.tagName === 'TEXT').length,
+  titles: bars().map((bar) => bar.textContent),
+  labels: byId.picture.children.filter((it) => it.tagName === 'TEXT' && it.attributes.x === '8'
+    && it.textContent.startsWith('seat ')).map((it) => it.textContent),
+  seats: byId.seat.children.map((it) => it.textContent),
 });
 
 const begun = process.hrtime.bigint();

@@ -37,7 +37,7 @@ TESTS = (
     "histories", "eintr", "handlers", "forks", "crowd", "calls FOLDER", "times", "closes", "waits", "stops", "storms FOLDER 4 200",
     "storms FOLDER 16 60",
 )
-TESTS_OF_CPP = ("guards FOLDER", "durations", "plain")
+TESTS_OF_CPP = ("members", "guards FOLDER", "durations", "plain")
 
 
 def edited(text, read):

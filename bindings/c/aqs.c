@@ -17,6 +17,7 @@
 #include "aqs_core.h"
 
 #include <errno.h>
+#include <limits.h>
 #include <linux/futex.h>
 #include <linux/membarrier.h>
 #include <pthread.h>
@@ -218,21 +219,24 @@ typedef struct {
 } memory_t;
 enum { MEMORIES = 16 };
 
-/* A release by a signal handler that interrupted a call of the library. */
+/* Equal releases by signal handlers that interrupted a call of the library, and how many there are. */
 typedef struct {
     aqs_object_t *object;
     uint32_t n;
+    atomic_uint times; /* 0 if the post is free, and BEING_LEFT while a handler writes the other two */
 } post_t;
 enum { POSTS = 16 };
+#define BEING_LEFT UINT_MAX
 
 /* The calling thread. It lies where the system finds it without a call, also in a shared library. */
 static _Thread_local __attribute__((tls_model("initial-exec"))) struct {
     uint64_t mine;  /* what a seat of its own says: it is made of its number, and never 0 */
     place_t *place; /* NULL if it has no number */
     aqs_thread_t number;
-    bool forks;            /* whether it holds the turns of others back */
-    atomic_bool is_inside; /* whether it has an object or the numbers, so that a handler must not wait */
-    atomic_uint posted;    /* how many posts are to be made */
+    bool forks;              /* whether it holds the turns of others back */
+    atomic_bool is_inside;   /* whether it has an object or the numbers, so that a handler must not wait */
+    atomic_bool has_posts;   /* whether handlers have left posts since a call began to make them */
+    atomic_bool makes_posts; /* whether a call makes them now, so that a handler leaves that to it */
     memory_t memories[MEMORIES];
     post_t posts[POSTS];
 } self;
@@ -249,7 +253,7 @@ SHORT void leave(void) {
     atomic_signal_fence(memory_order_seq_cst);
     atomic_store_explicit(&self.is_inside, false, memory_order_relaxed);
     atomic_signal_fence(memory_order_seq_cst);
-    if (atomic_load_explicit(&self.posted, memory_order_relaxed) > 0) make_posts();
+    if (atomic_load_explicit(&self.has_posts, memory_order_relaxed)) make_posts();
 }
 
 /* The block of a number, and the first number there. */
@@ -836,16 +840,35 @@ SHORT aqs_status_t step(aqs_object_t *object, uint8_t code, uint8_t mode, uint32
     return do_step(object, (aqs_step_t){.n = n, .code = code, .mode = mode}, owned, NULL);
 }
 
+/* Counts a release at a post of its equals, if there is one. Nobody frees a post meanwhile: the call that makes
+   them is interrupted. */
+static bool joins_post(const aqs_object_t *object, uint32_t n) {
+    for (post_t *post = self.posts; post < self.posts + POSTS; post++) {
+        unsigned times = atomic_load(&post->times);
+        if (times == 0 || times == BEING_LEFT || post->object != object || post->n != n) continue;
+        atomic_fetch_add(&post->times, 1);
+        return true;
+    }
+    return false;
+}
+
+static bool takes_free_post(aqs_object_t *object, uint32_t n) {
+    for (post_t *post = self.posts; post < self.posts + POSTS; post++) {
+        unsigned none = 0;
+        if (!atomic_compare_exchange_strong(&post->times, &none, BEING_LEFT)) continue;
+        post->object = object, post->n = n;
+        atomic_store(&post->times, 1);
+        return true;
+    }
+    return false;
+}
+
 /* A release of permits, or of a count, which any thread may make, and a signal handler too. One that has
    interrupted its thread inside an object can't wait for that thread: it leaves a post. */
 static COLD aqs_status_t leave_post(aqs_object_t *object, uint32_t n) {
-    unsigned at = atomic_fetch_add_explicit(&self.posted, 1, memory_order_relaxed);
-    if (at < POSTS) {
-        self.posts[at] = (post_t){object, n};
-        return AQS_OK;
-    }
-    atomic_fetch_sub_explicit(&self.posted, 1, memory_order_relaxed);
-    return AQS_OUT_OF_MEMORY;
+    if (!joins_post(object, n) && !takes_free_post(object, n)) return AQS_OUT_OF_MEMORY;
+    atomic_store(&self.has_posts, true);
+    return AQS_OK;
 }
 
 SHORT aqs_status_t give(aqs_object_t *object, uint32_t n) {
@@ -856,13 +879,24 @@ SHORT aqs_status_t give(aqs_object_t *object, uint32_t n) {
     return status;
 }
 
-/* Makes what handlers have left, last first. A handler that comes meanwhile makes its own, and these too. */
+/* Makes the releases of a post. A handler may add one at any instruction. */
+static void make_post(post_t *post) {
+    unsigned times;
+    while ((times = atomic_load(&post->times)) > 0) {
+        aqs_object_t *object = post->object;
+        uint32_t n = post->n;
+        if (!atomic_compare_exchange_strong(&post->times, &times, times - 1)) continue;
+        aqs_or_abort(give(object, n), "a release by a signal handler");
+    }
+}
+
+/* Makes what handlers have left, and what others leave meanwhile. */
 static COLD void make_posts(void) {
-    unsigned count;
-    while ((count = atomic_load_explicit(&self.posted, memory_order_relaxed)) > 0) {
-        post_t post = self.posts[count - 1];
-        if (!atomic_compare_exchange_strong(&self.posted, &count, count - 1)) continue;
-        aqs_or_abort(give(post.object, post.n), "a release by a signal handler");
+    while (!atomic_load(&self.makes_posts) && atomic_load(&self.has_posts)) {
+        atomic_store(&self.makes_posts, true);
+        atomic_store(&self.has_posts, false);
+        for (post_t *post = self.posts; post < self.posts + POSTS; post++) make_post(post);
+        atomic_store(&self.makes_posts, false);
     }
 }
 

@@ -496,6 +496,10 @@ class Arguments(Tests):
                 self.assertRaises(ValueError, wait, float("nan"))
             self.assertEqual(lock.wait_for(lambda: 0, -1), 0)
             self.assertEqual(lock.wait_for(lambda: "so", 0), "so")
+        for timeout in (0, -5):
+            barrier, begin = aqs.Barrier(2, timeout=LONG), time.monotonic()
+            self.assertRaises(aqs.BrokenBarrierError, barrier.wait, timeout)
+            self.assertLess(time.monotonic() - begin, LONG / 2)
 
     def test_what_is_not_owned_is_not_released(self):
         lock, both = aqs.RLock(), aqs.RWLock()

@@ -66,6 +66,29 @@ static void looks_at_the_end(Condition &condition, Guard &guard) {
     CHECK(condition.wait_until(guard, std::chrono::steady_clock::now() + 2ms, [&] { return ++looks == 2; }));
 }
 
+// A wait with a predicate ends at its time, however often it is notified meanwhile.
+template <class Lock, class Condition>
+static void is_notified_often(Lock &mutex, Condition condition) {
+    const auto begin = std::chrono::steady_clock::now();
+    std::atomic<bool> over{false};
+    std::thread notifier([&] {
+        while (!over && std::chrono::steady_clock::now() < begin + 6s) {
+            mutex.lock();
+            condition.notify_all();
+            mutex.unlock();
+            std::this_thread::sleep_for(1ms);
+        }
+    });
+    {
+        std::unique_lock<Lock> guard(mutex);
+        CHECK(!condition.wait_for(guard, 300ms, [] { return false; }));
+        CHECK(!condition.wait_until(guard, std::chrono::steady_clock::now() + 300ms, [] { return false; }));
+    }
+    over = true;
+    CHECK(std::chrono::steady_clock::now() < begin + 4s);
+    notifier.join();
+}
+
 static void queues() {
     aqs::mutex mutex(aqs::options().keeps_history().has_conditions(2));
     aqs::condition not_empty = mutex.condition(0), not_full = mutex.condition(1);
@@ -95,6 +118,13 @@ static void queues() {
     looks_at_the_end(not_empty, guard);
     CHECK(guard.owns_lock());
     keep("guards-queue", mutex.history());
+}
+
+static void often_notified() {
+    aqs::mutex mutex;
+    aqs::condition_variable changed;
+    is_notified_often(mutex, mutex.condition());
+    is_notified_often<aqs::mutex, aqs::condition_variable &>(mutex, changed);
 }
 
 static void readers() {
@@ -438,6 +468,7 @@ int main(int count, char **words) {
     alarm(60);
     guards();
     queues();
+    often_notified();
     readers();
     others();
     over_a_lock();

@@ -150,17 +150,28 @@ static void interrupt_itself(aqs_status_t (*call)(void), aqs_status_t otherwise,
     CHECK(at > 100);
 }
 
-/* A handler leaves a post, and at each later instruction, also of those that make the post, another comes. Each
-   release is made once. */
+/* A handler leaves two posts, and at each later instruction, also of those that make the posts, another comes.
+   Each release is made once. */
+
+static void release_in_turn(void) {
+    if (handled > 0) {
+        IS(aqs_sem_release(semaphore, 3), AQS_OK);
+    } else {
+        IS(aqs_sem_release(semaphore, 1), AQS_OK);
+        IS(aqs_sem_release(semaphore, 2), AQS_OK);
+    }
+}
+
 static void interrupt_twice(void (*call)(void), int change) {
-    handler = release_one;
+    static const int released_by[] = {0, 1 + 2, 1 + 2 + 3};
+    handler = release_in_turn;
     for (wanted = 60, once_more = wanted + 1;; once_more++) {
         int64_t before = permits_of(semaphore);
         instruction = handled = 0;
         trace();
         call();
         trace_no_more();
-        CHECK(permits_of(semaphore) == before + change + handled);
+        CHECK(permits_of(semaphore) == before + change + released_by[handled]);
         if (handled < 2) break;
     }
     once_more = -1;
@@ -267,22 +278,91 @@ static void storm(void) {
     CHECK(permits_of(semaphore) == before + atomic_load(&posts) - atomic_load(&taken));
 }
 
-/* More releases in one handler than there is room for are refused, and none of the others is lost. */
+/* A thread is stopped at an instruction of a call. Another may come to the object meanwhile and wait for it, while
+   signals come to it. Whatever it does then, each of their handlers may release, and no release is lost. */
+
+enum { SIGNALS = 40 };
+static atomic_bool is_stopped, may_go_on, is_signalled;
+
+static void stop_here(void) {
+    atomic_store(&is_stopped, true);
+    while (!atomic_load(&may_go_on)) sched_yield();
+}
+
+static void *take_and_stop(void *has_stopped) {
+    instruction = handled = 0;
+    trace();
+    take_one();
+    trace_no_more();
+    *(bool *)has_stopped = handled > 0;
+    atomic_store(&is_stopped, true);
+    return NULL;
+}
+
+static void *take_under_signals(void *none) {
+    atomic_store(&in_call, 1);
+    take_one();
+    while (!atomic_load(&is_signalled)) sched_yield();
+    return none;
+}
+
+static bool signalled_while_stopped_at(long at) {
+    pthread_t stopped, other_thread;
+    bool has_stopped;
+    int64_t before = permits_of(semaphore);
+    handler = stop_here, wanted = at;
+    atomic_store(&posts, 0), atomic_store(&in_call, 0);
+    atomic_store(&is_stopped, false), atomic_store(&may_go_on, false), atomic_store(&is_signalled, false);
+    CHECK(pthread_create(&stopped, NULL, take_and_stop, &has_stopped) == 0);
+    while (!atomic_load(&is_stopped)) sched_yield();
+    CHECK(pthread_create(&other_thread, NULL, take_under_signals, NULL) == 0);
+    while (atomic_load(&in_call) == 0) sched_yield();
+    for (int i = 0; i < SIGNALS; i++) {
+        usleep(50);
+        CHECK(pthread_kill(other_thread, SIGUSR2) == 0);
+    }
+    atomic_store(&may_go_on, true), atomic_store(&is_signalled, true);
+    CHECK(pthread_join(stopped, NULL) == 0 && pthread_join(other_thread, NULL) == 0);
+    CHECK(permits_of(semaphore) == before - 2 + atomic_load(&posts));
+    return has_stopped;
+}
+
+static void signalled_while_another_is_stopped(void) {
+    long at = 1;
+    while (signalled_while_stopped_at(at)) at += 12;
+    CHECK(at > 100);
+    atomic_store(&posts, 0);
+}
+
+/* Of 20 kinds of releases in one handler four are refused, and none of the others is lost. */
+
+enum { KINDS = 20, MOST_KINDS = 16, TIMES = 100 };
 
 static int refused;
+static int64_t released;
 
-static void release_many(void) {
-    refused = 0;
-    for (int i = 0; i < 20; i++) {
-        aqs_status_t status = aqs_sem_release(semaphore, 1);
+static void release_each_kind(void) {
+    refused = 0, released = 0;
+    for (uint32_t n = 1; n <= KINDS; n++) {
+        aqs_status_t status = aqs_sem_release(semaphore, n);
         CHECK(status == AQS_OK || status == AQS_OUT_OF_MEMORY);
-        refused += status != AQS_OK;
+        if (status == AQS_OK) released += n;
+        else refused++;
     }
 }
 
-static void many_posts(void) {
+/* Equal releases of two kinds take two places, however many they are. */
+static void release_often(void) {
+    refused = 0, released = 3 * TIMES;
+    for (int i = 0; i < TIMES; i++) {
+        IS(aqs_sem_release(semaphore, 1), AQS_OK);
+        IS(aqs_sem_release(semaphore, 2), AQS_OK);
+    }
+}
+
+static void many_posts(void (*many)(void), int most_refused) {
     int most = 0;
-    handler = release_many;
+    handler = many;
     for (wanted = 1;; wanted += 3) {
         int64_t before = permits_of(semaphore);
         instruction = handled = 0;
@@ -291,11 +371,11 @@ static void many_posts(void) {
         trace_no_more();
         if (handled == 0) break;
         if (refused > most) most = refused;
-        CHECK(permits_of(semaphore) == before - 1 + 20 - refused);
+        CHECK(permits_of(semaphore) == before - 1 + released);
         IS(aqs_sem_drain(semaphore, NULL), AQS_OK);
         IS(aqs_sem_release(semaphore, 1000), AQS_OK);
     }
-    CHECK(most == 4);
+    CHECK(most == most_refused);
 }
 
 /* A handler may release where no memory is to be had, and asks for none. */
@@ -327,7 +407,9 @@ int main(void) {
     interrupt_itself(wait_in_vain, AQS_TIMED_OUT, 29);
     interrupt_itself(wait_for_one, AQS_OK, 1);
     interrupt_twice(give_one, 1);
-    many_posts();
+    signalled_while_another_is_stopped();
+    many_posts(release_each_kind, KINDS - MOST_KINDS);
+    many_posts(release_often, 0);
     without_memory();
     take_the_only_one();
     released_by_its_own_handler();

@@ -205,6 +205,121 @@ static void handlers_run_while_it_waits(void) {
     CHECK(sem_destroy(&nothing_comes) == 0);
 }
 
+/* What a call leaves as it was ---------------------------------------------------------------------------- */
+
+/* A thread that holds a signal up before its first call still does after it. */
+static void *lock_without_signals(void *nothing) {
+    sigset_t held_up;
+    CHECK(sigemptyset(&held_up) == 0 && sigaddset(&held_up, SIGUSR1) == 0);
+    CHECK(pthread_sigmask(SIG_SETMASK, &held_up, NULL) == 0);
+    use_mutex();
+    CHECK(pthread_sigmask(SIG_SETMASK, NULL, &held_up) == 0);
+    printf("held up: SIGUSR1 %d, SIGUSR2 %d\n", sigismember(&held_up, SIGUSR1), sigismember(&held_up, SIGUSR2));
+    return nothing;
+}
+
+static void first_call_keeps_the_signal_mask(void) { join(started(lock_without_signals, NULL)); }
+
+/* How a wait ended, and errno and how the thread is cancelled after it. */
+static void tell(const char *call, int error) {
+    int left = errno, type;
+    CHECK(pthread_setcanceltype(PTHREAD_CANCEL_DEFERRED, &type) == 0);
+    const char *how = type == PTHREAD_CANCEL_DEFERRED ? "deferred" : "asynchronous";
+    printf("%s: %s, errno %s, cancelled %s\n", call, strerrorname_np(error), strerrorname_np(left), how);
+    errno = E2BIG;
+}
+
+static void *wait_in_vain(void *lock) {
+    pthread_mutex_t own = PTHREAD_MUTEX_INITIALIZER;
+    struct timespec soon = after(CLOCK_REALTIME, 20);
+    CHECK(pthread_mutex_lock(&own) == 0);
+    errno = E2BIG;
+    tell("mutex", pthread_mutex_timedlock(&mutex, &soon));
+    soon = after(CLOCK_REALTIME, 20);
+    tell("to read", pthread_rwlock_timedrdlock(lock, &soon));
+    soon = after(CLOCK_REALTIME, 20);
+    tell("to write", pthread_rwlock_timedwrlock(lock, &soon));
+    soon = after(CLOCK_REALTIME, 20);
+    tell("condition", pthread_cond_timedwait(&condition, &own, &soon));
+    soon = after(CLOCK_REALTIME, 20);
+    tell("semaphore", sem_timedwait(&nothing_comes, &soon) ? errno : 0);
+    CHECK(pthread_mutex_unlock(&own) == 0);
+    return NULL;
+}
+
+/* A wait for a lock or a condition leaves errno, and each wait leaves how its thread is cancelled. */
+static void waits_leave_errno_and_cancellation(void) {
+    pthread_rwlock_t lock = PTHREAD_RWLOCK_INITIALIZER;
+    CHECK(sem_init(&nothing_comes, 0, 0) == 0);
+    CHECK(pthread_mutex_lock(&mutex) == 0 && pthread_rwlock_wrlock(&lock) == 0);
+    join(started(wait_in_vain, &lock));
+    CHECK(pthread_rwlock_unlock(&lock) == 0 && pthread_mutex_unlock(&mutex) == 0);
+}
+
+/* More threads than an object of the core has seats come, and go with nothing. None of them keeps a seat. */
+enum { MANY = 300 };
+
+static void *find_all_held(void *lock) {
+    struct timespec past = {1, 0};
+    CHECK(pthread_rwlock_tryrdlock(lock) == EBUSY && pthread_rwlock_trywrlock(lock) == EBUSY);
+    CHECK(pthread_rwlock_timedrdlock(lock, &past) == ETIMEDOUT);
+    CHECK(pthread_rwlock_timedwrlock(lock, &past) == ETIMEDOUT);
+    CHECK(pthread_mutex_trylock(&mutex) == EBUSY && pthread_mutex_timedlock(&mutex, &past) == ETIMEDOUT);
+    return NULL;
+}
+
+static void *lock_all_in_time(void *lock) {
+    struct timespec late = after(CLOCK_REALTIME, 5000);
+    printf("to read: %s", strerrorname_np(pthread_rwlock_timedrdlock(lock, &late)));
+    printf(", mutex: %s\n", strerrorname_np(pthread_mutex_timedlock(&mutex, &late)));
+    CHECK(pthread_rwlock_unlock(lock) == 0 && pthread_mutex_unlock(&mutex) == 0);
+    return NULL;
+}
+
+static void many_threads_find_locks_held(void) {
+    pthread_rwlock_t lock = PTHREAD_RWLOCK_INITIALIZER;
+    CHECK(pthread_mutex_lock(&mutex) == 0 && pthread_rwlock_wrlock(&lock) == 0);
+    for (int i = 0; i < MANY; i++) join(started(find_all_held, &lock));
+    CHECK(pthread_rwlock_unlock(&lock) == 0 && pthread_mutex_unlock(&mutex) == 0);
+    CHECK(pthread_rwlock_rdlock(&lock) == 0);
+    join(started(lock_all_in_time, &lock));
+    CHECK(pthread_rwlock_unlock(&lock) == 0);
+}
+
+static void unlock_mutex(void *which) { CHECK(pthread_mutex_unlock(which) == 0); }
+
+static void *wait_for_a_signal(void *nothing) {
+    CHECK(pthread_mutex_lock(&mutex) == 0);
+    pthread_cleanup_push(unlock_mutex, &mutex);
+    is_done++;
+    for (;;) pthread_cond_wait(&condition, &mutex);
+    pthread_cleanup_pop(1);
+    return nothing;
+}
+
+static void *wait_for_a_permit(void *nothing) {
+    is_done++;
+    sem_wait(&nothing_comes);
+    return nothing;
+}
+
+static void many_waits_are_cancelled(void) {
+    CHECK(sem_init(&nothing_comes, 0, 0) == 0);
+    for (int i = 0; i < 2 * MANY; i++) {
+        pthread_t thread = started(i % 2 ? wait_for_a_signal : wait_for_a_permit, NULL);
+        while (is_done <= i) sched_yield();
+        usleep(1000);
+        CHECK(pthread_cancel(thread) == 0);
+        join(thread);
+    }
+    struct timespec late = after(CLOCK_REALTIME, 5000), soon = after(CLOCK_REALTIME, 20);
+    CHECK(sem_post(&nothing_comes) == 0);
+    printf("permit: %s", strerrorname_np(sem_timedwait(&nothing_comes, &late) ? errno : 0));
+    printf(", mutex: %s", strerrorname_np(pthread_mutex_timedlock(&mutex, &late)));
+    printf(", condition: %s\n", strerrorname_np(pthread_cond_timedwait(&condition, &mutex, &soon)));
+    CHECK(pthread_mutex_unlock(&mutex) == 0);
+}
+
 /* Mutexes that glibc keeps ------------------------------------------------------------------------------- */
 
 static pthread_mutex_t made(int robust, int protocol, int type) {
@@ -302,6 +417,34 @@ static void trylock_beside_signals(void) {
     printf("busy %d times\n", busy);
 }
 
+/* More threads wait than an object of the core has seats. Their owner wakes them all at once, or one by one. */
+static int opened;
+
+static void *wait_until_opened(void *which) {
+    CHECK(pthread_mutex_lock(&mutex) == 0);
+    is_done++;
+    while (opened < (int)(long)which) CHECK(pthread_cond_wait(&condition, &mutex) == 0);
+    CHECK(pthread_mutex_unlock(&mutex) == 0);
+    return NULL;
+}
+
+static void an_owner_wakes_many(void) {
+    pthread_t threads[MANY];
+    for (int way = 1; way <= 2; way++) {
+        is_done = 0;
+        for (int i = 0; i < MANY; i++) threads[i] = started(wait_until_opened, (void *)(long)way);
+        while (is_done < MANY) usleep(1000);
+        CHECK(pthread_mutex_lock(&mutex) == 0);
+        opened = way;
+        if (way == 1) CHECK(pthread_cond_broadcast(&condition) == 0);
+        for (int i = 0; way == 2 && i < MANY; i++) CHECK(pthread_cond_signal(&condition) == 0);
+        CHECK(pthread_mutex_unlock(&mutex) == 0);
+        for (int i = 0; i < MANY; i++) join(threads[i]);
+        printf("way %d: all woken\n", way);
+        fflush(stdout);
+    }
+}
+
 /* Children ------------------------------------------------------------------------------------------------ */
 
 enum { CHILDREN = 60, CALLERS = 8 };
@@ -345,6 +488,28 @@ static void children_wait_together(void) {
     printf("%d children\n", CHILDREN);
 }
 
+/* A child forks too, and its child goes on. */
+static void children_fork(void) {
+    int status;
+    fflush(stdout);
+    pid_t child = fork();
+    if (child == 0) {
+        alarm(20);
+        use_mutex();
+        pid_t grandchild = fork();
+        if (grandchild == 0) {
+            alarm(20);
+            use_mutex();
+            _exit(6);
+        }
+        CHECK(grandchild > 0 && waitpid(grandchild, &status, 0) == grandchild && WIFEXITED(status));
+        use_mutex();
+        _exit(WEXITSTATUS(status));
+    }
+    CHECK(child > 0 && waitpid(child, &status, 0) == child && WIFEXITED(status));
+    printf("status %d\n", WEXITSTATUS(status));
+}
+
 /* Read-write locks --------------------------------------------------------------------------------------- */
 
 static void *find_shared(void *lock) {
@@ -369,6 +534,54 @@ static void reader_asks_to_write(void) {
     CHECK(pthread_rwlock_unlock(&lock) == 0 && pthread_rwlock_destroy(&lock) == 0);
 }
 
+static void *write_once(void *lock) {
+    CHECK(pthread_rwlock_wrlock(lock) == 0);
+    return pthread_rwlock_unlock(lock) ? lock : NULL;
+}
+
+/* How it ends that a thread tries to read beside a reader: often, so that it finds a writer in the queue. */
+static void *read_beside_a_reader(void *lock) {
+    int error = 0;
+    for (int i = 0; i < 20 && !error; i++) {
+        struct timespec soon = after(CLOCK_REALTIME, 20);
+        error = pthread_rwlock_timedrdlock(lock, &soon);
+        if (!error) CHECK(usleep(10000) == 0 && pthread_rwlock_unlock(lock) == 0);
+    }
+    printf("%s\n", strerrorname_np(error));
+    return NULL;
+}
+
+/* A reader comes before writers that wait, unless the lock prefers writers. */
+static void reader_comes_while_a_writer_waits(void) {
+    static const int kinds[] = {PTHREAD_RWLOCK_PREFER_READER_NP, PTHREAD_RWLOCK_PREFER_WRITER_NONRECURSIVE_NP};
+    for (int i = 0; i < 2; i++) {
+        pthread_rwlockattr_t attributes;
+        pthread_rwlock_t lock;
+        CHECK(pthread_rwlockattr_init(&attributes) == 0);
+        CHECK(pthread_rwlockattr_setkind_np(&attributes, kinds[i]) == 0);
+        CHECK(pthread_rwlock_init(&lock, &attributes) == 0 && pthread_rwlock_rdlock(&lock) == 0);
+        pthread_t writer = started(write_once, &lock);
+        join(started(read_beside_a_reader, &lock));
+        CHECK(pthread_rwlock_unlock(&lock) == 0);
+        join(writer);
+    }
+}
+
+/* A moment before 1970 is over, as any that has passed. */
+static void *wait_until_1969(void *lock) {
+    static const struct timespec long_ago = {-1, 0};
+    printf("mutex: %s", strerrorname_np(pthread_mutex_timedlock(&mutex, &long_ago)));
+    printf(", to read: %s\n", strerrorname_np(pthread_rwlock_timedrdlock(lock, &long_ago)));
+    return NULL;
+}
+
+static void waits_until_long_ago(void) {
+    pthread_rwlock_t lock = PTHREAD_RWLOCK_INITIALIZER;
+    CHECK(pthread_mutex_lock(&mutex) == 0 && pthread_rwlock_wrlock(&lock) == 0);
+    join(started(wait_until_1969, &lock));
+    CHECK(pthread_rwlock_unlock(&lock) == 0 && pthread_mutex_unlock(&mutex) == 0);
+}
+
 #define CASE(name) {#name, name}
 static const struct {
     const char *name;
@@ -381,11 +594,19 @@ static const struct {
     CASE(handlers_fork),
     CASE(is_asked_to_write_often),
     CASE(handlers_run_while_it_waits),
+    CASE(first_call_keeps_the_signal_mask),
+    CASE(waits_leave_errno_and_cancellation),
+    CASE(many_threads_find_locks_held),
+    CASE(many_waits_are_cancelled),
     CASE(wait_returns_the_errors_of_its_mutex),
     CASE(has_locks_of_other_kinds),
     CASE(trylock_beside_signals),
+    CASE(an_owner_wakes_many),
     CASE(children_wait_together),
+    CASE(children_fork),
     CASE(reader_asks_to_write),
+    CASE(reader_comes_while_a_writer_waits),
+    CASE(waits_until_long_ago),
 };
 
 int main(int argc, char **argv) {

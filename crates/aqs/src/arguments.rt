@@ -263,9 +263,8 @@ fn asked_by(alloc: Global, words: &ArgMatches<'_>) -> Result<Asked, Fault> {
         ),
     };
     let names = match job {
-        Job::Answer(Task::Draw(_)) => file_in(alloc, options, "names")?,
-        Job::Answer(Task::Page(_)) if options.get_str("names").is_some() => {
-            return Err(Fault::Usage);
+        Job::Answer(Task::Draw(_)) | Job::Answer(Task::Page(_)) => {
+            file_in(alloc, options, "names")?
         }
         _ => None,
     };

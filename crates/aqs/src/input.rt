@@ -1,5 +1,6 @@
 //! What the program reads.
 
+use std::fs::OpenFile;
 use std::io::{self, Read};
 
 /// Where the text comes from. It is one type, so that the code which reads it is compiled once.
@@ -29,6 +30,19 @@ impl<I, F> Input<I, F> {
     /// Returns why a read failed, if one did.
     pub fn failure(&self) -> Option<&io::Error> {
         self.failure.as_ref()
+    }
+}
+
+impl<I, F: OpenFile> Input<I, F> {
+    /// Returns how many bytes the file has that was named, if that is known.
+    pub fn size(&self) -> Option<u64> {
+        let Origin::Named(file) = &self.origin else {
+            return None;
+        };
+        match file.metadata() {
+            Ok(found) if found.is_file() => Some(found.len()),
+            _ => None,
+        }
     }
 }
 

@@ -15,7 +15,8 @@
 //! `--timeout` it says how the threads stand if they have not ended in time, with status 1. `aqs manual` and
 //! `aqs about` write pages. Without any words the program replays. With `--json` an audit, an explanation or a
 //! summary is one JSON object. With `-o FILE` what a command writes goes to a file. A fault is printed on standard
-//! error, in one line. Nothing has been written then, unless writing itself failed.
+//! error, in one line. Nothing has been written then, unless writing itself failed. While a long text is read, and
+//! standard error is a terminal, a line there says how much was read.
 #![tactic(auto)]
 
 ghost use Rattle.std.specs.Prelude.{◌≡◌, ◌↔◌, false, IsErrOf, IsTrue};
@@ -26,19 +27,22 @@ mod arguments;
 mod folder;
 mod input;
 mod output;
+mod progress;
 
 use crate::arguments::{Asked, RunOptions, arguments};
 use crate::folder::Left;
 use crate::input::{Input, Origin};
 use crate::output::{Output, close, open};
+use crate::progress::Progress;
 use driver::notation::Notation;
 use naming::Names;
 use run_text::write_history;
 use script::Script;
+use std::alloc::Global;
 use std::convert::AsStr;
 use std::env;
 use std::fs::File;
-use std::io::{self, Read, Write};
+use std::io::{self, IsTerminal, Read, Write};
 use std::process::ExitCode;
 use std::rt::{Env, Files};
 use std::sync::{Arc, Wait};
@@ -46,14 +50,16 @@ use std::thread::Threads;
 use std::time::Clock;
 use streams::device::Device;
 use streams::sink::Sink;
+use streams::source::Source;
 use streams::stream_fault::StreamFault;
 use streams::until_end::UntilEnd;
+use streams::watched::Watched;
 use tasks::as_json::{explain_as_json, tell_unread_as_json};
 use tasks::ending::status_of_end;
 use tasks::explain::{explain, tell_unread};
 use tasks::fault::{Fault, RunOption};
 use tasks::names::names_of;
-use tasks::perform::{draw_with, perform};
+use tasks::perform::perform_with;
 use tasks::ran::Ran;
 use tasks::run_script::{run_script, script_of};
 use tasks::task::{Job, Task};
@@ -72,28 +78,48 @@ fn names_in<R: Files + AllocGlobal>(rt: &R, file: Option<&str>) -> Result<Names,
     }
 }
 
-/// Does a job, with the text from a reader.
-fn finish<R: AllocGlobal + Threads + Wait + Clock + Sync, I: Read + Drop, W: Sink>(
+/// Does a job, with the text from a source.
+fn work<R: AllocGlobal + Threads + Wait + Clock + Sync, S: Source, W: Sink>(
+    rt: &R,
+    job: Job,
+    names: &Names,
+    reader: &mut S,
+    writer: &mut W,
+) -> Result<u8, Fault>
+    requires reader { S.failed reader.old ≡ false }
+    requires writer { W.failed writer.old ≡ false }
+    ensures { IsErrOf result (Stream WriteFailed) ↔ IsTrue (W.failed writer.new) }
+{
+    match job {
+        Job::Answer(task) => perform_with(rt.alloc(), names, reader, writer, task),
+        Job::Explain(at, Notation::Lines) => explain(rt.alloc(), reader, writer, at),
+        Job::Explain(at, Notation::Json) => explain_as_json(rt.alloc(), reader, writer, at),
+        Job::Run => run_script(rt, reader, writer),
+        Job::Tell(page) => tell(writer, page),
+    }
+}
+
+/// Does a job, with the text from a reader. The terminal is told how much of the text was read.
+fn finish<
+    R: AllocGlobal + Threads + Wait + Clock + Sync,
+    I: Read + Drop,
+    E: IsTerminal + Write + Drop,
+    W: Sink,
+>(
     rt: &R,
     job: Job,
     names: &Names,
     input: I,
+    progress: Progress<E>,
     writer: &mut W,
 ) -> Result<u8, Fault>
     requires { W.failed writer.old ≡ false }
     ensures { IsErrOf result (Stream WriteFailed) ↔ IsTrue (W.failed writer.new) }
 {
-    let mut reader = UntilEnd::new(Device::new(input));
-    match job {
-        Job::Answer(Task::Draw(choice)) => {
-            draw_with(rt.alloc(), names, &mut reader, writer, choice)
-        }
-        Job::Answer(task) => perform(rt.alloc(), &mut reader, writer, task),
-        Job::Explain(at, Notation::Lines) => explain(rt.alloc(), &mut reader, writer, at),
-        Job::Explain(at, Notation::Json) => explain_as_json(rt.alloc(), &mut reader, writer, at),
-        Job::Run => run_script(rt, &mut reader, writer),
-        Job::Tell(page) => tell(writer, page),
-    }
+    let mut reader = Watched::new(UntilEnd::new(Device::new(input)), progress);
+    let done = work(rt, job, names, &mut reader, writer);
+    reader.end();
+    done
 }
 
 /// Returns the fault of a text that can't be read. An explanation says why instead.
@@ -162,16 +188,32 @@ fn timed<R: AllocGlobal + Threads + Wait + Clock + Sync + Send + Copy + 'static>
     }
 }
 
+/// Returns the script of a reader. The terminal is told how much of it was read.
+fn script_in<I: Read + Drop, E: IsTerminal + Write + Drop>(
+    alloc: Global,
+    input: I,
+    progress: Progress<E>,
+) -> Result<Script, Fault> {
+    let mut reader = Watched::new(UntilEnd::new(Device::new(input)), progress);
+    let script = script_of(alloc, &mut reader);
+    reader.end();
+    script
+}
+
 /// Runs the threads of a script, and does what its options ask for.
 fn run_with<
     R: Files + AllocGlobal + Threads + Wait + Clock + Sync + Send + Copy + 'static,
-    I: Read + Drop,
     W: Sink,
->(rt: &R, options: &RunOptions, input: I, writer: &mut W, left: &mut Left) -> Result<u8, Fault>
+>(
+    rt: &R,
+    options: &RunOptions,
+    script: Script,
+    writer: &mut W,
+    left: &mut Left,
+) -> Result<u8, Fault>
     requires { W.failed writer.old ≡ false }
 {
-    let mut reader = UntilEnd::new(Device::new(input));
-    let Ok(script) = Arc::new(rt.alloc(), script_of(rt.alloc(), &mut reader)?) else {
+    let Ok(script) = Arc::new(rt.alloc(), script) else {
         return Err(Fault::Memory);
     };
     let place = place_in(&*script, options.object.as_ref().map(|name| name.as_str()))?;
@@ -191,7 +233,8 @@ fn answer<
     R: Files + AllocGlobal + Threads + Wait + Clock + Sync + Send + Copy + 'static,
     I: Read + Drop,
     O: Write + Drop,
->(rt: &R, asked: &Asked, given: I, output: O, left: &mut Left) -> Result<u8, Fault> {
+    E: IsTerminal + Write + Drop,
+>(rt: &R, asked: &Asked, given: I, output: O, error: E, left: &mut Left) -> Result<u8, Fault> {
     let job = asked.job;
     let file = asked.file.as_ref().map(|name| name.as_str());
     let names = names_in(rt, asked.names.as_ref().map(|name| name.as_str()))?;
@@ -204,10 +247,12 @@ fn answer<
         },
     };
     let mut input = Input::new(origin);
+    let progress = Progress::new(rt.alloc(), error, input.size());
     if let Some(options) = &asked.options {
-        return run_with(rt, options, &mut input, &mut writer, left);
+        let script = script_in(rt.alloc(), &mut input, progress)?;
+        return run_with(rt, options, script, &mut writer, left);
     }
-    let done = finish(rt, job, &names, &mut input, &mut writer);
+    let done = finish(rt, job, &names, &mut input, progress, &mut writer);
     match (done, input.failure()) {
         (Err(Fault::Stream(StreamFault::ReadFailed)), Some(error)) => {
             unread(rt, job, file, error, &mut writer)
@@ -222,12 +267,13 @@ fn run<
     S: AsStr,
     I: Read + Drop,
     O: Write + Drop,
->(rt: &R, words: &[S], given: I, output: O) -> Result<u8, Fault> {
+    E: IsTerminal + Write + Drop,
+>(rt: &R, words: &[S], given: I, output: O, error: E) -> Result<u8, Fault> {
     let asked = arguments(rt.alloc(), words)?;
     let named = asked.output.as_ref().map(|name| name.as_str());
     let mut output: Output<O, R::File> = open(rt, output, named)?;
     let mut left = Left::new(rt.alloc());
-    let done = answer(rt, &asked, given, &mut output, &mut left);
+    let done = answer(rt, &asked, given, &mut output, error, &mut left);
     let done = close(rt, output, done);
     if done.is_err() {
         left.remove(rt);
@@ -248,7 +294,7 @@ fn words<R: Env + AllocGlobal>(rt: &R) -> Result<Vec<String>, Fault> {
 
 fn main(rt: HostRuntime) -> ExitCode {
     let done = match words(&rt) {
-        Ok(words) => run(&rt, &words, rt.stdin(), rt.stdout()),
+        Ok(words) => run(&rt, &words, rt.stdin(), rt.stdout(), rt.stderr()),
         Err(fault) => Err(fault),
     };
     ExitCode::from(status_of_end(&rt, done))

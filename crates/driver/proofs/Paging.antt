@@ -13,6 +13,7 @@ use Rattle.history.specs.GoodBase.{IsGood}
 use Rattle.history.specs.Legal.{IsLegal}
 use Rattle.history.specs.Point.{CanFold}
 use Rattle.history.specs.Start.{Start}
+use Rattle.naming.specs.Names.{Given}
 use Rattle.picture.specs.View.{View}
 use Rattle.driver.specs.declared.choice.Choice.{Choice}
 use Rattle.driver.specs.Choice.{end_of, first_of}
@@ -79,19 +80,19 @@ can_fold_shown b h kept j v n end good is q items all =
     }
 
 -- the page of the same
-pub same_page : (choice : Choice) (v : Verdict) (own held b : Base) (p : View) (n count : ℕ)
+pub same_page : (names : Given) (choice : Choice) (v : Verdict) (own held b : Base) (p : View) (n count : ℕ)
     (shown kept h : List Entry) (text : List ℕ) → own ≡ b → held ≡ b → n ≡ first_of choice b.entries →
     count ≡ length h → shown ≡ legal_front v kept → kept ≡ take (end_of choice b.entries) (reverse h) →
-    p ≡ pictured held choice count v (legal_front v kept) → text ≡ page_on own p n shown →
-    text ≡ paged_text choice b h v
-same_page choice v own held b p n count shown kept h text owned same from counted front items drawn is =
+    p ≡ pictured held choice count v (legal_front v kept) → text ≡ page_on names own p n shown →
+    text ≡ paged_text names choice b h v
+same_page names choice v own held b p n count shown kept h text owned same from counted front items drawn is =
     let xs = take (end_of choice b.entries) (reverse h) in
     let first = first_of choice b.entries in
     is
-    ∙ ap (λ (x : Base). page_on x p n shown) owned
-    ∙ ap (λ (m : ℕ). page_on b p m shown) from
-    ∙ ap (λ (ys : List Entry). page_on b p first ys) (front ∙ ap (legal_front v) items)
-    ∙ ap (λ (w : View). page_on b w first (legal_front v xs))
+    ∙ ap (λ (x : Base). page_on names x p n shown) owned
+    ∙ ap (λ (m : ℕ). page_on names b p m shown) from
+    ∙ ap (λ (ys : List Entry). page_on names b p first ys) (front ∙ ap (legal_front v) items)
+    ∙ ap (λ (w : View). page_on names b w first (legal_front v xs))
     (drawn
     ∙ ap (λ (x : Base). pictured x choice count v (legal_front v kept)) same
     ∙ ap (λ (m : ℕ). pictured b choice m v (legal_front v kept)) counted

@@ -1,5 +1,5 @@
 -- What is drawn for a history text.
-use Rattle.std.specs.Prelude.{ℕ, ◌+◌, List, [], Option, Some, None, Result, length, reverse, take}
+use Rattle.std.specs.Prelude.{ℕ, ◌+◌, if◌then◌else◌, List, [], Option, Some, None, Result, length, reverse, take}
 use Rattle.audit.specs.declared.verdict.Verdict.{Verdict}
 use Rattle.audit.specs.declared.verdict.Verdict.TheVariants.{Legal, NotLegal}
 use Rattle.drawing.specs.Bars.{bars}
@@ -9,13 +9,14 @@ use Rattle.history.specs.declared.entry.Entry.{Entry}
 use Rattle.history.specs.Base.{Base, based}
 use Rattle.history_text.specs.HistoryText.{history_form}
 use Rattle.naming.specs.Names.{Given}
+use Rattle.overview.specs.Document.{overview_text}
 use Rattle.picture.specs.Document.{svg_text}
 use Rattle.picture.specs.View.{View}
 use Rattle.streams.specs.declared.stream_fault.StreamFault.{StreamFault}
 use Rattle.streams.specs.Streams.{Streams}
 use Rattle.driver.specs.declared.choice.Choice.{Choice}
 use Rattle.driver.specs.AuditStream.{IsToldOf}
-use Rattle.driver.specs.Choice.{end_of, first_of, is_cut}
+use Rattle.driver.specs.Choice.{end_of, first_of, is_cut, is_summed}
 
 -- the entries before the first illegal one, of entries that are oldest first
 abbrev pub legal_front : Verdict → List Entry → List Entry
@@ -50,9 +51,27 @@ picture_of choice b entries verdict =
     pictured b choice (length entries) verdict
     (legal_front verdict (take (end_of choice b.entries) (reverse entries)))
 
+-- the document of the chosen entries, of some that are oldest first; the history has `count` after its base
+abbrev pub chosen_text : Given → Choice → Base → ℕ → Verdict → List Entry → List ℕ
+chosen_text names choice b count verdict kept =
+    svg_text names
+    (pictured b choice count verdict (legal_front verdict (take (end_of choice b.entries) kept)))
+    (take (end_of choice b.entries) kept)
+
+-- the summary of all entries
+abbrev pub summed_text : Given → Choice → Base → ℕ → Verdict → List Entry → List ℕ
+summed_text names choice b count verdict all =
+    overview_text names (pictured b choice count verdict (legal_front verdict all)) all
+
+-- the one or the other
+abbrev pub text_of_kept : Given → Choice → Base → ℕ → Verdict → List Entry → List ℕ
+text_of_kept names choice b count verdict kept =
+    if is_summed choice count then summed_text names choice b count verdict kept
+    else chosen_text names choice b count verdict kept
+
 abbrev pub drawn_text : Given → Choice → Base → List Entry → Verdict → List ℕ
 drawn_text names choice b entries verdict =
-    svg_text names (picture_of choice b entries verdict) (take (end_of choice b.entries) (reverse entries))
+    text_of_kept names choice b (length entries) verdict (reverse entries)
 
 -- what drawing with names leaves
 abbrev pub DrawsWith : Given → Choice → Option (List ℕ) → Option (List ℕ) → Option (List ℕ) →

@@ -1,16 +1,17 @@
 //! Which entries of a history are drawn.
 
 ghost use Rattle.std.specs.Prelude.{◌≡◌};
-ghost use Rattle.driver.specs.Choice.{end_of, first_of, is_cut};
+ghost use Rattle.driver.specs.Choice.{end_of, first_of, is_cut, is_summed, kept_of};
 
-use crate::limits::UNCHOSEN;
+use crate::limits::{UNCHOSEN, UNSUMMED};
 
 /// The first and the last entry to draw, by their numbers. The numbers count folded entries too.
 #[derive(Clone, Copy, Debug, PartialEq, Eq)]
 pub struct Choice {
     /// None: from the beginning.
     pub from: Option<u64>,
-    /// None: to the end. If `from` is None too: to the 2,000th entry that wasn't folded.
+    /// None: to the end. If `from` is None too: to the 2,000th entry that wasn't folded, or a summary of all
+    /// if there are more than 5,000.
     pub to: Option<u64>,
 }
 
@@ -35,6 +36,33 @@ impl Choice {
             None => match self.from {
                 Some(_) => u64::MAX,
                 None => UNCHOSEN,
+            },
+        }
+    }
+
+    /// Returns how many unfolded entries are kept until all are read, if `folded` entries were folded: all
+    /// if none were chosen.
+    pub(crate) fn kept(self, folded: u64) -> u64
+        ensures { result ≡ kept_of self folded }
+    {
+        match self.from {
+            Some(_) => self.end(folded),
+            None => match self.to {
+                Some(_) => self.end(folded),
+                None => u64::MAX,
+            },
+        }
+    }
+
+    /// Returns whether the history is summed up in columns.
+    pub(crate) fn is_summed(self, entries: u64) -> bool
+        ensures { result ≡ is_summed self entries }
+    {
+        match self.from {
+            Some(_) => false,
+            None => match self.to {
+                Some(_) => false,
+                None => UNSUMMED < entries,
             },
         }
     }

@@ -1,19 +1,21 @@
 //! From a history text to a picture of the history.
 
-ghost use Rattle.std.specs.Prelude.{◌≡◌, ◌+◌, ◌<◌, ◌^◌, ◌↔◌, IsTrue, IfErr, IfOk};
+ghost use Rattle.std.specs.Prelude.{◌≡◌, ◌+◌, ◌<◌, ◌≤◌, ◌^◌, ◌↔◌, IsTrue, IfErr, IfOk};
 ghost use Rattle.std.specs.Prelude.{IsErrOf, OnOk, false, length, reverse, take};
 ghost use Rattle.std.specs.List.{All};
 ghost use Rattle.std.specs.Io.KnownBytes.{IsAtEnd};
 ghost use Rattle.driver.specs.inner.VerdictText.{IsVerdictText};
 ghost use Rattle.driver.specs.AuditText.{before_wrong};
-ghost use Rattle.driver.specs.DrawStream.{Draws, DrawsWith, drawn_text, legal_front, pictured, wrong_of};
+ghost use Rattle.driver.specs.DrawStream.{Draws, DrawsWith, drawn_text, legal_front, pictured, text_of_kept, wrong_of};
 ghost use Rattle.driver.specs.HistoryReader.{base_held};
 ghost use Rattle.driver.specs.TextReader.{IsFaultOf};
 ghost use Rattle.history_text.specs.HistoryText.{history_form};
-ghost use Rattle.picture.specs.Document.{svg_text};
+ghost use Rattle.picture.specs.Document.{IsPicture};
+ghost use Rattle.picture.specs.View.{view_of};
 ghost use Rattle.streams.specs.Streams.{IsReadNoFurther, IsReadOut};
 
 use crate::choice::Choice;
+use crate::explain_stream::front;
 use crate::history_reader::HistoryReader;
 use crate::judged::judged_of;
 use crate::verdict_text::{VerdictText, write_verdict};
@@ -22,6 +24,7 @@ use drawing::drawn_entries::drawn_of;
 use drawing::laws::bars_are_the_longest_stretches;
 use history::entry::Entry;
 use naming::Names;
+use overview::document::overview_text;
 use picture::document::svg_text;
 use picture::picture::Picture;
 use std::alloc::{AllocError, Global};
@@ -32,7 +35,8 @@ use streams::stream_fault::StreamFault;
 /// Reads a history text, judges the history from its base on, and writes a picture of the chosen entries.
 /// Returns the verdict as well. A history that isn't legal is drawn up to its first illegal entry.
 ///
-/// Entries are kept up to the last one that is drawn. As in
+/// If none were chosen, a history of more than 5,000 entries is summed up in columns, and of a shorter one
+/// the first 2,000 are drawn. Entries are kept up to the last one that is drawn; all if none were chosen. As in
 /// [`audit_stream`](crate::audit_stream::audit_stream) all is read, and all memory reserved, before anything
 /// is written.
 pub fn draw_stream<R: Source, W: Sink>(
@@ -86,13 +90,13 @@ fn sketch_of<R: Source>(
 {
     let mut entries = HistoryReader::open(alloc, reader)?;
     let folded = entries.folded();
-    let judged = judged_of(alloc, &mut entries, reader, choice.end(folded))?;
+    let judged = judged_of(alloc, &mut entries, reader, choice.kept(folded))?;
     let verdict = judged.judgement.verdict();
     let text = drawn_text(alloc, names, &entries, choice, verdict, &judged.entries)?;
     Ok(VerdictText { verdict, text })
 }
 
-/// Returns the text of the picture. `kept` are those of the read entries that were kept.
+/// Returns the text of the picture or of the summary. `kept` are those of the read entries that were kept.
 fn drawn_text(
     alloc: Global,
     names: &Names,
@@ -105,8 +109,35 @@ fn drawn_text(
     requires wrong { before_wrong verdict < 2 ^ 32 }
     requires seated { All (λ e. e.seat < entries.now.header.seats) kept.now }
     requires few { length kept.now < 2 ^ 32 }
-    ensures { IfOk result (λ text. text.items ≡ svg_text names.now (pictured (base_held entries.now) choice
-        entries.now.place.count verdict (legal_front verdict kept.now)) kept.now) }
+    ensures { IfOk result (λ text. text.items
+        ≡ text_of_kept names.now choice (base_held entries.now) entries.now.place.count verdict kept.now) }
+{
+    if choice.is_summed(entries.count()) {
+        let whole = picture_of(alloc, entries, choice, verdict, kept)?;
+        overview_text(alloc, names, &whole, kept)
+    } else {
+        let chosen = front(kept, choice.end(entries.folded()));
+        let picture = picture_of(alloc, entries, choice, verdict, chosen)?;
+        svg_text(alloc, names, &picture, chosen)
+    }
+}
+
+/// Returns what is to be drawn of the legal ones of some of the read entries.
+pub(crate) fn picture_of(
+    alloc: Global,
+    entries: &HistoryReader,
+    choice: Choice,
+    verdict: Verdict,
+    kept: &[Entry],
+) -> Result<Picture, AllocError>
+    requires base { entries.now.place.folded ≡ (base_held entries.now).entries }
+    requires wrong { before_wrong verdict < 2 ^ 32 }
+    requires seated { All (λ e. e.seat < entries.now.header.seats) kept.now }
+    requires few { length kept.now < 2 ^ 32 }
+    ensures is { IfOk result (λ picture. view_of picture ≡ pictured (base_held entries.now) choice
+        entries.now.place.count verdict (legal_front verdict kept.now)) }
+    ensures sound { IfOk result (λ picture. IsPicture (view_of picture)) }
+    ensures count { entries.now.place.count ≤ entries.now.header.cap }
 {
     let shown = legal_front(kept, verdict);
     let header = entries.header();
@@ -114,7 +145,8 @@ fn drawn_text(
     let count = entries.count();
     let from = choice.first(folded);
     let drawn = drawn_of(alloc, header, entries.base(), from, shown)?;
-    let picture = Picture {
+    bars_are_the_longest_stretches();
+    Ok(Picture {
         header,
         folded,
         from,
@@ -123,9 +155,7 @@ fn drawn_text(
         is_cut: choice.is_cut(count),
         wrong: wrong_of(folded, verdict),
         drawn,
-    };
-    bars_are_the_longest_stretches();
-    svg_text(alloc, names, &picture, kept)
+    })
 }
 
 /// Returns the entries before the first illegal one.

@@ -2,9 +2,9 @@
 //!
 //! It reads all, and reserves all memory, before it writes. So nothing is written for a text that is refused.
 //! A replay performs each line as it is read, and keeps the answers in short form until they are written. An
-//! audit judges each line as it is read, and keeps no entry. A drawing keeps the entries that it draws, and an
-//! explanation those up to the one that it explains. A summary keeps all. The
-//! contracts refer to the bytes of sources and sinks, if these are known.
+//! audit and a summary judge each line as it is read, and keep no entry. A drawing keeps the entries up to the
+//! last one that it draws, or all if none were chosen, and an explanation those up to the one that it explains.
+//! The contracts refer to the bytes of sources and sinks, if these are known.
 #![tactic(auto)]
 
 mod answer_line;

@@ -5,3 +5,6 @@ pub const LONGEST_LINE: usize = 136;
 
 /// How many entries are drawn if none are chosen.
 pub const UNCHOSEN: u64 = 2000;
+
+/// A history with more entries than this is summed up in columns if none are chosen.
+pub const UNSUMMED: u64 = 5000;

@@ -18,7 +18,8 @@ pub const OVERVIEW: &[u8] = b"\
     \n\
     Without FILE a command reads standard input. With -o FILE one that reads a text writes to a file:\n\
     after a fault that is as it was. A name of a file does not begin with a minus sign. Nothing is\n\
-    written before all is read. A fault is one line on standard error.\n\
+    written before all is read. A fault is one line on standard error. On a terminal a line there says\n\
+    how much of a long text was read, and is wiped in the end.\n\
     \n\
     Status: 0 good; 1 the history is not legal; 2 the command line; 3 the text; 4 a device or a\n\
     thread; 5 memory.\n";
@@ -138,7 +139,7 @@ pub const EXPLAIN: &[u8] = b"\
 pub const SUMMARY: &[u8] = b"\
     aqs summary [--json] [--output F] [FILE]\n\
     \n\
-    Reads a history text and sums it up, for histories that are too long to draw. A history that is\n\
+    Reads a history text and sums it up, for histories that are too long to read. A history that is\n\
     not legal is summed up to its first entry that is not, and the status is 1.\n\
     \n\
     A line for each thread that made an entry has the calls that ended; the acquires that took at\n\
@@ -183,11 +184,15 @@ pub const DRAW: &[u8] = b"\
     \n\
     \x20 --page        writes a page of HTML in place of the picture. It needs no network. It steps from\n\
     \x20               entry to entry, says who holds and who waits in which order, and finds entries\n\
-    \x20 --names F     shows the names of threads and conditions that the file F has, not with --page. Its\n\
+    \x20 --names F     shows the names of threads and conditions that the file F has, on a page too. Its\n\
     \x20               lines are, in any order: 3 parser, condition 0 not-empty\n\
     \x20 --from A      draws from entry A on\n\
-    \x20 --to B        draws up to entry B; with neither at most the first 2,000 are drawn\n\
+    \x20 --to B        draws up to entry B\n\
     \x20 --output F    writes to the file F in place of standard output. -o F is the same\n\
+    \n\
+    With neither --from nor --to a history of more than 5,000 entries is summed up in columns, at\n\
+    most 240, with its longest waits and the --from and --to that draw each. Of a shorter history, and\n\
+    on a page, the first 2,000 entries are drawn.\n\
     \n\
     For example: aqs draw --from 100 --to 200 -o my.svg my.history\n\
     or:          aqs draw --page --to 9999 -o my.html my.history\n";

@@ -11,8 +11,7 @@ use Rattle.drawing.specs.Levels.{one_if}
 use Rattle.naming.specs.Names.{Given}
 use Rattle.picture.specs.declared.layout.Layout.{Layout}
 use Rattle.picture.specs.Grid.{row_if_any, rows}
-use Rattle.picture.specs.inner.{AreRanks}
-use Rattle.picture.specs.Rows.{has_row, rank, ranks}
+use Rattle.picture.specs.Rows.{AreRanks, has_row, rank, ranks}
 use Rattle.picture.specs.View.{View}
 
 or_false : (a : Bool) → (a || false) ≡ a

@@ -1,5 +1,6 @@
 -- Which seats have a row, and where.
-use Rattle.std.specs.Prelude.{ℕ, zero, suc, ◌+◌, ◌==◌, Bool, ◌||◌, if◌then◌else◌, List, Option, Some, None, drop, map, take}
+use Rattle.std.specs.Prelude.{ℕ, zero, suc, ◌+◌, ◌<◌, ◌^◌, ◌==◌, Bool, ◌||◌, if◌then◌else◌, List, Option, Some, None, drop, map, take}
+use Rattle.std.specs.List.{All}
 use Rattle.history.specs.declared.entry.Entry.{Entry}
 use Rattle.history.specs.Base.{each_below}
 use Rattle.history.specs.Sleepers.{has}
@@ -27,3 +28,7 @@ rank p entries (suc i) = rank p entries i + one_if (has_row p entries i)
 -- for each seat how many before it have a row; after them how many seats have one
 abbrev pub ranks : View → List Entry → List ℕ
 ranks p entries = each_below (suc p.header.seats) (rank p entries)
+
+-- no rank is more than a header can have seats
+abbrev pub AreRanks : List ℕ → Type 0
+AreRanks ranks = All (λ r. r < 2 ^ 16) ranks

@@ -1,6 +1,5 @@
 -- What only contracts of private functions cite: no promise of the crate rests on it.
-use Rattle.std.specs.Prelude.{ℕ, ◌+◌, ◌<◌, ◌≤◌, ◌^◌, List}
-use Rattle.std.specs.List.{All}
+use Rattle.std.specs.Prelude.{◌+◌, ◌<◌, ◌≤◌, ◌^◌}
 use Rattle.picture.specs.declared.layout.Layout.{Layout}
 
 -- a layout with at most as many entries as a history can have, and as many rows as a header can have seats
@@ -10,7 +9,3 @@ pub record IsLayout (l : Layout) : Type 0 where
   pub step : l.step ≤ 20
   pub top : l.top ≤ 180
   pub rows : l.rows < 2 ^ 16
-
--- no rank is more than a header can have seats
-abbrev pub AreRanks : List ℕ → Type 0
-AreRanks ranks = All (λ r. r < 2 ^ 16) ranks

@@ -5,7 +5,8 @@ ghost use Rattle.std.specs.List.{All};
 ghost use Rattle.history.specs.Entry.{same_mode};
 ghost use Rattle.history.specs.declared.entry.Mode.TheVariants.{S};
 ghost use Rattle.picture.specs.Layout.{IsShort};
-ghost use Rattle.picture.specs.inner.{AreRanks, IsLayout};
+ghost use Rattle.picture.specs.inner.{IsLayout};
+ghost use Rattle.picture.specs.Rows.{AreRanks};
 ghost use Rattle.picture.specs.Bars.{bar_in, bar_line, bar_lines, inside, is_of_line, label, only_shares, says_shared, shape_of, waits_to_share};
 
 use crate::layout::{Layout, Rect};

@@ -1,7 +1,8 @@
 //! The SVG document.
 
 ghost use Rattle.std.specs.Prelude.{◌≡◌, ◌<◌, ◌≤◌, ◌^◌, ◌++◌, IfOk, OnOk};
-ghost use Rattle.picture.specs.inner.{AreRanks, IsLayout};
+ghost use Rattle.picture.specs.inner.{IsLayout};
+ghost use Rattle.picture.specs.Rows.{AreRanks};
 ghost use Rattle.picture.specs.Document.{IsPicture, ground, svg_text, text_in_rows, wrong_mark};
 ghost use Rattle.picture.specs.View.{view_of};
 

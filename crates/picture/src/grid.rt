@@ -1,7 +1,8 @@
 //! The rows of the seats, the scale below them, and the place of an illegal entry.
 
 ghost use Rattle.std.specs.Prelude.{◌≡◌, ◌<◌, ◌≤◌, ◌+◌, ◌^◌, ◌++◌, OnOk, zero};
-ghost use Rattle.picture.specs.inner.{AreRanks, IsLayout};
+ghost use Rattle.picture.specs.inner.{IsLayout};
+ghost use Rattle.picture.specs.Rows.{AreRanks};
 ghost use Rattle.picture.specs.Grid.{culprit_at, exclamation_at, field_at, pitch_of, row_if_any, row_line, rows, seat_at, shade, tick, ticks, wrong_at};
 
 use crate::layout::{Layout, Rect};

@@ -83,7 +83,7 @@ pub(crate) fn put_head(
     Ok(())
 }
 
-fn put_opening(out: &mut Vec<u8>, width: u64, height: u64) -> Result<(), AllocError>
+pub fn put_opening(out: &mut Vec<u8>, width: u64, height: u64) -> Result<(), AllocError>
     ensures { OnOk result (out.new.items ≡ out.old.items ++ opening_tag width height) }
 {
     put(
@@ -114,7 +114,7 @@ fn put_title(out: &mut Vec<u8>, header: Header) -> Result<(), AllocError>
 }
 
 /// Appends the header as a history text spells it.
-fn put_header(out: &mut Vec<u8>, header: Header) -> Result<(), AllocError>
+pub fn put_header(out: &mut Vec<u8>, header: Header) -> Result<(), AllocError>
     requires { IsInRange header }
     ensures { OnOk result (out.new.items ≡ out.old.items ++ part_of header) }
 {
@@ -161,7 +161,7 @@ fn put_shown_part(out: &mut Vec<u8>, layout: Layout, picture: &Picture) -> Resul
 }
 
 /// Appends how many seats have no row, if there are any.
-fn put_left_out(out: &mut Vec<u8>, seats: u16, rows: u64) -> Result<(), AllocError>
+pub fn put_left_out(out: &mut Vec<u8>, seats: u16, rows: u64) -> Result<(), AllocError>
     ensures { OnOk result (out.new.items ≡ out.old.items ++ left_out seats rows) }
 {
     match u64::from(seats).saturating_sub(rows) {
@@ -188,7 +188,7 @@ fn put_chosen(out: &mut Vec<u8>, first: u64, last: u64, entries: u64) -> Result<
 }
 
 /// Appends which entry isn't legal. Who made it is left out if it isn't among the given entries.
-fn put_wrong_part(
+pub fn put_wrong_part(
     out: &mut Vec<u8>,
     names: &Names,
     folded: u64,

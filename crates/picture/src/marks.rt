@@ -2,7 +2,8 @@
 
 ghost use Rattle.std.specs.Prelude.{◌≡◌, ◌<◌, ◌^◌, ◌++◌, OnOk};
 ghost use Rattle.std.specs.List.{All};
-ghost use Rattle.picture.specs.inner.{AreRanks, IsLayout};
+ghost use Rattle.picture.specs.inner.{IsLayout};
+ghost use Rattle.picture.specs.Rows.{AreRanks};
 ghost use Rattle.picture.specs.Marks.{IsEarly, mark_in, mark_line, mark_lines, mark_place, shape_of};
 
 use crate::layout::Layout;

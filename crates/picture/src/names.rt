@@ -47,19 +47,14 @@ fn put_told(out: &mut Vec<u8>, words: &[u8], number: u64, name: &[u8]) -> Result
 }
 
 /// Appends the number of a seat, with its name.
-pub(crate) fn put_seat(
-    out: &mut Vec<u8>,
-    names: &Names,
-    words: &[u8],
-    seat: u16,
-) -> Result<(), AllocError>
+pub fn put_seat(out: &mut Vec<u8>, names: &Names, words: &[u8], seat: u16) -> Result<(), AllocError>
     ensures { OnOk result (out.new.items ≡ out.old.items ++ seat_words names.now words.now seat) }
 {
     put_told(out, words, u64::from(seat), names.of(Whom::Seat(seat)))
 }
 
 /// Appends the number of a condition, with its name.
-pub(crate) fn put_condition(
+pub fn put_condition(
     out: &mut Vec<u8>,
     names: &Names,
     words: &[u8],
@@ -76,7 +71,7 @@ pub(crate) fn put_condition(
 }
 
 /// Returns the left edge of the entries. The names of seats need more room than their numbers.
-pub(crate) fn left_of(names: &Names) -> u64
+pub fn left_of(names: &Names) -> u64
     ensures is { result ≡ left_of names.now }
     ensures bound { result ≤ 200 }
 {

@@ -8,7 +8,7 @@ use history::number::put_number;
 use std::alloc::AllocError;
 
 /// Appends a name and a number. On an error only the first bytes may have been appended.
-pub(crate) fn put(out: &mut Vec<u8>, name: &[u8], number: u64) -> Result<(), AllocError>
+pub fn put(out: &mut Vec<u8>, name: &[u8], number: u64) -> Result<(), AllocError>
     ensures { OnOk result (out.new.items ≡ out.old.items ++ named name.now number) }
 {
     out.extend_from_slice(name)?;
@@ -17,7 +17,7 @@ pub(crate) fn put(out: &mut Vec<u8>, name: &[u8], number: u64) -> Result<(), All
 }
 
 /// Appends the beginning of an element, up to the last number of its position.
-pub(crate) fn put_placed(out: &mut Vec<u8>, shape: &[u8], x: u64, y: u64) -> Result<(), AllocError>
+pub fn put_placed(out: &mut Vec<u8>, shape: &[u8], x: u64, y: u64) -> Result<(), AllocError>
     ensures { OnOk result (out.new.items ≡ out.old.items ++ placed shape.now x y) }
 {
     put(out, shape, x)?;
@@ -42,7 +42,7 @@ pub(crate) fn put_rect(out: &mut Vec<u8>, shape: &[u8], area: Rect) -> Result<()
 }
 
 /// Appends a number at a position, after a few words.
-pub(crate) fn put_number_at(
+pub fn put_number_at(
     out: &mut Vec<u8>,
     x: u64,
     y: u64,
@@ -57,12 +57,7 @@ pub(crate) fn put_number_at(
 }
 
 /// Appends a vertical line from `top` down to `bottom`.
-pub(crate) fn put_upright(
-    out: &mut Vec<u8>,
-    x: u64,
-    top: u64,
-    bottom: u64,
-) -> Result<(), AllocError>
+pub fn put_upright(out: &mut Vec<u8>, x: u64, top: u64, bottom: u64) -> Result<(), AllocError>
     ensures { OnOk result (out.new.items ≡ out.old.items ++ upright x top bottom) }
 {
     put(out, b"<path class='g' d='M", x)?;

@@ -2,8 +2,7 @@
 
 ghost use Rattle.std.specs.Prelude.{◌≡◌, ◌==◌, ℕ, ◌+◌, ◌<◌, ◌≤◌, ◌^◌, ◌||◌, IfOk, drop, false, length, map, slice_index, slice_index_or, take};
 ghost use Rattle.history.specs.Sleepers.{has};
-ghost use Rattle.picture.specs.inner.{AreRanks};
-ghost use Rattle.picture.specs.Rows.{has_row, placed_end, ranks};
+ghost use Rattle.picture.specs.Rows.{AreRanks, has_row, placed_end, ranks};
 ghost use Rattle.picture.specs.View.{view_of};
 
 use crate::picture::Picture;
@@ -12,11 +11,7 @@ use history::entry::Entry;
 use std::alloc::{AllocError, Global};
 
 /// Returns for each seat how many before it have a row, and after them how many seats have one.
-pub(crate) fn ranks_of(
-    alloc: Global,
-    picture: &Picture,
-    entries: &[Entry],
-) -> Result<Vec<u64>, AllocError>
+pub fn ranks_of(alloc: Global, picture: &Picture, entries: &[Entry]) -> Result<Vec<u64>, AllocError>
     requires { (picture.now.to < 2 ^ 32) × (picture.now.folded < 2 ^ 63) }
     ensures is { IfOk result (λ table. table.items ≡ ranks (view_of picture.now) entries.now) }
     ensures bound { IfOk result (λ table. AreRanks table.items) }
@@ -33,7 +28,7 @@ pub(crate) fn ranks_of(
 }
 
 /// Returns the row of a seat. For the number of seats it returns how many rows there are.
-pub(crate) fn row_of(ranks: &[u64], seat: u16) -> u64
+pub fn row_of(ranks: &[u64], seat: u16) -> u64
     requires { AreRanks ranks.now }
     ensures is { result ≡ slice_index ranks.now seat }
     ensures bound { result < 2 ^ 16 }

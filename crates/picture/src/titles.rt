@@ -65,7 +65,7 @@ pub(crate) fn put_mark_title(
 }
 
 /// Appends the tooltip of an illegal entry's field, and the end of the field.
-pub(crate) fn put_wrong_title(
+pub fn put_wrong_title(
     out: &mut Vec<u8>,
     names: &Names,
     folded: u64,
@@ -128,7 +128,7 @@ fn put_entry_words(
 }
 
 /// Returns the entry of an index, if there is one.
-pub(crate) fn entry_at(entries: &[Entry], index: u64) -> Option<Entry>
+pub fn entry_at(entries: &[Entry], index: u64) -> Option<Entry>
     ensures { result ≡ slice_get entries.now index }
 {
     entries.get(index as usize).copied()

@@ -1,13 +1,12 @@
 -- What the program does for a task, and its exit status.
-use Rattle.std.specs.Prelude.{◌≡◌, ℕ, List, Option, Result, Ok, Err}
+use Rattle.std.specs.Prelude.{◌≡◌, ℕ, List, [], Option, Result, Ok, Err}
 use Rattle.std.specs.Io.KnownBytes.{IsAtEnd}
 use Rattle.audit.specs.declared.verdict.Verdict.{Verdict}
 use Rattle.audit.specs.declared.verdict.Verdict.TheVariants.{Legal, NotLegal}
 use Rattle.driver.specs.AuditStream.{AuditsIn, HistoryReadOut}
-use Rattle.driver.specs.declared.choice.Choice.{Choice}
-use Rattle.driver.specs.DrawStream.{Draws, DrawsWith}
+use Rattle.driver.specs.DrawStream.{DrawsWith}
 use Rattle.driver.specs.ExplainStream.{Explains}
-use Rattle.driver.specs.PageStream.{Pages}
+use Rattle.driver.specs.PageStream.{PagesWith}
 use Rattle.driver.specs.ReplayStream.{Replays, StepsReadOut}
 use Rattle.driver.specs.SummaryStream.{SummarisesIn}
 use Rattle.naming.specs.Names.{Given}
@@ -21,80 +20,6 @@ use Rattle.tasks.specs.declared.fault.Fault.TheVariants.{Usage, BadFrom, BadTo, 
 abbrev pub status_for : Verdict → ℕ
 status_for Legal = 0
 status_for (NotLegal number) = 1
-
--- The source's bytes, and what the sink held before and holds after.
-abbrev pub Performs : Task → Option (List ℕ) → Option (List ℕ) → Option (List ℕ) → Result ℕ Fault → Type 0
-Performs (Replay form) left old new (Ok status) = (status ≡ 0) × Replays form left old new (Ok tt)
-Performs (Replay form) left old new (Err (Stream fault)) = Replays form left old new (Err fault)
-Performs (Replay form) left old new (Err Usage) = ⊥
-Performs (Replay form) left old new (Err BadFrom) = ⊥
-Performs (Replay form) left old new (Err BadTo) = ⊥
-Performs (Replay form) left old new (Err BadAt) = ⊥
-Performs (Replay form) left old new (Err (BadRunOption option)) = ⊥
-Performs (Replay form) left old new (Err (BadNaming line)) = ⊥
-Performs (Replay form) left old new (Err Memory) = ⊥
-Performs (Replay form) left old new (Err (Script fault)) = ⊥
-Performs (Replay form) left old new (Err (Run fault)) = ⊥
-Performs (Audit notation) left old new (Ok status) =
-    (verdict : Verdict) × (status ≡ status_for verdict) × AuditsIn notation left old new (Ok verdict)
-Performs (Audit notation) left old new (Err (Stream fault)) = AuditsIn notation left old new (Err fault)
-Performs (Audit notation) left old new (Err Usage) = ⊥
-Performs (Audit notation) left old new (Err BadFrom) = ⊥
-Performs (Audit notation) left old new (Err BadTo) = ⊥
-Performs (Audit notation) left old new (Err BadAt) = ⊥
-Performs (Audit notation) left old new (Err (BadRunOption option)) = ⊥
-Performs (Audit notation) left old new (Err (BadNaming line)) = ⊥
-Performs (Audit notation) left old new (Err Memory) = ⊥
-Performs (Audit notation) left old new (Err (Script fault)) = ⊥
-Performs (Audit notation) left old new (Err (Run fault)) = ⊥
-Performs (Draw choice) left old new (Ok status) =
-    (verdict : Verdict) × (status ≡ status_for verdict) × Draws choice left old new (Ok verdict)
-Performs (Draw choice) left old new (Err (Stream fault)) = Draws choice left old new (Err fault)
-Performs (Draw choice) left old new (Err Usage) = ⊥
-Performs (Draw choice) left old new (Err BadFrom) = ⊥
-Performs (Draw choice) left old new (Err BadTo) = ⊥
-Performs (Draw choice) left old new (Err BadAt) = ⊥
-Performs (Draw choice) left old new (Err (BadRunOption option)) = ⊥
-Performs (Draw choice) left old new (Err (BadNaming line)) = ⊥
-Performs (Draw choice) left old new (Err Memory) = ⊥
-Performs (Draw choice) left old new (Err (Script fault)) = ⊥
-Performs (Draw choice) left old new (Err (Run fault)) = ⊥
-Performs (Page choice) left old new (Ok status) =
-    (verdict : Verdict) × (status ≡ status_for verdict) × Pages choice left old new (Ok verdict)
-Performs (Page choice) left old new (Err (Stream fault)) = Pages choice left old new (Err fault)
-Performs (Page choice) left old new (Err Usage) = ⊥
-Performs (Page choice) left old new (Err BadFrom) = ⊥
-Performs (Page choice) left old new (Err BadTo) = ⊥
-Performs (Page choice) left old new (Err BadAt) = ⊥
-Performs (Page choice) left old new (Err (BadRunOption option)) = ⊥
-Performs (Page choice) left old new (Err (BadNaming line)) = ⊥
-Performs (Page choice) left old new (Err Memory) = ⊥
-Performs (Page choice) left old new (Err (Script fault)) = ⊥
-Performs (Page choice) left old new (Err (Run fault)) = ⊥
-Performs (Explain at) left old new (Ok status) =
-    (verdict : Verdict) × (status ≡ status_for verdict) × Explains at left old new (Ok verdict)
-Performs (Explain at) left old new (Err (Stream fault)) = Explains at left old new (Err fault)
-Performs (Explain at) left old new (Err Usage) = ⊥
-Performs (Explain at) left old new (Err BadFrom) = ⊥
-Performs (Explain at) left old new (Err BadTo) = ⊥
-Performs (Explain at) left old new (Err BadAt) = ⊥
-Performs (Explain at) left old new (Err (BadRunOption option)) = ⊥
-Performs (Explain at) left old new (Err (BadNaming line)) = ⊥
-Performs (Explain at) left old new (Err Memory) = ⊥
-Performs (Explain at) left old new (Err (Script fault)) = ⊥
-Performs (Explain at) left old new (Err (Run fault)) = ⊥
-Performs (Summary notation) left old new (Ok status) =
-    (verdict : Verdict) × (status ≡ status_for verdict) × SummarisesIn notation left old new (Ok verdict)
-Performs (Summary notation) left old new (Err (Stream fault)) = SummarisesIn notation left old new (Err fault)
-Performs (Summary notation) left old new (Err Usage) = ⊥
-Performs (Summary notation) left old new (Err BadFrom) = ⊥
-Performs (Summary notation) left old new (Err BadTo) = ⊥
-Performs (Summary notation) left old new (Err BadAt) = ⊥
-Performs (Summary notation) left old new (Err (BadRunOption option)) = ⊥
-Performs (Summary notation) left old new (Err (BadNaming line)) = ⊥
-Performs (Summary notation) left old new (Err Memory) = ⊥
-Performs (Summary notation) left old new (Err (Script fault)) = ⊥
-Performs (Summary notation) left old new (Err (Run fault)) = ⊥
 
 -- what a stream leaves that judges a history, and the program's exit status for it
 abbrev pub Judges : (Result Verdict StreamFault → Type 0) → Result ℕ Fault → Type 0
@@ -110,10 +35,29 @@ Judges Leaves (Err Memory) = ⊥
 Judges Leaves (Err (Script fault)) = ⊥
 Judges Leaves (Err (Run fault)) = ⊥
 
--- what drawing with names leaves
-abbrev pub DrawsNamed : Given → Choice → Option (List ℕ) → Option (List ℕ) → Option (List ℕ) → Result ℕ Fault →
-    Type 0
-DrawsNamed names choice left old new = Judges (DrawsWith names choice left old new)
+-- The names that were given, the source's bytes, and what the sink held before and holds after.
+abbrev pub PerformsWith : Given → Task → Option (List ℕ) → Option (List ℕ) → Option (List ℕ) →
+    Result ℕ Fault → Type 0
+PerformsWith names (Replay form) left old new (Ok status) = (status ≡ 0) × Replays form left old new (Ok tt)
+PerformsWith names (Replay form) left old new (Err (Stream fault)) = Replays form left old new (Err fault)
+PerformsWith names (Replay form) left old new (Err Usage) = ⊥
+PerformsWith names (Replay form) left old new (Err BadFrom) = ⊥
+PerformsWith names (Replay form) left old new (Err BadTo) = ⊥
+PerformsWith names (Replay form) left old new (Err BadAt) = ⊥
+PerformsWith names (Replay form) left old new (Err (BadRunOption option)) = ⊥
+PerformsWith names (Replay form) left old new (Err (BadNaming line)) = ⊥
+PerformsWith names (Replay form) left old new (Err Memory) = ⊥
+PerformsWith names (Replay form) left old new (Err (Script fault)) = ⊥
+PerformsWith names (Replay form) left old new (Err (Run fault)) = ⊥
+PerformsWith names (Audit notation) left old new result = Judges (AuditsIn notation left old new) result
+PerformsWith names (Draw choice) left old new result = Judges (DrawsWith names choice left old new) result
+PerformsWith names (Page choice) left old new result = Judges (PagesWith names choice left old new) result
+PerformsWith names (Explain at) left old new result = Judges (Explains at left old new) result
+PerformsWith names (Summary notation) left old new result = Judges (SummarisesIn notation left old new) result
+
+-- the same, if no names were given
+abbrev pub Performs : Task → Option (List ℕ) → Option (List ℕ) → Option (List ℕ) → Result ℕ Fault → Type 0
+Performs = PerformsWith []
 
 -- How far a task reads: as its stream does. The arguments are what the source had left and what it has left.
 abbrev pub IsReadOutFor : Task → Option (List ℕ) → Result ℕ Fault → Option (List ℕ) → Type 0

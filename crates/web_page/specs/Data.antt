@@ -6,9 +6,11 @@ use Rattle.history.specs.declared.entry.Entry.{Entry}
 use Rattle.history.specs.declared.header.Header.{Header}
 use Rattle.history.specs.Base.{Base}
 use Rattle.history.specs.Spelling.{part_of}
+use Rattle.naming.specs.Names.{Given}
 use Rattle.picture.specs.View.{View}
 use Rattle.web_page.specs.Escape.{escaped}
 use Rattle.web_page.specs.Lists.{amount_rows, bar_rows, entry_rows, mark_rows}
+use Rattle.web_page.specs.Names.{names_part}
 use Rattle.web_page.specs.Pieces.{named, quoted}
 use Rattle.web_page.specs.Start.{start_part}
 
@@ -56,7 +58,8 @@ head_part p =
 abbrev pub drawn_part : View → List ℕ
 drawn_part p = bars_part p.bars ++ marks_part p.marks ++ amounts_part p.curve
 
--- all that a page shows of a picture, of the entries in it, and of who waits before them
-abbrev pub page_data : View → List Entry → Option Base → List ℕ
-page_data p entries start =
-    head_part p ++ drawn_part p ++ entries_part entries ++ start_part start ++ codes "}\n"
+-- all that a page shows of a picture, of the entries in it, and of who waits before them, and the names
+abbrev pub page_data : Given → View → List Entry → Option Base → List ℕ
+page_data names p entries start =
+    head_part p ++ drawn_part p ++ entries_part entries ++ start_part start ++ names_part names p.header
+    ++ codes "}\n"

@@ -11,28 +11,32 @@ use crate::data::{
     put_amounts_part, put_bars_part, put_counts, put_entries_part, put_header, put_marks_part,
     put_range, put_wrong,
 };
+use crate::names::put_names;
 use crate::start::put_start;
 use crate::texts::{CLOSING, OPENING};
 use history::base::Base;
 use history::entry::Entry;
+use naming::Names;
 use picture::picture::Picture;
 use std::alloc::{AllocError, Global};
 
 /// Returns the page of a picture. `entries` are those that the picture shows, and `start` is the state before them,
-/// if it is known: who waits, in order.
+/// if it is known: who waits, in order. The page tells seats and conditions by their numbers, with the names that they
+/// were given.
 pub fn page_text(
     alloc: Global,
+    names: &Names,
     picture: &Picture,
     entries: &[Entry],
     start: Option<&Base>,
 ) -> Result<Vec<u8>, AllocError>
     requires { IsInRange picture.now.header }
     ensures { IfOk result (λ text.
-        text.items ≡ page_text (view_of picture.now) entries.now (option_copied start.entry)) }
+        text.items ≡ page_text names.now (view_of picture.now) entries.now (option_copied start.entry)) }
 {
     let mut out = Vec::new(alloc);
     out.extend_from_slice(OPENING)?;
-    put_data(alloc, &mut out, picture, entries, start)?;
+    put_data(alloc, &mut out, names, picture, entries, start)?;
     out.extend_from_slice(CLOSING)?;
     Ok(out)
 }
@@ -41,18 +45,20 @@ pub fn page_text(
 fn put_data(
     alloc: Global,
     out: &mut Vec<u8>,
+    names: &Names,
     picture: &Picture,
     entries: &[Entry],
     start: Option<&Base>,
 ) -> Result<(), AllocError>
     requires { IsInRange picture.now.header }
     ensures { OnOk result (out.new.items
-        ≡ out.old.items ++ page_data (view_of picture.now) entries.now (option_copied start.entry)) }
+        ≡ out.old.items ++ page_data names.now (view_of picture.now) entries.now (option_copied start.entry)) }
 {
     put_head(alloc, out, picture)?;
     put_drawn(out, picture)?;
     put_entries_part(alloc, out, entries)?;
     put_start(out, start)?;
+    put_names(alloc, out, names, picture.header)?;
     out.extend_from_slice(b"}\n")?;
     Ok(())
 }

@@ -9,7 +9,7 @@ pub const OPENING: &[u8] = b"\
     <html lang='en'>\n\
     <head>\n\
     <meta charset='utf-8'>\n\
-    <meta http-equiv='Content-Security-Policy' content=\"default-src 'none'; script-src 'sha256-uzUBdAXTqd4RzGMLyG7OZz9vUmM2dmLzeGwC2gdx8qg='; style-src 'sha256-lAR4oZJmbvFLPLO4vxmxk2ouwdbq35Xk4u3a3RLGdSo='; base-uri 'none'; form-action 'none'\">\n\
+    <meta http-equiv='Content-Security-Policy' content=\"default-src 'none'; script-src 'sha256-eBXNCQzmm/S8hPS3yQz83R3+ORL4qb97ZBR9W82Q2P8='; style-src 'sha256-lAR4oZJmbvFLPLO4vxmxk2ouwdbq35Xk4u3a3RLGdSo='; base-uri 'none'; form-action 'none'\">\n\
     <meta name='viewport' content='width=device-width'>\n\
     <title>aqs draw</title>\n\
     <style>\n\
@@ -106,6 +106,10 @@ pub const CLOSING: &[u8] = b"\
       const rowOf = new Map(seats.map((seat, row) => [seat, row]));\n\
       const numberOf = (index) => String(BigInt(data.folded) + BigInt(index));\n\
     \n\
+      // The names that were given to seats and conditions. They are only ever the text of an element.\n\
+      const names = new Map((data.names || []).slice(1));\n\
+      const told = (thing) => (names.has(thing) ? thing + ' (' + names.get(thing) + ')' : thing);\n\
+    \n\
       // Who waited before the first entry, in order.\n\
       const place = new Map();\n\
       if (data.start !== null) {\n\
@@ -130,7 +134,7 @@ pub const CLOSING: &[u8] = b"\
       const covering = (k) => bars.filter((bar) => bar.first <= k && k <= bar.last);\n\
       const plural = (count, word) => count + ' ' + word + (count === '1' ? '' : 's');\n\
       const named = (list, none) => (list.length === 0 ? none : list.join(', '));\n\
-      const seatOf = (bar) => 'seat ' + bar.seat;\n\
+      const seatOf = (it) => told('seat ' + it.seat);\n\
       const bySeat = (a, b) => a.seat - b.seat;\n\
     \n\
       function stateLines(k) {\n\
@@ -151,7 +155,7 @@ pub const CLOSING: &[u8] = b"\
         lines.push('Queue, first to last: ' + named(of('w').sort(inOrder).map(seatOf), 'nobody'));\n\
         const kinds = Array.from(new Set(all.map((bar) => bar.kind))).filter((kind) => kind[0] === 'z');\n\
         kinds.sort((a, b) => a.slice(1) - b.slice(1)).forEach((kind) => {\n\
-          lines.push('Asleep on condition ' + kind.slice(1) + ', longest first: '\n\
+          lines.push('Asleep on ' + told('condition ' + kind.slice(1)) + ', longest first: '\n\
             + named(of(kind).sort(inOrder).map(seatOf), 'nobody'));\n\
         });\n\
         return lines;\n\
@@ -175,15 +179,21 @@ pub const CLOSING: &[u8] = b"\
         drained: 'took all free permits',\n\
       };\n\
       const barged = new Set(marks.filter((mark) => mark.sign === 'barged').map((mark) => mark.at));\n\
+      // What an entry does. A condition with a name is told in the place of 'a condition'.\n\
+      const deedOf = (entry) => {\n\
+        const condition = 'condition ' + entry.words.split(' ')[1];\n\
+        const deed = MEANING[entry.word];\n\
+        return names.has(condition) ? deed.split('a condition').join(told(condition)) : deed;\n\
+      };\n\
       const entryLine = (k) => {\n\
         const entry = entries[k - from];\n\
-        const words = 'Entry ' + numberOf(k) + ': seat ' + entry.seat + ' ' + entry.words;\n\
-        return words + '. It ' + MEANING[entry.word] + (barged.has(k) ? ', past a waiter in the queue.' : '.');\n\
+        const words = 'Entry ' + numberOf(k) + ': ' + seatOf(entry) + ' ' + entry.words;\n\
+        return words + '. It ' + deedOf(entry) + (barged.has(k) ? ', past a waiter in the queue.' : '.');\n\
       };\n\
     \n\
       // The picture: as many entries as have room, around the one that is chosen.\n\
       const WIDTHS = [2, 4, 8, 12, 20, 32, 48];\n\
-      const LEFT = 72;\n\
+      const LEFT = seats.some((seat) => names.has('seat ' + seat)) ? 200 : 72;\n\
       const RIGHT = 960;\n\
       const SHAPES = {\n\
         missed: 'm-3 0a3 3 0 1 0 6 0a3 3 0 1 0 -6 0',\n\
@@ -219,8 +229,8 @@ pub const CLOSING: &[u8] = b"\
         const kind = bar.kind;\n\
         const does = kind === 'x' ? 'owns, with ' + plural(bar.holds, 'hold')\n\
           : kind === 's' ? 'has ' + plural(bar.holds, object === 'semaphore' ? 'permit' : 'shared hold')\n\
-            : kind === 'w' ? 'waits in the queue' : 'sleeps on condition ' + kind.slice(1);\n\
-        return 'seat ' + bar.seat + ' ' + does + ', entries ' + numberOf(bar.first) + ' to ' + numberOf(bar.last);\n\
+            : kind === 'w' ? 'waits in the queue' : 'sleeps on ' + told('condition ' + kind.slice(1));\n\
+        return seatOf(bar) + ' ' + does + ', entries ' + numberOf(bar.first) + ' to ' + numberOf(bar.last);\n\
       }\n\
     \n\
       function drawBar(picture, bar, x, y, end) {\n\
@@ -268,7 +278,7 @@ pub const CLOSING: &[u8] = b"\
         picture.setAttribute('viewBox', '0 0 ' + RIGHT + ' ' + (bottom + 24));\n\
         seats.forEach((seat, row) => {\n\
           if (row % 2 === 0) element(picture, 'rect', { class: 'r', x: 0, y: y(seat), width: RIGHT, height: 40 });\n\
-          element(picture, 'text', { x: 8, y: y(seat) + 20 }, 'seat ' + seat);\n\
+          element(picture, 'text', { x: 8, y: y(seat) + 20 }, told('seat ' + seat));\n\
         });\n\
         const pitch = Math.max(1, Math.ceil(100 / step));\n\
         for (let k = begin; k < end; k += 1) {\n\
@@ -358,7 +368,7 @@ pub const CLOSING: &[u8] = b"\
         return;\n\
       }\n\
       option('seat', '', 'any seat');\n\
-      seats.forEach((seat) => option('seat', String(seat), 'seat ' + seat));\n\
+      seats.forEach((seat) => option('seat', String(seat), told('seat ' + seat)));\n\
       option('kind', '', 'any kind');\n\
       Array.from(new Set(entries.map((entry) => entry.word))).sort().forEach((word) => option('kind', word, word));\n\
       byId('at').setAttribute('min', String(from));\n\

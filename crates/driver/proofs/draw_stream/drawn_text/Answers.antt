@@ -1,28 +1,31 @@
-use Rattle.std.proofs.Common.{◌<◌, ◌^◌, sym, subst, length, reverse, arith}
-use Rattle.std.specs.List.{All}
-use Rattle.std.proofs.lemmas.List.{length-reverse}
-use Rattle.drawing.proofs.Begins.{begins}
-use Rattle.history.specs.Header.{IsInRange}
-use Rattle.picture.specs.Layout.{IsShort}
-use Rattle.picture.specs.Marks.{IsEarly}
-use Rattle.driver.proofs.Picturing.{all_early, all_short, front_short}
+use Rattle.std.proofs.Common.{◌≡◌, ◌∙◌, ℕ, List, ap, subst, sym, take}
+use Rattle.std.specs.Prelude.{IfOk}
+use Rattle.picture.specs.View.{view_of}
+use Rattle.driver.specs.Choice.{end_of, is_summed}
+use Rattle.driver.specs.HistoryReader.{base_held}
+use Rattle.driver.proofs.Picturing.{text_chosen, text_summed}
 use Rattle.driver.proofs.draw_stream.drawn_text.Goals as goal
 
-pub svg_text-requires : goal.svg_text-requires
-svg_text-requires c =
-    let front = c.legal_front-shown.result.now in
-    let few : length front < 2 ^ 32 =
-    subst (λ xs. length xs < 2 ^ 32)
-    (sym c.legal_front-shown.ensures) (front_short c.args.verdict c.args.kept.now c.requires.few) in
-    let turned : length (reverse front) < 2 ^ 32 = omega (arith, few, length-reverse front) in
-    let start = begins c.header-header.result c.base.result in
-    record {
-      range = subst IsInRange (sym c.header-header.ensures.value) c.header-header.ensures.range;
-      few = few;
-      folded = omega (arith, c.folded-folded.ensures.few);
-      bars = subst (All IsShort) (sym c.in_ok-drawn.ensures.bars)
-          (all_short start c.first-from.result (reverse front) turned
-          (c.bars_are_the_longest_stretches.ensures start c.first-from.result (reverse front)));
-      marks = subst (All IsEarly) (sym c.in_ok-drawn.ensures.marks)
-          (all_early start c.first-from.result (reverse front) turned);
-    }
+pub returns-in_ok-whole : goal.returns-in_ok-whole
+returns-in_ok-whole c =
+    let e = c.args.entries.now in
+    subst (λ (t : List ℕ). IfOk c.overview_text.result (λ text. text.items ≡ t))
+    (text_summed c.args.names.now c.args.choice c.args.verdict (base_held e) e.place.count c.args.kept.now
+    (view_of c.in_ok-whole.whole)
+    (sym (c.is_summed.ensures ∙ ap (is_summed c.args.choice) c.count.ensures.value) ∙ c.if-is_summed.true)
+    c.in_ok-whole.ensures.is)
+    c.overview_text.ensures
+
+pub returns-in_ok-picture : goal.returns-in_ok-picture
+returns-in_ok-picture c =
+    let e = c.args.entries.now in
+    let kept = c.args.kept.now in
+    subst (λ (t : List ℕ). IfOk c.svg_text.result (λ text. text.items ≡ t))
+    (text_chosen c.args.names.now c.args.choice c.args.verdict (base_held e) e.place.count kept
+    c.front-chosen.result.now (view_of c.in_ok-picture.picture)
+    (sym (c.is_summed.ensures ∙ ap (is_summed c.args.choice) c.count.ensures.value) ∙ c.if-is_summed.false)
+    (c.front-chosen.ensures
+    ∙ ap (λ n. take n kept)
+    (c.end.ensures ∙ ap (end_of c.args.choice) (c.folded.ensures.value ∙ c.requires.base)))
+    c.in_ok-picture.ensures.is)
+    c.svg_text.ensures

@@ -1,12 +1,13 @@
-use Rattle.std.proofs.Common.{◌∙◌, ap, length, reverse, take}
+use Rattle.std.proofs.Common.{◌∙◌, ap, arith, length, reverse, take}
+use Rattle.std.proofs.lemmas.List.{length-reverse}
 use Rattle.streams.specs.declared.stream_fault.StreamFault.TheVariants.{Memory}
 use Rattle.line_text.proofs.Faults.{err_is}
 use Rattle.driver.specs.HistoryReader.{base_held}
-use Rattle.driver.specs.Choice.{end_of}
+use Rattle.driver.specs.Choice.{kept_of}
 use Rattle.driver.specs.DrawStream.{drawn_text}
 use Rattle.driver.proofs.Audits.{is_verdict_text}
 use Rattle.driver.proofs.Judging.{base_kept}
-use Rattle.driver.proofs.Picturing.{same_picture}
+use Rattle.driver.proofs.Picturing.{same_text}
 use Rattle.driver.proofs.draw_stream.sketch_of.Goals as goal
 
 pub returns-in_err-judged-clause-err : goal.returns-in_err-judged-clause-err
@@ -37,9 +38,10 @@ returns-clause-ok g c =
     let folded = c.folded-folded.ensures.value ∙ c.in_ok-entries.ensures.start.folded in
     is_verdict_text (drawn_text c.args.names.now c.args.choice) left b k.entries judged.judgement verdict
     c.in_ok-text.text.items (k.is left c.in_ok-entries.ensures.ok) k.judged c.verdict-verdict.ensures
-    (same_picture c.args.names.now c.args.choice verdict (base_held now) b now.place.count (length k.entries)
-    c.deref.result.now (take (end_of c.args.choice b.entries) (reverse k.entries)) c.in_ok-text.text.items
+    (same_text c.args.names.now c.args.choice verdict (base_held now) b now.place.count (length k.entries)
+    c.deref.result.now (reverse k.entries) c.in_ok-text.text.items
     (base_kept first now k.header k.base) k.count
     (c.deref.ensures.value ∙ k.front
-    ∙ ap (λ n. take n (reverse k.entries)) (c.end.ensures ∙ ap (end_of c.args.choice) folded))
+    ∙ ap (λ n. take n (reverse k.entries)) (c.kept.ensures ∙ ap (kept_of c.args.choice) folded))
+    (omega (arith, k.few, length-reverse k.entries))
     c.in_ok-text.ensures ∙ ap (drawn_text c.args.names.now c.args.choice b k.entries) c.verdict-verdict.ensures)

@@ -101,9 +101,9 @@ returns-clause-ok g c =
     let verdict = c.verdict-verdict.result in
     let folded = c.folded-folded.ensures.value ∙ c.in_ok-entries.ensures.start.folded in
     let held = base_kept first now k.header k.base in
-    is_verdict_text (paged_text c.args.choice) left b k.entries judged.judgement verdict
+    is_verdict_text (paged_text c.args.names.now c.args.choice) left b k.entries judged.judgement verdict
     c.in_ok-text.text.items (k.is left c.in_ok-entries.ensures.ok) k.judged c.verdict-verdict.ensures
-    (same_page c.args.choice verdict c.in_ok-base.base (base_held now) b
+    (same_page c.args.names.now c.args.choice verdict c.in_ok-base.base (base_held now) b
     (view_of c.in_ok-picture.picture) c.first.result now.place.count
     c.legal_front-shown.result.now c.deref-2.result.now k.entries c.in_ok-text.text.items
     (c.in_ok-base.ensures.base ∙ held) held (c.first.ensures ∙ ap (first_of c.args.choice) folded) k.count
@@ -114,4 +114,4 @@ returns-clause-ok g c =
     ∙ ap (λ (ys : List Entry). pictured (base_held now) c.args.choice now.place.count verdict (legal_front verdict ys))
     (c.deref.ensures.value ∙ sym c.deref-2.ensures.value))
     c.in_ok-text.ensures
-    ∙ ap (paged_text c.args.choice b k.entries) c.verdict-verdict.ensures)
+    ∙ ap (paged_text c.args.names.now c.args.choice b k.entries) c.verdict-verdict.ensures)

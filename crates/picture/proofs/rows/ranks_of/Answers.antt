@@ -3,8 +3,7 @@ use Rattle.std.proofs.Common.{◌≡◌, suc, ◌+◌, ◌<◌, ◌∙◌, ◌++
 use Rattle.std.proofs.lemmas.List.{get_or_read}
 use Rattle.drawing.specs.Levels.{one_if}
 use Rattle.history.specs.Base.{each_below}
-use Rattle.picture.specs.inner.{AreRanks}
-use Rattle.picture.specs.Rows.{has_row, rank}
+use Rattle.picture.specs.Rows.{AreRanks, has_row, rank}
 use Rattle.picture.specs.View.{view_of}
 use Rattle.picture.proofs.RowsFollow.{as_number, few_ranks, next, one_at_most}
 use Rattle.picture.proofs.rows.ranks_of.Goals as goal

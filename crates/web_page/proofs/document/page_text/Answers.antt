@@ -10,5 +10,6 @@ unfolding page_text
 returns c =
     three _ _ _ _ _ _ _ c.in_ok-extend_from_slice.ensures.items c.in_ok-put_data.ensures
     c.in_ok-extend_from_slice-2.ensures.items
-    ∙ ap (λ xs. xs ++ page_in (view_of c.args.picture.now) c.args.entries.now (option_copied c.args.start))
+    ∙ ap (λ xs. xs
+    ++ page_in c.args.names.now (view_of c.args.picture.now) c.args.entries.now (option_copied c.args.start))
     c.new-out.ensures.items

@@ -1,0 +1,381 @@
+// members.cpp: which call of aqs.h each member of aqs.hpp makes, with what, and what it makes of each status.
+// The functions of aqs.h are here, in the place of the library's: they note the call and return what the test
+// wants.
+#include "aqs.hpp"
+
+#include "check.h"
+
+#include <functional>
+#include <shared_mutex>
+#include <vector>
+
+using namespace std::chrono_literals;
+
+static std::string made;             // the calls, with their numbers
+static std::vector<const void *> of; // the object of each
+static aqs_status_t answer = AQS_OK; // to each call
+static aqs_options_t opened_with;
+
+static void note(const char *name, const void *object, std::vector<long> numbers) {
+    made += made.empty() ? name : std::string("; ") + name;
+    for (long it : numbers) made += " " + std::to_string(it);
+    of.push_back(object);
+}
+
+// A function of aqs.h that returns a status, and one that has none.
+#define CALL(name, takes, object, ...)       \
+    extern "C" aqs_status_t name takes {     \
+        note(#name, object, {__VA_ARGS__});  \
+        return answer;                       \
+    }
+#define QUIET(result, name, takes, object, value) \
+    extern "C" result name takes {                \
+        note(#name, object, {});                  \
+        return value;                             \
+    }
+
+// The calls of a lock of a type, and those of one that has conditions.
+#define OBJECT(kind)                                                                                     \
+    extern "C" void aqs_##kind##_close(aqs_##kind##_t *it) { note("aqs_" #kind "_close", it, {}); }       \
+    extern "C" aqs_object_t *aqs_##kind##_object(aqs_##kind##_t *it) { return (aqs_object_t *)it; }
+#define OPENED(kind)                                                                                     \
+    extern "C" aqs_status_t aqs_##kind##_init(aqs_##kind##_t *it, const aqs_options_t *options) {        \
+        opened_with = *options;                                                                          \
+        note("aqs_" #kind "_init", it, {});                                                              \
+        return answer;                                                                                   \
+    }
+#define CONDITIONS(kind)                                                                                     \
+    CALL(aqs_##kind##_wait, (aqs_##kind##_t * it, uint8_t number), it, number)                               \
+    CALL(aqs_##kind##_wait_interruptibly, (aqs_##kind##_t * it, uint8_t number), it, number)                 \
+    CALL(aqs_##kind##_timedwait, (aqs_##kind##_t * it, uint8_t number, uint32_t ms), it, number, (long)ms)   \
+    CALL(aqs_##kind##_signal, (aqs_##kind##_t * it, uint8_t number), it, number)                             \
+    CALL(aqs_##kind##_signal_all, (aqs_##kind##_t * it, uint8_t number), it, number)
+#define EXCLUSIVE(kind, lock, unlock)                                                             \
+    CALL(aqs_##kind##_##lock, (aqs_##kind##_t * it), it)                                          \
+    CALL(aqs_##kind##_##lock##_interruptibly, (aqs_##kind##_t * it), it)                          \
+    CALL(aqs_##kind##_timed##lock, (aqs_##kind##_t * it, uint32_t ms), it, (long)ms)              \
+    CALL(aqs_##kind##_try##lock, (aqs_##kind##_t * it), it)                                       \
+    CALL(aqs_##kind##_##unlock, (aqs_##kind##_t * it), it)
+
+OBJECT(lock)
+OBJECT(mutex)
+OBJECT(rwlock)
+OBJECT(sem)
+OBJECT(latch)
+OPENED(lock)
+OPENED(mutex)
+OPENED(rwlock)
+CONDITIONS(lock)
+CONDITIONS(mutex)
+CONDITIONS(rwlock)
+EXCLUSIVE(lock, lock, unlock)
+EXCLUSIVE(mutex, lock, unlock)
+EXCLUSIVE(rwlock, wrlock, wrunlock)
+EXCLUSIVE(rwlock, rdlock, rdunlock)
+CALL(aqs_sem_acquire, (aqs_sem_t * it, uint32_t n), it, (long)n)
+CALL(aqs_sem_acquire_interruptibly, (aqs_sem_t * it, uint32_t n), it, (long)n)
+CALL(aqs_sem_timedacquire, (aqs_sem_t * it, uint32_t n, uint32_t ms), it, (long)n, (long)ms)
+CALL(aqs_sem_tryacquire, (aqs_sem_t * it, uint32_t n), it, (long)n)
+CALL(aqs_sem_release, (aqs_sem_t * it, uint32_t n), it, (long)n)
+CALL(aqs_latch_count_down, (aqs_latch_t * it), it)
+CALL(aqs_latch_await, (aqs_latch_t * it), it)
+CALL(aqs_latch_await_interruptibly, (aqs_latch_t * it), it)
+CALL(aqs_latch_timedawait, (aqs_latch_t * it, uint32_t ms), it, (long)ms)
+CALL(aqs_cond_wait, (aqs_cond_t * it, aqs_lock_t *), it)
+CALL(aqs_cond_wait_interruptibly, (aqs_cond_t * it, aqs_lock_t *), it)
+CALL(aqs_cond_timedwait, (aqs_cond_t * it, aqs_lock_t *, uint32_t ms), it, (long)ms)
+CALL(aqs_cond_signal, (aqs_cond_t * it), it)
+CALL(aqs_cond_signal_all, (aqs_cond_t * it), it)
+QUIET(uint32_t, aqs_lock_holds, (aqs_lock_t * it), it, 3)
+QUIET(bool, aqs_lock_is_mine, (aqs_lock_t * it), it, true)
+QUIET(bool, aqs_mutex_is_mine, (aqs_mutex_t * it), it, true)
+QUIET(bool, aqs_rwlock_is_mine, (aqs_rwlock_t * it), it, true)
+QUIET(uint32_t, aqs_rwlock_write_holds, (aqs_rwlock_t * it), it, 4)
+QUIET(uint32_t, aqs_rwlock_read_holds, (aqs_rwlock_t * it), it, 5)
+QUIET(aqs_policy_t, aqs_object_policy, (const aqs_object_t *it), it, AQS_STRICT)
+
+// A call that puts a number into its place.
+#define PUTS(name, type, number, value)                        \
+    extern "C" aqs_status_t name(type *it, number *place) {    \
+        note(#name, it, {});                                   \
+        *place = value;                                        \
+        return answer;                                         \
+    }
+PUTS(aqs_lock_is_locked, aqs_lock_t, aqs_bool_t, true)
+PUTS(aqs_mutex_is_locked, aqs_mutex_t, aqs_bool_t, true)
+PUTS(aqs_rwlock_is_write_locked, aqs_rwlock_t, aqs_bool_t, true)
+PUTS(aqs_object_queue_length, aqs_object_t, uint32_t, 6)
+PUTS(aqs_object_waiters, aqs_object_t, uint32_t, 7)
+PUTS(aqs_history_trim, aqs_object_t, uint64_t, 8)
+PUTS(aqs_sem_drain, aqs_sem_t, uint32_t, 9)
+PUTS(aqs_sem_getvalue, aqs_sem_t, int64_t, -10)
+PUTS(aqs_latch_getcount, aqs_latch_t, uint32_t, 11)
+PUTS(aqs_barrier_wait, aqs_barrier_t, aqs_bool_t, true)
+
+extern "C" aqs_status_t aqs_history_text(aqs_object_t *it, char *buffer, size_t size, size_t *length) {
+    note("aqs_history_text", it, {});
+    *length = 4;
+    if (answer != AQS_OK) return answer;
+    if (size < 4) return AQS_NO_SPACE;
+    buffer[0] = 't', buffer[1] = 'e', buffer[2] = 'x', buffer[3] = 't';
+    return AQS_OK;
+}
+extern "C" aqs_status_t aqs_sem_init(aqs_sem_t *it, int32_t permits, const aqs_options_t *options) {
+    opened_with = *options;
+    note("aqs_sem_init", it, {permits});
+    return answer;
+}
+extern "C" aqs_status_t aqs_latch_init(aqs_latch_t *it, uint32_t count, const aqs_options_t *options) {
+    opened_with = *options;
+    note("aqs_latch_init", it, {(long)count});
+    return answer;
+}
+static int a_barrier;
+static aqs_barrier_t *const the_barrier = (aqs_barrier_t *)&a_barrier;
+extern "C" aqs_status_t aqs_barrier_open(aqs_barrier_t **it, uint32_t parties, const aqs_options_t *options) {
+    opened_with = *options;
+    *it = the_barrier;
+    note("aqs_barrier_open", the_barrier, {(long)parties});
+    return answer;
+}
+extern "C" void aqs_barrier_close(aqs_barrier_t *it) { note("aqs_barrier_close", it, {}); }
+extern "C" aqs_object_t *aqs_barrier_object(aqs_barrier_t *it) { return (aqs_object_t *)it; }
+extern "C" aqs_lock_t *aqs_mutex_as_lock(aqs_mutex_t *it) { return (aqs_lock_t *)it; }
+extern "C" const char *aqs_status_name(aqs_status_t) { return "a status"; }
+
+// What a member returned: a number, or the status that it threw, below 0.
+static long told(const std::function<long()> &member) {
+    try {
+        return member();
+    } catch (const aqs::error &error) {
+        return -1000 - error.status();
+    }
+}
+
+// A member makes this call of this object, and none beside, whatever it answers. `wanted` says what the member
+// makes of that.
+static void makes(const std::string &call, const void *object, const std::function<long()> &member,
+                  long (*wanted)(int), long value) {
+    for (int status = AQS_OK; status <= AQS_HANDLER_RAN; status++) {
+        made.clear(), of.clear();
+        answer = (aqs_status_t)status;
+        long found = told(member);
+        answer = AQS_OK;
+        long expected = status == AQS_OK ? value : wanted(status);
+        if (made == call && of[0] == object && found == expected) continue;
+        fprintf(stderr, "%s for status %d: made %s, and returned %ld\n", call.c_str(), status, made.c_str(), found);
+        _Exit(1);
+    }
+}
+
+// What can't be done throws.
+static long thrown(int status) { return -1000 - status; }
+
+// Ends without what was asked for are false, and the rest throws.
+static long false_or_thrown(int status) {
+    bool is_end = status == AQS_TIMED_OUT || status == AQS_INTERRUPTED || status == AQS_WOULD_BLOCK;
+    return is_end || status == AQS_HANDLER_RAN ? 0 : thrown(status);
+}
+
+static void does(const std::string &call, const void *object, const std::function<void()> &member) {
+    makes(call, object, [&] { member(); return 1; }, thrown, 1);
+}
+static void tries(const std::string &call, const void *object, const std::function<bool()> &member) {
+    makes(call, object, [&] { return member(); }, false_or_thrown, 1);
+}
+static void tells(const std::string &call, const void *object, long value, const std::function<long()> &member) {
+    makes(call, object, member, thrown, value);
+}
+// A call that has no status.
+static void says(const std::string &call, const void *object, long value, const std::function<long()> &member) {
+    made.clear(), of.clear();
+    CHECK(member() == value && made == call && of[0] == object);
+}
+
+static const auto past = std::chrono::steady_clock::now();
+
+// The members that each lock has to lock it, or one side of it.
+template <class Lock>
+static void locks(Lock &lock, const std::string &kind, const std::string &side) {
+    const void *it = lock.native_handle();
+    const std::string call = "aqs_" + kind + "_", unlock = side.substr(0, side.size() - 4) + "unlock";
+    does(call + side, it, [&] { lock.lock(); });
+    tries(call + side + "_interruptibly", it, [&] { return lock.lock_interruptibly(); });
+    tries(call + "try" + side, it, [&] { return lock.try_lock(); });
+    tries(call + "timed" + side + " 5", it, [&] { return lock.try_lock_for(5ms); });
+    tries(call + "timed" + side + " 0", it, [&] { return lock.try_lock_until(past); });
+    does(call + unlock, it, [&] { lock.unlock(); });
+}
+
+// Those of a condition of a number. The guard's own calls succeed, and aren't noted.
+template <class Lock>
+static void conditions(Lock &lock, const std::string &kind) {
+    const void *it = lock.native_handle();
+    const std::string call = "aqs_" + kind + "_";
+    auto condition = lock.condition(2);
+    std::unique_lock<Lock> guard(lock);
+    auto no = [] { return false; };
+    does(call + "wait 2", it, [&] { condition.wait(guard); });
+    tries(call + "wait_interruptibly 2", it, [&] { return condition.wait_interruptibly(guard); });
+    tries(call + "timedwait 2 5", it, [&] { return condition.wait_for(guard, 5ms); });
+    tries(call + "timedwait 2 0", it, [&] { return condition.wait_until(guard, past); });
+    does(call + "signal 2", it, [&] { condition.notify_one(); });
+    does(call + "signal_all 2", it, [&] { condition.notify_all(); });
+    answer = AQS_TIMED_OUT;
+    made.clear();
+    CHECK(!condition.wait_for(guard, 0ms, no) && made == call + "timedwait 2 0");
+    answer = AQS_OK;
+    does(call + "signal 0", it, [&] { lock.condition().notify_one(); });
+}
+
+// Those of each object.
+template <class Object>
+static void histories(Object &object) {
+    const void *it = object.native_handle();
+    tells("aqs_history_trim", it, 8, [&] { return (long)object.trim(); });
+    made.clear();
+    CHECK(object.history() == "text" && made == "aqs_history_text; aqs_history_text" && of.back() == it);
+}
+template <class Object>
+static void questions(Object &object) {
+    const void *it = object.native_handle();
+    tells("aqs_object_queue_length", it, 6, [&] { return (long)object.queue_length(); });
+    tells("aqs_object_waiters", it, 7, [&] { return (long)object.waiters(); });
+    says("aqs_object_policy", it, AQS_STRICT, [&] { return (long)object.policy(); });
+}
+
+static void mutexes() {
+    aqs::mutex mutex;
+    const void *it = mutex.native_handle();
+    locks(mutex, "lock", "lock");
+    conditions(mutex, "lock");
+    histories(mutex);
+    questions(mutex);
+    tells("aqs_lock_is_locked", it, 1, [&] { return mutex.is_locked(); });
+    says("aqs_lock_is_mine", it, 1, [&] { return mutex.is_mine(); });
+    says("aqs_lock_holds", it, 3, [&] { return mutex.holds(); });
+    aqs::plain_mutex plain;
+    it = plain.native_handle();
+    locks(plain, "mutex", "lock");
+    conditions(plain, "mutex");
+    histories(plain);
+    questions(plain);
+    tells("aqs_mutex_is_locked", it, 1, [&] { return plain.is_locked(); });
+    says("aqs_mutex_is_mine", it, 1, [&] { return plain.is_mine(); });
+}
+
+static void read_write_locks() {
+    aqs::shared_mutex mutex;
+    const void *it = mutex.native_handle();
+    locks(mutex, "rwlock", "wrlock");
+    conditions(mutex, "rwlock");
+    histories(mutex);
+    questions(mutex);
+    does("aqs_rwlock_rdlock", it, [&] { mutex.lock_shared(); });
+    tries("aqs_rwlock_rdlock_interruptibly", it, [&] { return mutex.lock_shared_interruptibly(); });
+    tries("aqs_rwlock_tryrdlock", it, [&] { return mutex.try_lock_shared(); });
+    tries("aqs_rwlock_timedrdlock 5", it, [&] { return mutex.try_lock_shared_for(5ms); });
+    tries("aqs_rwlock_timedrdlock 0", it, [&] { return mutex.try_lock_shared_until(past); });
+    does("aqs_rwlock_rdunlock", it, [&] { mutex.unlock_shared(); });
+    tells("aqs_rwlock_is_write_locked", it, 1, [&] { return mutex.is_write_locked(); });
+    says("aqs_rwlock_is_mine", it, 1, [&] { return mutex.is_mine(); });
+    says("aqs_rwlock_write_holds", it, 4, [&] { return mutex.write_holds(); });
+    says("aqs_rwlock_read_holds", it, 5, [&] { return mutex.read_holds(); });
+}
+
+template <class Lock>
+static void condition_objects() {
+    aqs::condition_variable condition;
+    const void *it = condition.native_handle();
+    Lock lock;
+    std::unique_lock<Lock> guard(lock);
+    does("aqs_cond_wait", it, [&] { condition.wait(guard); });
+    tries("aqs_cond_wait_interruptibly", it, [&] { return condition.wait_interruptibly(guard); });
+    tries("aqs_cond_timedwait 5", it, [&] { return condition.wait_for(guard, 5ms); });
+    tries("aqs_cond_timedwait 0", it, [&] { return condition.wait_until(guard, past); });
+    does("aqs_cond_signal", it, [&] { condition.notify_one(); });
+    does("aqs_cond_signal_all", it, [&] { condition.notify_all(); });
+}
+
+static void semaphores() {
+    aqs::semaphore permits(3);
+    const void *it = permits.native_handle();
+    does("aqs_sem_acquire 1", it, [&] { permits.acquire(); });
+    does("aqs_sem_acquire 5", it, [&] { permits.acquire(5); });
+    tries("aqs_sem_acquire_interruptibly 1", it, [&] { return permits.acquire_interruptibly(); });
+    tries("aqs_sem_acquire_interruptibly 5", it, [&] { return permits.acquire_interruptibly(5); });
+    tries("aqs_sem_tryacquire 1", it, [&] { return permits.try_acquire(); });
+    tries("aqs_sem_tryacquire 5", it, [&] { return permits.try_acquire(5); });
+    tries("aqs_sem_timedacquire 1 7", it, [&] { return permits.try_acquire_for(7ms); });
+    tries("aqs_sem_timedacquire 5 7", it, [&] { return permits.try_acquire_for(7ms, 5); });
+    tries("aqs_sem_timedacquire 1 0", it, [&] { return permits.try_acquire_until(past); });
+    tries("aqs_sem_timedacquire 5 0", it, [&] { return permits.try_acquire_until(past, 5); });
+    does("aqs_sem_release 1", it, [&] { permits.release(); });
+    does("aqs_sem_release 5", it, [&] { permits.release(5); });
+    tells("aqs_sem_drain", it, 9, [&] { return permits.drain(); });
+    tells("aqs_sem_getvalue", it, -10, [&] { return permits.available(); });
+    tells("aqs_object_waiters", it, 7, [&] { return permits.waiters(); });
+    histories(permits);
+}
+
+static void latches() {
+    aqs::latch latch(3);
+    const void *it = latch.native_handle();
+    does("aqs_latch_count_down", it, [&] { latch.count_down(); });
+    does("aqs_latch_await", it, [&] { latch.wait(); });
+    tries("aqs_latch_await_interruptibly", it, [&] { return latch.wait_interruptibly(); });
+    tries("aqs_latch_timedawait 5", it, [&] { return latch.wait_for(5ms); });
+    tries("aqs_latch_timedawait 0", it, [&] { return latch.wait_until(past); });
+    tells("aqs_latch_getcount", it, 11, [&] { return latch.count(); });
+    tells("aqs_latch_getcount", it, 0, [&] { return latch.try_wait(); });
+    tells("aqs_object_waiters", it, 7, [&] { return latch.waiters(); });
+    histories(latch);
+    made.clear();
+    latch.arrive_and_wait(2);
+    CHECK(made == "aqs_latch_count_down; aqs_latch_count_down; aqs_latch_await");
+}
+
+static void barriers() {
+    aqs::barrier barrier(4);
+    tells("aqs_barrier_wait", the_barrier, 1, [&] { return barrier.arrive_and_wait(); });
+    histories(barrier);
+}
+
+// An opening has its options, and throws its status. What was opened is closed.
+static void
+opens(const std::string &kind, const std::string &call, const std::function<void(const aqs::options &)> &open) {
+    aqs::options how = aqs::options().strict().keeps_history().most_entries(17).most_threads(5).has_conditions(6);
+    made.clear(), opened_with = {};
+    open(how.handlers_end_waits());
+    CHECK(made == "aqs_" + kind + call + "; aqs_" + kind + "_close");
+    CHECK(opened_with.policy == AQS_STRICT && opened_with.when_full == AQS_REFUSE && opened_with.history == 17);
+    CHECK(opened_with.threads == 5 && opened_with.conditions == 6 && opened_with.heeds_handlers);
+    open(aqs::options().fair());
+    CHECK(opened_with.policy == AQS_FAIR && opened_with.when_full == AQS_TRIM && opened_with.history == 0);
+    CHECK(opened_with.threads == 0 && opened_with.conditions == 0 && !opened_with.heeds_handlers);
+    answer = AQS_OUT_OF_RANGE;
+    CHECK(told([&] { open(how); return 0; }) == thrown(AQS_OUT_OF_RANGE));
+    answer = AQS_OK;
+}
+
+static void openings() {
+    opens("lock", "_init", [](const aqs::options &how) { aqs::mutex it(how); });
+    opens("mutex", "_init", [](const aqs::options &how) { aqs::plain_mutex it(how); });
+    opens("rwlock", "_init", [](const aqs::options &how) { aqs::shared_mutex it(how); });
+    opens("sem", "_init -3", [](const aqs::options &how) { aqs::semaphore it(-3, how); });
+    opens("latch", "_init 3", [](const aqs::options &how) { aqs::latch it(3, how); });
+    opens("barrier", "_open 3", [](const aqs::options &how) { aqs::barrier it(3, how); });
+}
+
+int main() {
+    alarm(60);
+    mutexes();
+    read_write_locks();
+    condition_objects<aqs::mutex>();
+    condition_objects<aqs::plain_mutex>();
+    semaphores();
+    latches();
+    barriers();
+    openings();
+    std::puts("members: good");
+}

@@ -1,0 +1,7 @@
+mod Appending
+mod ColumnsFit
+mod TablesFollow
+mod SharesFollow
+mod LevelsFollow
+mod RefusalsFollow
+mod WaitsFollow

@@ -1,0 +1,12 @@
+use Rattle.std.proofs.Common.{◌≡◌, ℕ, ◌<◌, get_or, length, take}
+use Rattle.std.specs.List.{count_by}
+use Rattle.overview.specs.inner.Levels.{ends_at}
+use Rattle.overview.proofs.queue.ends_of.Given as goal
+
+abbrev pub invariant-loop-bar : goal.invariant-loop-bar
+invariant-loop-bar l =
+    record {
+      places : length l.table.items ≡ l.entries;
+      counted : (i : ℕ) → i < l.entries →
+          get_or l.table.items i 0 ≡ count_by (ends_at i) (take l.bar-index l.bars);
+    }

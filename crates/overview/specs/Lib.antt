@@ -1,0 +1,15 @@
+pub mod Columns
+pub mod Shares
+pub mod Queue
+pub mod Refusals
+pub mod Waits
+pub mod Frame
+pub mod Gauges
+pub mod Amounts
+pub mod Cells
+pub mod Rows
+pub mod WaitsText
+pub mod Wrong
+pub mod Head
+pub mod Document
+pub mod inner

@@ -1,6 +1,0 @@
-use Rattle.std.proofs.Common.{rules}
-use Rattle.tasks.proofs.perform.perform.Goals as goal
-
-pub returns-in_err-replay_stream-in-Replay-clause-performs :
-    goal.returns-in_err-replay_stream-in-Replay-clause-performs
-returns-in_err-replay_stream-in-Replay-clause-performs g c = search rules
