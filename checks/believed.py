@@ -25,7 +25,7 @@ WORD = r"[^\s(){},.;:\[\]⟨⟩`]+"
 NAME = re.compile(rf"{WORD}(?:(?:\.|::){WORD})*")
 DEFINED = re.compile(r"(?:(?:pub|abbrev|unfoldable|opaque|data|record)\s+)*([^\s:(){},]+)")
 VARIANT = re.compile(r"(?m)^ +(?:pub )?([^\s:(){},=]+) :")
-NO_DEFINITION = ("use ", "mod ", "pub use ", "pub mod ", "module ", "--", "unfoldable use ", "unfolding ", "infix")
+NO_DEFINITION = ("use ", "mod ", "pub use ", "pub mod ", "module ", "--", "unfoldable pub use ", "unfolding ", "infix")
 OF_A_TRAIT = re.compile(r"(?:pub )?trait\b|impl\b.* for ")
 IMPORT = re.compile(r"\s*(?:ghost use|use|//)")
 IMPORTED = re.compile(r"(?m)^\s*(ghost |pub |unfoldable )*use Rattle\.([\w.]+?)(?:\.\{([^}]*)\}| as ([^\s;]+))?;?$")

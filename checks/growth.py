@@ -4,7 +4,8 @@
 Each command gets a text of some size and one four times as long. It may take five times as long at most. It has the
 memory that docs/PERFORMANCE.md says of each entry and answer, and no more. Then the same calls are made in an object
 of 2 seats and in one of 256, in which the others are idle, wait in line or sleep: that may take twice as long at
-most. At last threads wait for a second by the clock, at each kind of object, and each may take five thousandths of it
+most. Then entries are made with one trim behind them all, and without it: that may take a tenth longer at most, since
+a trim looks at no entry. At last threads wait for a second by the clock, at each kind of object, and each may take five thousandths of it
 at most, since a thread that waits sleeps. All other times are those of the processor. The two runs of a case are made
 by turns, three times each, and the least time of each counts. Other work on the machine makes some runs slower, so
 they are made up to twenty times while one takes too long beside the other. A run that takes longer than a minute
@@ -31,6 +32,7 @@ SECONDS = 60
 LONGER = 4  # the longer text, in lengths of the shorter
 TIMES = 5  # as long as the shorter at most
 CROWDED = 2  # with 256 seats as long as with 2 at most
+TRIM = 1.1  # with one trim as long as without it at most
 ENTRY = 12  # bytes of an entry in memory
 ANSWER = 16  # bytes of an answer that no entry says, a trim among them
 LISTED = 1.4  # answers, and entries that were folded, stand in lists, which have more room than they use
@@ -209,6 +211,15 @@ def crowded(program):
     yield "draw, signalled", ["draw", "--from", "0"], told(lambda seats: signals(lock(seats), seats, count))
 
 
+def folding():
+    """For each case its name, and its text with so many trims behind all entries."""
+    count = 500_000
+    line = "0 acquire x 1\n" + "".join(f"{seat} acquire x 1\n" for seat in range(2, 256))
+    comes = "1 acquire x 1\n1 interrupt\n"
+    yield "pairs", lambda trims: steps(LOCK.format(2), "", PAIR, count, "trim\n" * trims, form=2)
+    yield "a line that a seat leaves", lambda trims: steps(LOCK.format(256), line, comes, count, "trim\n" * trims, form=2)
+
+
 def once(program, words, text, size):
     """The seconds of one run within so many bytes, or None if it failed or took too long."""
     limit = lambda: resource.setrlimit(resource.RLIMIT_DATA, (size, size))
@@ -265,6 +276,13 @@ def wider(program, runs, seats, times):
     return judged(by_turns(first, second, is_good), is_good, [f"with {it} seats" for it in seats])
 
 
+def is_light(program, text):
+    """Whether a trim of all entries costs little beside making them, and the numbers."""
+    first, second = (lambda it=it: once(program, ["replay"], it, resource.RLIM_INFINITY) for it in (text(0), text(1)))
+    is_good = lambda without, trimmed: trimmed <= TRIM * without + START
+    return judged(by_turns(first, second, is_good), is_good, ("without a trim", "with one"))
+
+
 def is_crowd_borne(program, words, text):
     """Whether 256 seats cost little more than 2, and the numbers."""
     return wider(program, [(words, text(2)), (words, text(256))], (2, 256), CROWDED)
@@ -297,6 +315,7 @@ def asleep(program, script):
 def main(program):
     results = [(case.name, *grows(program, case)) for case in growing(program)]
     results += [(name, *is_crowd_borne(program, words, text)) for name, words, text in crowded(program)]
+    results += [(f"replay, one trim of {name}", *is_light(program, text)) for name, text in folding()]
     pairs = beside(program, PAIRS)
     if os.path.exists(pairs):
         results.append(("locks that are closed", *closes(pairs)))

@@ -34,6 +34,7 @@ impl Two {
 SPECS = """\
 -- What is said of numbers: IsUnseen.
 use Rattle.std.specs.Prelude.{ℕ}
+unfoldable pub use Rattle.two.specs.Words.{four}
 
 -- the first
 abbrev pub IsFirst : ℕ → Type 0

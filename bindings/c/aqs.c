@@ -227,6 +227,7 @@ typedef struct {
 } post_t;
 enum { POSTS = 16 };
 #define BEING_LEFT UINT_MAX
+#define MOST_TIMES (BEING_LEFT - 1)
 
 /* The calling thread. It lies where the system finds it without a call, also in a shared library. */
 static _Thread_local __attribute__((tls_model("initial-exec"))) struct {
@@ -840,14 +841,13 @@ SHORT aqs_status_t step(aqs_object_t *object, uint8_t code, uint8_t mode, uint32
     return do_step(object, (aqs_step_t){.n = n, .code = code, .mode = mode}, owned, NULL);
 }
 
-/* Counts a release at a post of its equals, if there is one. Nobody frees a post meanwhile: the call that makes
-   them is interrupted. */
+/* Counts a release at a post of its equals, if there is one with room. Nobody frees a post meanwhile: the call that
+   makes them is interrupted. */
 static bool joins_post(const aqs_object_t *object, uint32_t n) {
     for (post_t *post = self.posts; post < self.posts + POSTS; post++) {
         unsigned times = atomic_load(&post->times);
-        if (times == 0 || times == BEING_LEFT || post->object != object || post->n != n) continue;
-        atomic_fetch_add(&post->times, 1);
-        return true;
+        while (times > 0 && times < MOST_TIMES && post->object == object && post->n == n)
+            if (atomic_compare_exchange_strong(&post->times, &times, times + 1)) return true;
     }
     return false;
 }

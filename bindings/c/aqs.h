@@ -47,9 +47,9 @@
    opened with AQS_TRIM and has had its first call, and the thread has called the library before. Then they
    ask for no memory, and errno is as it was. If the handler has interrupted a call of the library, its
    release may be made at the end of that call's turn: AQS_OK says only that it will be, and if it is refused
-   then, the program ends. A thread can owe any number of equal releases (of one object, by one number), but not
-   of more than 16 kinds: AQS_OUT_OF_MEMORY. A handler may also call aqs_thread_self and aqs_thread_interrupt,
-   if the thread has called the library before.
+   then, the program ends. A thread can owe 2^32 - 2 equal releases (of one object, by one number), and releases of
+   16 kinds. One more is AQS_OUT_OF_MEMORY. A handler may also call aqs_thread_self and aqs_thread_interrupt, if the
+   thread has called the library before.
 
    Signals end no wait, unless an object is opened with heeds_handlers. Then a handler that runs while a
    thread sleeps in an interruptible or timed call ends the call: AQS_HANDLER_RAN, unless the thread has got

@@ -1,3 +1,4 @@
 pub mod Lines
 pub mod Nodes
 pub mod Tidying
+pub mod Walking

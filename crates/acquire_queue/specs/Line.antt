@@ -1,11 +1,6 @@
 -- The wait queue as contracts see it, and how the fields of a queue represent it.
 use Rattle.std.specs.Prelude.{◌≡◌, ℕ, ◌+◌, ◌<◌, ◌≤◌, ◌^◌, ◌==◌, Bool, false, not, ◌&&◌, if◌then◌else◌, List, [], ◌∷◌, length, filter, slice_get, slice_index_or, Option, Some, None, nat_lt}
-use Rattle.history.specs.declared.arrival.Arrival.{Arrival}
-use Rattle.history.specs.Line.{place_of}
-use Rattle.node_arena.specs.declared.node.NodeNo.{NodeNo}
-use Rattle.node_arena.specs.declared.node.NumberedNode.{NumberedNode}
-use Rattle.node_arena.specs.NodeList.{Nodes, StandApart, cancel_at, standing_before}
-use Rattle.history.specs.Waiting.{StandOnce}
+use Rattle.acquire_queue.specs.Below.{Arrival, LinePlace, stands_from, place_of, awake, NodeNo, NumberedNode, Nodes, StandApart, cancel_at, standing_before, StandOnce}
 
 -- The number of seats, how many ever joined, the waiters (the longest waiting first), and all nodes, with the
 -- cancelled ones.
@@ -23,6 +18,10 @@ is_live x = not x.node.cancelled
 abbrev pub live : List NumberedNode → List Arrival
 live [] = []
 live (x ∷ rest) = if x.node.cancelled then live rest else x.node.arrival ∷ live rest
+
+-- a place in the queue of a waiter that comes back from no sleep
+abbrev pub plain_place : Arrival → LinePlace
+plain_place a = stands_from a awake
 
 -- the number of a seat's node, if it isn't cancelled
 abbrev pub number_of : ℕ → List NumberedNode → Option NodeNo

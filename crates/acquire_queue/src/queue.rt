@@ -1,16 +1,18 @@
 //! A queue of arrivals.
 
-ghost use Rattle.std.specs.Prelude.{◌≡◌, ◌≢◌, ℕ, ◌+◌, ◌^◌, ◌<◌, ◌≤◌, ◌==◌, not, List, [], ◌∷◌, ◌++◌, length, drop, filter, position, Some, is_some, is_none, IfOk, IfErr, IfSome, IsSome};
+ghost use Rattle.std.specs.Prelude.{◌≡◌, ◌≢◌, ℕ, ◌+◌, ◌^◌, ◌<◌, ◌≤◌, ◌==◌, not, List, [], ◌∷◌, ◌++◌, length, map, drop, filter, position, Some, is_some, is_none, IfOk, IfErr, IfSome, IsSome, vec_capacity, vec_len};
 ghost use Rattle.std.specs.Bool.{OnFalse};
 ghost use Rattle.history.specs.Line.{first_of, place_of};
 ghost use Rattle.history.specs.declared.arrival.Arrival.{Arrival};
 ghost use Rattle.history.specs.Waiting.{StandOnce};
-ghost use Rattle.acquire_queue.specs.Line.{live, number_of, left_by, standing_behind, without_dead_head, swept, tidied, IsTidy};
+ghost use Rattle.acquire_queue.specs.Line.{live, number_of, left_by, plain_place, standing_behind, without_dead_head, swept, tidied, IsTidy};
 ghost use Rattle.node_arena.specs.NodeList.{under, StandApart};
 
 use history::arrival::Arrival;
+use history::base::LinePlace;
+use history::entry::End;
 use history::fault::Fault;
-use node_arena::node::{Node, NodeNo};
+use node_arena::node::{Node, NodeNo, NumberedNode};
 use node_arena::node_list::NodeList;
 use std::alloc::Global;
 use std::marker::Model;
@@ -214,6 +216,16 @@ impl Queue {
         }
     }
 
+    /// Replaces a list by those who wait, in their order, each without a sleep. It allocates nothing.
+    pub fn write_line(&self, line: &mut Vec<LinePlace>)
+        requires { length self.now.arrivals ≤ vec_capacity line.old }
+        ensures items { line.new.items ≡ map plain_place self.now.arrivals }
+        ensures capacity { vec_capacity line.new ≡ vec_capacity line.old }
+    {
+        line.clear();
+        write_nodes(&self.nodes, line);
+    }
+
     /// Returns how many nodes there are, with the cancelled ones.
     pub fn standing(&self) -> u16
         requires { self.now.seats < 2 ^ 15 }
@@ -306,4 +318,46 @@ fn place_in(nodes: &NodeList, seat: u16) -> Option<u16>
         next = nodes.behind(standing.number);
     }
     None
+}
+
+/// Appends the waiters of the nodes that aren't cancelled, in their order.
+fn write_nodes(nodes: &NodeList, line: &mut Vec<LinePlace>)
+    requires { vec_len line.old + length (live nodes.now.nodes) ≤ vec_capacity line.old }
+    ensures items { line.new.items ≡ line.old.items ++ map plain_place (live nodes.now.nodes) }
+    ensures capacity { vec_capacity line.new ≡ vec_capacity line.old }
+{
+    let mut next = nodes.first();
+    for _ in 0..nodes.len() {
+        match next {
+            Some(standing) => {
+                write_node(standing, line);
+                next = nodes.behind(standing.number);
+            }
+            None => return,
+        }
+    }
+}
+
+/// Appends the waiter of a node, if it isn't cancelled.
+fn write_node(standing: NumberedNode, line: &mut Vec<LinePlace>)
+    requires { vec_len line.old + length (live (standing ∷ [])) ≤ vec_capacity line.old }
+    ensures items { line.new.items ≡ line.old.items ++ map plain_place (live (standing ∷ [])) }
+    ensures len { vec_len line.new ≡ vec_len line.old + length (live (standing ∷ [])) }
+    ensures capacity { vec_capacity line.new ≡ vec_capacity line.old }
+{
+    if !standing.node.cancelled {
+        line.push_reserved(plain_place(standing.node.arrival));
+    }
+}
+
+/// Returns a place in the queue, without a sleep.
+fn plain_place(who: Arrival) -> LinePlace
+    ensures { result ≡ plain_place who }
+{
+    LinePlace {
+        who,
+        condition: 0,
+        holds: 0,
+        how: End::None,
+    }
 }

@@ -19,8 +19,11 @@
 //! standard error is a terminal, a line there says how much was read.
 #![tactic(auto)]
 
-ghost use Rattle.std.specs.Prelude.{◌≡◌, ◌↔◌, false, IsErrOf, IsTrue};
-ghost use Rattle.streams.specs.declared.stream_fault.StreamFault.TheVariants.{WriteFailed};
+ghost use Rattle.std.specs.Prelude.{◌≡◌, ◌↔◌, Ok, false, IfErr, IfOk, IfSome, IsErrOf, IsTrue};
+ghost use Rattle.aqs.specs.Work.{IsReadFor, Works};
+ghost use Rattle.script.specs.Reading.{Reads};
+ghost use Rattle.streams.specs.declared.stream_fault.StreamFault.TheVariants.{ReadFailed, WriteFailed};
+ghost use Rattle.tasks.specs.RunScript.{IsFaultOfScript};
 ghost use Rattle.tasks.specs.declared.fault.Fault.TheVariants.{Stream};
 
 mod arguments;
@@ -88,7 +91,10 @@ fn work<R: AllocGlobal + Threads + Wait + Clock + Sync, S: Source, W: Sink>(
 ) -> Result<u8, Fault>
     requires reader { S.failed reader.old ≡ false }
     requires writer { W.failed writer.old ≡ false }
-    ensures { IsErrOf result (Stream WriteFailed) ↔ IsTrue (W.failed writer.new) }
+    ensures works { Works names.now job (S.left reader.old) (W.held writer.old) (W.held writer.new) result }
+    ensures end { IsReadFor job (S.left reader.old) result (S.left reader.new) }
+    ensures read { IsErrOf result (Stream ReadFailed) ↔ IsTrue (S.failed reader.new) }
+    ensures write { IsErrOf result (Stream WriteFailed) ↔ IsTrue (W.failed writer.new) }
 {
     match job {
         Job::Answer(task) => perform_with(rt.alloc(), names, reader, writer, task),
@@ -114,7 +120,8 @@ fn finish<
     writer: &mut W,
 ) -> Result<u8, Fault>
     requires { W.failed writer.old ≡ false }
-    ensures { IsErrOf result (Stream WriteFailed) ↔ IsTrue (W.failed writer.new) }
+    ensures works { Works names.now job (I.remaining input) (W.held writer.old) (W.held writer.new) result }
+    ensures write { IsErrOf result (Stream WriteFailed) ↔ IsTrue (W.failed writer.new) }
 {
     let mut reader = Watched::new(UntilEnd::new(Device::new(input)), progress);
     let done = work(rt, job, names, &mut reader, writer);
@@ -193,7 +200,10 @@ fn script_in<I: Read + Drop, E: IsTerminal + Write + Drop>(
     alloc: Global,
     input: I,
     progress: Progress<E>,
-) -> Result<Script, Fault> {
+) -> Result<Script, Fault>
+    ensures ok { IfOk result (λ script. IfSome (I.remaining input) (λ text. Reads text (Ok script))) }
+    ensures err { IfErr result (IsFaultOfScript (I.remaining input)) }
+{
     let mut reader = Watched::new(UntilEnd::new(Device::new(input)), progress);
     let script = script_of(alloc, &mut reader);
     reader.end();

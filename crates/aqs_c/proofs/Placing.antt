@@ -1,10 +1,7 @@
 -- The places of an opening, one after another.
-use Rattle.std.proofs.Common.{◌≡◌, List, [], ◌∷◌, ◌++◌, length, sym, ap, ◌∙◌}
-use Rattle.std.proofs.lemmas.List.{append-nil, append_assoc, length-map, map_push}
-use Rattle.std.specs.Prelude.{map}
-use Rattle.history.specs.declared.header.Header.{Header}
-use Rattle.monitor.specs.Lawful.{blank}
-use Rattle.monitor.specs.Shown.{opening_passes}
+use Rattle.std.proofs.Common.{◌≡◌, List, [], ◌∷◌, ◌++◌, length, sym, ap, ◌∙◌, append-nil, append_assoc, map}
+use Rattle.std.proofs.lemmas.List.{length-map, map_push}
+use Rattle.aqs_c.specs.Below.{Header, blank, opening_passes}
 use Rattle.monitor.proofs.Opening.{opening_count}
 use Rattle.aqs_c.specs.Opening.{IsOpened, idle}
 use Rattle.aqs_c.specs.declared.pass.AqsPass.{AqsPass}

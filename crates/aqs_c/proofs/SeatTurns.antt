@@ -1,36 +1,14 @@
 -- Who waits after the turns of its call, and after what changes nothing of it.
-use Rattle.std.proofs.Common.{◌≡◌, inl, inr, ℕ, Bool, true, false, List, Option, Some, None, Result, Ok, Err, refl, sym, ap, ◌∙◌, subst}
-use Rattle.std.specs.Prelude.{IfNone, IfSome, MatchOption}
-use Rattle.history.specs.Awaiting.{lapsed}
-use Rattle.history.specs.Base.{Base}
-use Rattle.history.specs.declared.arrival.Arrival.{Arrival}
-use Rattle.history.specs.declared.entry.Entry.{Entry}
-use Rattle.history.specs.declared.fault.Fault.{Fault}
-use Rattle.history.specs.declared.step.Answer.{Answer}
+use Rattle.std.proofs.Common.{◌≡◌, inl, inr, ℕ, Bool, true, false, List, Option, Some, None, Result, Ok, Err, refl, sym, ap, ◌∙◌, subst, IfNone, IfSome, MatchOption}
+use Rattle.aqs_c.specs.Below.{lapsed, Base, Arrival, Entry, Fault, Answer, Step, Deed, Woke, waits, Agrees, Before, IsBegun, IsGoneOn, later_turn, next_behind, step_of_waiting, IsLook, Shown, IsSound, IsSame, IsTrim, IsUnparked, Cause, Waits, WaitsAs, in_line, is_lapse, on_condition, on_way_back, How, Next, Request, Turn, Waiting, LockId}
 use Rattle.history.specs.declared.step.Answer.TheVariants as answer
-use Rattle.history.specs.declared.step.Step.{Step}
 use Rattle.history.specs.declared.step.Step.TheVariants as step
-use Rattle.permit.specs.Deed.{Deed}
-use Rattle.permit.specs.declared.parking.Woke.{Woke}
-use Rattle.history.specs.Phase.{waits}
-use Rattle.word_lock.specs.Point.{Agrees, Before}
-use Rattle.monitor.specs.Machine.{IsBegun, IsGoneOn, later_turn, next_behind, step_of_waiting}
-use Rattle.monitor.specs.Observing.{IsLook}
-use Rattle.monitor.specs.Shown.{Shown, IsSound}
-use Rattle.monitor.specs.Stepping.{IsSame, IsTrim, IsUnparked}
-use Rattle.monitor.specs.Waits.{Cause, Waits, WaitsAs, in_line, is_lapse, on_condition, on_way_back}
-use Rattle.monitor.specs.declared.how.How.{How}
-use Rattle.monitor.specs.declared.machine.Next.{Next}
 use Rattle.monitor.specs.declared.machine.Next.TheVariants as next
-use Rattle.monitor.specs.declared.machine.Request.{Request}
-use Rattle.monitor.specs.declared.machine.Turn.{Turn}
-use Rattle.monitor.specs.declared.machine.Waiting.{Waiting}
 use Rattle.monitor.proofs.InLine.{IsEndBy}
 use Rattle.monitor.proofs.TurnByTurn.{begun_waits, never_waits, step_waits, waits_now}
 use Rattle.monitor.proofs.Turns.{TurnMakes, still_waiting, turn}
 use Rattle.monitor.proofs.Turns as turns
 use Rattle.aqs_c.specs.Seated.{waiting_in}
-use Rattle.word_lock.specs.Ticket.{LockId}
 use Rattle.aqs_c.specs.Standing.{IsSeat, StandsBy}
 
 -- C is asked for no deed, so any will do

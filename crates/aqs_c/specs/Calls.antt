@@ -1,23 +1,6 @@
 -- What a call of C leaves, and what it is answered.
 use Rattle.std.specs.Prelude.{◌≡◌, ◌⊎◌, ◌≤◌, ◌<◌, ◌+◌, ℕ, ℤ, Bool, List, Option, Some, None, IsSome, is_some, Result, Ok, Err, length, take, reverse, slice_get}
-use Rattle.deciding.specs.Balance.{all_asleep, available}
-use Rattle.history.specs.Counts.{count, counts, owner}
-use Rattle.history.specs.declared.entry.Entry.{Entry}
-use Rattle.history.specs.declared.fault.Fault.{Fault}
-use Rattle.history.specs.declared.step.Step.{Step}
-use Rattle.history.specs.Line.{line}
-use Rattle.history_text.specs.Pieces.{history_text}
-use Rattle.monitor.specs.Lawful.{start_at}
-use Rattle.monitor.specs.Machine.{IsBegun, IsGoneOn}
-use Rattle.monitor.specs.Observing.{IsLook}
-use Rattle.monitor.specs.Shown.{Shown}
-use Rattle.monitor.specs.Stepping.{IsStepNow, IsTrim}
-use Rattle.monitor.specs.declared.how.How.{How}
-use Rattle.monitor.specs.declared.machine.Request.{Request}
-use Rattle.monitor.specs.declared.machine.Turn.{Turn}
-use Rattle.monitor.specs.declared.machine.Waiting.{Waiting}
-use Rattle.monitor.specs.declared.step.Now.{Now}
-use Rattle.permit.specs.declared.parking.Woke.{Woke}
+use Rattle.aqs_c.specs.Below.{all_asleep, available, count, counts, owner, Entry, Fault, Step, line, history_text, start_at, IsBegun, IsGoneOn, IsLook, Shown, IsStepNow, IsTrim, How, Request, Turn, Waiting, Now, Woke}
 use Rattle.aqs_c.specs.Codes.{IsAnswerOf, IsCallOf, IsCodeOf, IsEntry, IsQuiet, IsTurnOf, IsWoke}
 use Rattle.aqs_c.specs.Seated.{Seated, waiting_in}
 use Rattle.aqs_c.specs.declared.answers.AqsAnswer.{AqsAnswer}

@@ -1,30 +1,10 @@
 -- Steps, calls and answers as numbers.
 use Rattle.std.specs.Prelude.{◌≡◌, ◌⊎◌, ℕ, Bool, true, false, Option, Some, None, Result, Ok, Err, is_some, unwrap_or}
-use Rattle.history.specs.Fault.{fault_number}
-use Rattle.history.specs.declared.entry.Entry.{Entry}
-use Rattle.history.specs.declared.entry.Word.{Word}
+use Rattle.aqs_c.specs.Below.{fault_number, Entry, Word, End, Mode, X, S, Fault, Step, Recorded, Sleep, limits_at, How, Plain, Interruptible, Timed, Next, Ends, Request, Acquire, AwaitOn, Turn, Now, Done, Busy, Limits, Woke, Permit, Deadline, Interrupted}
 use Rattle.history.specs.declared.entry.Word.TheVariants as word
-use Rattle.history.specs.declared.entry.End.{End}
 use Rattle.history.specs.declared.entry.End.TheVariants as end
-use Rattle.history.specs.declared.entry.Mode.{Mode}
-use Rattle.history.specs.declared.entry.Mode.TheVariants.{X, S}
-use Rattle.history.specs.declared.fault.Fault.{Fault}
-use Rattle.history.specs.declared.step.Step.{Step}
 use Rattle.history.specs.declared.step.Step.TheVariants as step
-use Rattle.history.specs.declared.step.Answer.TheVariants.{Recorded, Sleep}
-use Rattle.monitor.specs.Machine.{limits_at}
-use Rattle.monitor.specs.declared.how.How.{How}
-use Rattle.monitor.specs.declared.how.How.TheVariants.{Plain, Interruptible, Timed}
-use Rattle.monitor.specs.declared.machine.Next.{Next}
-use Rattle.monitor.specs.declared.machine.Next.TheVariants.{Ends, Waits}
-use Rattle.monitor.specs.declared.machine.Request.{Request}
-use Rattle.monitor.specs.declared.machine.Request.TheVariants.{Acquire, AwaitOn}
-use Rattle.monitor.specs.declared.machine.Turn.{Turn}
-use Rattle.monitor.specs.declared.step.Now.{Now}
-use Rattle.monitor.specs.declared.step.Now.TheVariants.{Done, Busy}
-use Rattle.monitor.specs.declared.waiting.Limits.{Limits}
-use Rattle.permit.specs.declared.parking.Woke.{Woke}
-use Rattle.permit.specs.declared.parking.Woke.TheVariants.{Permit, Deadline, Interrupted}
+use Rattle.monitor.specs.declared.machine.Next.TheVariants.{Waits}
 use Rattle.aqs_c.specs.declared.steps.AqsStep.{AqsStep}
 use Rattle.aqs_c.specs.declared.calls.AqsCall.{AqsCall}
 use Rattle.aqs_c.specs.declared.answers.AqsAnswer.{AqsAnswer}

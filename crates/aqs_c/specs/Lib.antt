@@ -1,3 +1,4 @@
+pub mod Below
 pub mod Seated
 pub mod Standing
 pub mod inner

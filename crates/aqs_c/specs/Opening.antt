@@ -1,14 +1,6 @@
 -- What opening an object leaves.
 use Rattle.std.specs.Prelude.{◌≡◌, ◌⊎◌, ℕ, pos, List, Option, Some, None, All, length, map}
-use Rattle.history.specs.Header.{IsInRange}
-use Rattle.history.specs.declared.header.Header.{Header}
-use Rattle.history.specs.declared.header.Object.{Object}
-use Rattle.history.specs.declared.header.Object.TheVariants.{Lock, ReadWrite, Semaphore, Latch}
-use Rattle.history.specs.declared.header.Policy.{Policy}
-use Rattle.history.specs.declared.header.Policy.TheVariants.{Fair, NonFair, Strict}
-use Rattle.monitor.specs.Lawful.{blank}
-use Rattle.monitor.specs.Shown.{Shown, opening_passes}
-use Rattle.word_lock.specs.Ticket.{LockId}
+use Rattle.aqs_c.specs.Below.{IsInRange, Header, Object, Lock, ReadWrite, Semaphore, Latch, Policy, Fair, NonFair, Strict, blank, Shown, opening_passes, LockId}
 use Rattle.aqs_c.specs.Seated.{Seated, seated}
 use Rattle.aqs_c.specs.declared.opening.AqsHeader.{AqsHeader}
 use Rattle.aqs_c.specs.declared.pass.AqsPass.{AqsPass}

@@ -1,9 +1,7 @@
 -- What a seat shows.
 use Rattle.std.specs.Prelude.{Option, Some, None}
-use Rattle.monitor.specs.Shown.{Shown}
-use Rattle.monitor.specs.declared.machine.Next.{Next}
-use Rattle.monitor.specs.declared.machine.Next.TheVariants.{Ends, Waits}
-use Rattle.monitor.specs.declared.machine.Waiting.{Waiting}
+use Rattle.aqs_c.specs.Below.{Shown, Next, Ends, Waiting}
+use Rattle.monitor.specs.declared.machine.Next.TheVariants.{Waits}
 
 -- a seat's pass, and the call in which it waits
 pub record Seated : Type 0 where

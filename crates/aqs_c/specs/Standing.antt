@@ -1,9 +1,6 @@
 -- What holds of a seat between its calls.
 use Rattle.std.specs.Prelude.{◌≡◌, Option, Some, None}
-use Rattle.monitor.specs.Shown.{Shown}
-use Rattle.monitor.specs.Waits.{Waits}
-use Rattle.monitor.specs.declared.machine.Waiting.{Waiting}
-use Rattle.word_lock.specs.Ticket.{LockId}
+use Rattle.aqs_c.specs.Below.{Shown, Waits, Waiting, LockId}
 
 -- one that is in a call waits
 abbrev pub StandsBy : Option Waiting → Shown → Type 0

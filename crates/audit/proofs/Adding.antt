@@ -1,18 +1,7 @@
 -- What an object comes to, as the numbers of its kind.
-use Rattle.std.proofs.Common.{◌≡◌, ℕ, true, List, refl, ap, ◌∙◌, sym, arith}
-use Rattle.std.specs.Prelude.{ℤ, pos, ◌+ℤ◌, ◌-ℤ◌}
+use Rattle.std.proofs.Common.{◌≡◌, ℕ, true, List, refl, ap, ◌∙◌, sym, arith, ℤ, pos, ◌+ℤ◌, ◌-ℤ◌}
 use Rattle.std.proofs.lemmas.Int.{ints}
-use Rattle.history.specs.declared.entry.Entry.{Entry}
-use Rattle.history.specs.declared.header.Object.{Object}
-use Rattle.history.specs.declared.header.Object.TheVariants.{Lock, ReadWrite, Semaphore, Latch}
-use Rattle.history.specs.declared.header.Policy.{Policy}
-use Rattle.history.specs.Conservation.{permits_held}
-use Rattle.history.specs.Counts.{free, unheld}
-use Rattle.history.specs.Object.{created, is_semaphore}
-use Rattle.history.specs.Start.{Start}
-use Rattle.deciding.specs.declared.balance.Balance.{Balance}
-use Rattle.deciding.specs.Balance.{balance}
-use Rattle.deciding.specs.ObjectState.{IsHistory}
+use Rattle.audit.specs.Below.{Entry, Object, Lock, ReadWrite, Semaphore, Latch, Policy, permits_held, free, unheld, created, is_semaphore, Start, Balance, balance, IsHistory}
 use Rattle.deciding.proofs.Bounds.{conserved_by}
 use Rattle.audit.specs.declared.sums.Totals.{Totals}
 use Rattle.audit.specs.Totals.{no_totals, numbers_of, semaphore_numbers, totals_by, totals_of}

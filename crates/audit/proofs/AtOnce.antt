@@ -1,18 +1,8 @@
 -- Entries of an idle seat's steps, which are admitted without a decision.
 use Rattle.std.proofs.Common.{◌≡◌, ℕ, false, not, List, Option, Some, None, Result, Ok, refl, ap, ◌∙◌, sym}
 use Rattle.audit.specs.Ledger.{IsNext}
-use Rattle.deciding.specs.Checks.{refused_as}
+use Rattle.audit.specs.Below.{refused_as, Entry, Word, Fault, Step, Acquire, Give, counts, first_mode, Idle, phase, waits, Start, acquired, entry_for, gave, idle_entry, plain}
 use Rattle.deciding.proofs.InPhase.{entry_admitted, in_phase_made}
-use Rattle.history.specs.declared.entry.Entry.{Entry}
-use Rattle.history.specs.declared.entry.Word.{Word}
-use Rattle.history.specs.declared.fault.Fault.{Fault}
-use Rattle.history.specs.declared.step.Step.{Step}
-use Rattle.history.specs.declared.step.Step.TheVariants.{Acquire, Give}
-use Rattle.history.specs.Counts.{counts}
-use Rattle.history.specs.Line.{first_mode}
-use Rattle.history.specs.Phase.{Idle, phase, waits}
-use Rattle.history.specs.Start.{Start}
-use Rattle.history.specs.Steps.{acquired, entry_for, gave, idle_entry, plain}
 
 -- a seat is idle, and the object has this step
 abbrev pub Begins : Start → List Entry → ℕ → Step → Type 0

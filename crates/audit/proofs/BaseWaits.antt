@@ -1,9 +1,8 @@
 -- That who waits on a base stands in line and sleeps, one after another.
-use Rattle.std.proofs.Common.{◌≡◌, ℕ, ◌+◌, ◌<◌, ◌≤◌, Bool, true, false, cond, eqb, List, [], ◌∷◌, ◌++◌, length, map, take, drop, get_or, refl, ap, ◌∙◌, sym, arith}
+use Rattle.std.proofs.Common.{◌≡◌, ℕ, ◌+◌, ◌<◌, ◌≤◌, Bool, true, false, cond, eqb, List, [], ◌∷◌, ◌++◌, length, map, take, drop, get_or, refl, ap, ◌∙◌, sym, arith, take-append-drop}
 use Rattle.std.proofs.lemmas.Bool.{or_parts}
-use Rattle.std.proofs.lemmas.List.{drop_more, map-append, take-append-drop}
-use Rattle.history.specs.Sleepers.{has}
-use Rattle.history.specs.Waiting.{times}
+use Rattle.std.proofs.lemmas.List.{drop_more, map-append}
+use Rattle.audit.specs.Below.{has, times}
 use Rattle.history.proofs.Times.{once_has, once_same, times-append}
 
 -- a list, by what is asked of each before a place, at it and behind it

@@ -1,13 +1,7 @@
 -- What a history begins from, and that behind it a legal history is one as decisions ask for.
 use Rattle.std.proofs.Common.{◌≡◌, [], Option, None, Some, refl, sym}
-use Rattle.history.specs.declared.header.Header.{Header}
-use Rattle.history.specs.Base.{Base, based, opening_base}
-use Rattle.history.specs.Entries.{IsBasedWell, or_opening}
-use Rattle.history.specs.GoodBase.{IsGood}
-use Rattle.history.specs.Header.{IsInRange}
-use Rattle.history.specs.Start.{opening}
+use Rattle.audit.specs.Below.{Header, Base, based, opening_base, IsBasedWell, or_opening, IsGood, IsInRange, opening, IsHistory}
 use Rattle.history.proofs.OpeningBase.{based_opening, opening_good}
-use Rattle.deciding.specs.ObjectState.{IsHistory}
 
 pub begins_at_opening : (k : Header) → IsInRange k → IsHistory (opening k) []
 begins_at_opening k range =

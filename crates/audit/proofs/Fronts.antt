@@ -1,11 +1,8 @@
 -- The fronts of a history, entry by entry.
-use Rattle.std.proofs.Common.{◌≡◌, ℕ, zero, suc, ◌<◌, ◌≤◌, ◌+◌, ◌-◌, arith, List, [], ◌∷◌, length, drop, reverse, get_or, ap, ◌∙◌, sym, subst, length-drop, drop-cons, Some}
+use Rattle.std.proofs.Common.{◌≡◌, ℕ, zero, suc, ◌<◌, ◌≤◌, ◌+◌, ◌-◌, arith, List, [], ◌∷◌, length, drop, reverse, get_or, ap, ◌∙◌, sym, subst, length-drop, drop-cons, Some, slice_get}
 use Rattle.std.proofs.lemmas.Option.{get_or_from_slice_get}
 use Rattle.std.proofs.lemmas.List.{get_or-reverse}
-use Rattle.std.specs.Prelude.{slice_get}
-use Rattle.history.specs.declared.entry.Entry.{Entry}
-use Rattle.history.specs.Legal.{IsLegal, AreSeated}
-use Rattle.history.specs.Start.{Start}
+use Rattle.audit.specs.Below.{Entry, IsLegal, AreSeated, Start}
 use Rattle.audit.specs.declared.ledger.Ledger.{Ledger}
 use Rattle.audit.specs.Ledger.{HasSeat, IsNext, LedgerStand}
 use Rattle.audit.specs.Verdict.{front, IsFirstWrong}

@@ -1,18 +1,8 @@
 -- That what the tables of holds stand for follows each entry.
-use Rattle.std.proofs.Common.{◌≡◌, ⊎_elim, ℕ, ◌+◌, ◌-◌, ◌<◌, ◌≤◌, Bool, true, false, cond, ltb, List, [], ◌∷◌, length, get_or, set, Option, Some, None, refl, ap, ◌∙◌, sym, arith}
-use Rattle.std.proofs.lemmas.Bool.{cases_eq, eq-eqb, ne_eqb, ltb-true, ltb-false}
+use Rattle.std.proofs.Common.{◌≡◌, ⊎_elim, ℕ, ◌+◌, ◌-◌, ◌<◌, ◌≤◌, Bool, true, false, cond, ltb, List, [], ◌∷◌, length, get_or, set, Option, Some, None, refl, ap, ◌∙◌, sym, arith, eq-eqb, ne_eqb, ltb-true, ltb-false}
+use Rattle.std.proofs.lemmas.Bool.{cases_eq}
 use Rattle.std.proofs.Math.ListN.{length-set}
-use Rattle.history.specs.declared.entry.Entry.{Entry}
-use Rattle.history.specs.declared.entry.Mode.TheVariants.{X, S}
-use Rattle.history.specs.declared.entry.Word.{Word}
-use Rattle.history.specs.declared.header.Object.{Object}
-use Rattle.history.specs.Could.{is_seat}
-use Rattle.history.specs.Counts.{counts, held, holds_after, owner, readers}
-use Rattle.history.specs.Entry.{same_mode}
-use Rattle.history.specs.declared.limits.TheConstants.{MOST_BASE_PERMITS}
-use Rattle.history.specs.Object.{is_lock}
-use Rattle.history.specs.declared.header.Header.{Header}
-use Rattle.history.specs.Start.{Start, opening}
+use Rattle.audit.specs.Below.{Entry, X, S, Word, Object, is_seat, counts, held, holds_after, owner, readers, same_mode, MOST_BASE_PERMITS, is_lock, Header, Start, opening}
 use Rattle.history.proofs.Owners.{seat_with_found, seat_with_nobody}
 use Rattle.history.proofs.SleepLemmas.{held_other}
 use Rattle.history.proofs.Sums.{seat_with_none, total_change, total_nothing, total_same}

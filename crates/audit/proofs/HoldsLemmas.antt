@@ -1,13 +1,8 @@
 -- The holds of an entry's seat, and the seat that has some.
-use Rattle.std.proofs.Common.{◌≡◌, ◌≢◌, ℕ, zero, suc, ◌<◌, true, false, cond, eqb, ltb, List, ◌∷◌, Some, None, get_or, replicate, refl, ap, sym, arith}
-use Rattle.std.proofs.lemmas.Bool.{eq-eqb}
+use Rattle.std.proofs.Common.{◌≡◌, ◌≢◌, ℕ, zero, suc, ◌<◌, true, false, cond, eqb, ltb, List, ◌∷◌, Some, None, get_or, replicate, refl, ap, sym, arith, eq-eqb}
 use Rattle.std.proofs.Math.Bool.{and-false}
 use Rattle.history.proofs.Sums.{seat_with_one}
-use Rattle.history.specs.declared.entry.Entry.{Entry}
-use Rattle.history.specs.declared.entry.Mode.{Mode}
-use Rattle.history.specs.Counts.{held, holds_after, seat_with}
-use Rattle.history.specs.Entry.{same_mode}
-use Rattle.history.specs.Start.{Start}
+use Rattle.audit.specs.Below.{Entry, Mode, held, holds_after, seat_with, same_mode, Start}
 
 -- the holds of the entry's seat in its mode, and in the other
 pub held_here : (s : Start) (e : Entry) (h : List Entry) (i : ℕ) (m : Mode) → e.seat ≡ i →

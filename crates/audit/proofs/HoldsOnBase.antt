@@ -1,9 +1,6 @@
 -- What the tables of holds stand for on a good base.
 use Rattle.std.proofs.Common.{◌≡◌, ℕ, [], length, get_or, refl, arith}
-use Rattle.history.specs.Base.{Base, based, seat_of}
-use Rattle.history.specs.Counts.{owner, readers, seat_with, total}
-use Rattle.history.specs.GoodBase.{IsGood}
-use Rattle.history.specs.Header.{IsInRange}
+use Rattle.audit.specs.Below.{Base, based, seat_of, owner, readers, seat_with, total, IsGood, IsInRange}
 use Rattle.history.proofs.SmallBases.{few_exclusive, few_held}
 use Rattle.audit.specs.declared.holds.Holds.{Holds}
 use Rattle.audit.specs.Holds.{HoldsStand}

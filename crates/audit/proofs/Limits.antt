@@ -1,11 +1,6 @@
 -- Who owns behind a legal front, and what one more entry of it is.
 use Rattle.std.proofs.Common.{◌≡◌, ℕ, zero, suc, ◌<◌, arith, true, List, ◌∷◌, refl}
-use Rattle.history.specs.declared.entry.Entry.{Entry}
-use Rattle.history.specs.declared.entry.Mode.TheVariants.{X}
-use Rattle.history.specs.Counts.{held}
-use Rattle.history.specs.Object.{is_lock}
-use Rattle.history.specs.Start.{Start}
-use Rattle.deciding.specs.ObjectState.{IsHistory}
+use Rattle.audit.specs.Below.{Entry, X, held, is_lock, Start, IsHistory}
 use Rattle.deciding.proofs.Bounds.{owned_by}
 use Rattle.audit.specs.inner.Holds.{IsOnlyOwner}
 use Rattle.audit.specs.Ledger.{IsNext}

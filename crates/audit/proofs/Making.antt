@@ -1,34 +1,13 @@
 -- If any step of its seat makes an entry, one of its candidates does.
-use Rattle.std.proofs.Common.{◌≡◌, ◌⊎◌, inl, inr, ⊎_elim, ℕ, Bool, true, false, not, cond, leb, leb-false, ltb, arith, List, length, Option, Some, None, Result, Ok, refl, ap, ◌∙◌, sym, subst, pos, ◌+ℤ◌}
-use Rattle.std.specs.Prelude.{int_lt}
+use Rattle.std.proofs.Common.{◌≡◌, ◌⊎◌, inl, inr, ⊎_elim, ℕ, Bool, true, false, not, cond, leb, leb-false, ltb, arith, List, length, Option, Some, None, Result, Ok, refl, ap, ◌∙◌, sym, subst, pos, ◌+ℤ◌, int_lt}
 use Rattle.std.proofs.lemmas.Bool.{lt-leb}
 use Rattle.std.proofs.lemmas.Option.{same_Some}
 use Rattle.audit.specs.declared.candidates.Candidates.{Candidates}
 use Rattle.audit.specs.Ledger.{IsNext}
-use Rattle.history.specs.declared.arrival.Arrival.{Arrival}
-use Rattle.history.specs.declared.entry.Entry.{Entry}
+use Rattle.audit.specs.Below.{Arrival, Entry, Mode, X, S, Word, Fault, Object, Lock, ReadWrite, Semaphore, Latch, Step, Acquire, Try, TryFair, EntryInterrupt, Give, Look, Expire, Interrupt, Await, Signal, SignalAll, Drain, is_seat, limit, held_back, could, try_held_back, Counts, counts, owner, MOST_AMOUNT, is_wrong_mode, is_no_condition, first_mode, ready, is_lock, Phase, Idle, InLine, Sleeping, phase, suits, sleepers, Start, plain, gave, awaits, at_most_one, idle_entry, back, lapse, ended, queued_entry, line_entry, sleeping_entry, phase_entry, entry_for}
 use Rattle.history.specs.declared.entry.End.TheVariants as end
-use Rattle.history.specs.declared.entry.Mode.{Mode}
-use Rattle.history.specs.declared.entry.Mode.TheVariants.{X, S}
-use Rattle.history.specs.declared.entry.Word.{Word}
 use Rattle.history.specs.declared.entry.Word.TheVariants as word
-use Rattle.history.specs.declared.fault.Fault.{Fault}
 use Rattle.history.specs.declared.fault.Fault.TheVariants as fault
-use Rattle.history.specs.declared.header.Object.{Object}
-use Rattle.history.specs.declared.header.Object.TheVariants.{Lock, ReadWrite, Semaphore, Latch}
-use Rattle.history.specs.declared.step.Step.{Step}
-use Rattle.history.specs.declared.step.Step.TheVariants.{Acquire, Try, TryFair, EntryInterrupt, Give, Look, Expire, Interrupt, Await, Signal, SignalAll, Drain}
-use Rattle.history.specs.Could.{is_seat, limit, held_back, could, try_held_back}
-use Rattle.history.specs.Counts.{Counts, counts, owner}
-use Rattle.history.specs.declared.limits.TheConstants.{MOST_AMOUNT}
-use Rattle.history.specs.Faults.{is_wrong_mode, is_no_condition}
-use Rattle.history.specs.Line.{first_mode}
-use Rattle.history.specs.Naming.{ready}
-use Rattle.history.specs.Object.{is_lock}
-use Rattle.history.specs.Phase.{Phase, Idle, InLine, Sleeping, phase, suits}
-use Rattle.history.specs.Sleepers.{sleepers}
-use Rattle.history.specs.Start.{Start}
-use Rattle.history.specs.Steps.{plain, gave, awaits, at_most_one, idle_entry, back, lapse, ended, queued_entry, line_entry, sleeping_entry, phase_entry, entry_for}
 use Rattle.history.proofs.Entering.{Admitted}
 use Rattle.history.proofs.Entering as entering
 use Rattle.audit.specs.inner.Candidates.{candidates}

@@ -6,11 +6,7 @@ use denote.Enum.Compared.{Each, by}
 use denote.Enum.Declared.{Choice}
 use denote.Struct.Field.{Field}
 use denote.Struct.Values.{Values}
-use Rattle.history.specs.declared.entry.Entry.{Entry}
-use Rattle.history.specs.declared.entry.End.{End}
-use Rattle.history.specs.declared.entry.Mode.{Mode}
-use Rattle.history.specs.declared.entry.Word.{Word}
-use Rattle.history.specs.declared.fault.Fault.{Fault}
+use Rattle.audit.specs.Below.{Entry, End, Mode, Word, Fault}
 use Rattle.history.specs.contracts.entry.End as end
 use Rattle.history.specs.contracts.entry.Mode as mode
 use Rattle.history.specs.contracts.entry.Word as word

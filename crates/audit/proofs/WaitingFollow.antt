@@ -1,24 +1,16 @@
 -- That the audit's line and sleepers stand for one more entry, and are as it needs them.
-use Rattle.std.proofs.Common.{◌≡◌, ⊎_elim, ℕ, ◌+◌, ◌<◌, None, true, false, eqb, List, [], ◌∷◌, length, get_or, set, replicate, refl, ap, ◌∙◌, sym, arith}
+use Rattle.std.proofs.Common.{◌≡◌, ⊎_elim, ℕ, ◌+◌, ◌<◌, None, true, false, eqb, List, [], ◌∷◌, length, get_or, set, replicate, refl, ap, ◌∙◌, sym, arith, eq-eqb, ne_eqb, get_or-set_same, get_or-set_other}
 use Rattle.std.proofs.Math.ListN.{length-set}
-use Rattle.std.proofs.lemmas.Bool.{cases_eq, eq-eqb, ne_eqb}
-use Rattle.std.proofs.lemmas.List.{length-replicate, get_or-set_same, get_or-set_other}
-use Rattle.history.specs.declared.entry.Entry.{Entry}
-use Rattle.history.specs.declared.entry.Word.{Word}
+use Rattle.std.proofs.lemmas.Bool.{cases_eq}
+use Rattle.std.proofs.lemmas.List.{length-replicate}
+use Rattle.audit.specs.Below.{Entry, Word, Header, sleep_after, last_sleep, Start, opening, IsMovable, JoinedBy, Keeps, asleep_on, sleeper_of, sleep_of, LastSleep}
 use Rattle.history.specs.declared.entry.Word.TheVariants as word
-use Rattle.history.specs.declared.header.Header.{Header}
-use Rattle.history.specs.Sleepers.{sleep_after, last_sleep}
-use Rattle.history.specs.Start.{Start, opening}
 use Rattle.history.specs.Start as start
 use Rattle.history.proofs.Changes.{either_way}
 use Rattle.history.proofs.Entering.{known}
 use Rattle.history.proofs.OneWait.{Waits}
-use Rattle.condition_queue.specs.Following.{IsMovable, JoinedBy, Keeps}
-use Rattle.condition_queue.specs.Sleepers.{asleep_on, sleeper_of}
 use Rattle.condition_queue.proofs.Movable.{movable}
 use Rattle.deciding.proofs.Bounds.{waits_by}
-use Rattle.deciding.specs.Sleep.{sleep_of}
-use Rattle.deciding.specs.declared.sleep.LastSleep.{LastSleep}
 use Rattle.audit.specs.declared.ledger.Ledger.{Ledger}
 use Rattle.audit.specs.declared.waiting.Waiting.{Waiting}
 use Rattle.audit.specs.Ledger.{IsNext, LedgerStand}

@@ -3,21 +3,12 @@ use Rattle.std.proofs.Common.{◌≡◌, ⊎_elim, ℕ, ◌<◌, ◌≤◌, List
 use Rattle.std.specs.List.{AllByRecursion}
 use Rattle.std.proofs.lemmas.Bool.{cases_lt}
 use Rattle.std.proofs.lemmas.List.{get_or_past, length-map}
-use Rattle.history.specs.declared.base.Sleeper.{Sleeper}
-use Rattle.history.specs.declared.base.LinePlace.{LinePlace}
-use Rattle.history.specs.Base.{Base, based, either, or_awake, sleep_below, sleep_in_line, sleepers_of}
-use Rattle.history.specs.GoodBase.{IsGood, SleepsWell, StandsWell}
-use Rattle.history.specs.Header.{IsInRange}
-use Rattle.history.specs.Line.{line}
-use Rattle.history.specs.Start.{Sleep, awake}
-use Rattle.history.specs.Waiting.{seats_of, times}
+use Rattle.audit.specs.Below.{Sleeper, LinePlace, Base, based, either, or_awake, sleep_below, sleep_in_line, sleepers_of, IsGood, SleepsWell, StandsWell, IsInRange, line, Sleep, awake, seats_of, times, asleep_on, sleep_of}
 use Rattle.history.proofs.GoodBases.{good_waits, waits_once}
 use Rattle.history.proofs.GoodFolds.{line_seated_on}
 use Rattle.history.proofs.LineLemmas.{line_at_first}
 use Rattle.history.proofs.Times.{total_part}
 use Rattle.history.proofs.WhoWaits.{few_wait, one_condition}
-use Rattle.condition_queue.specs.Sleepers.{asleep_on}
-use Rattle.deciding.specs.Sleep.{sleep_of}
 use Rattle.audit.specs.declared.waiting.Waiting.{Waiting}
 use Rattle.audit.specs.Waiting.{never_slept, WaitingStand}
 use Rattle.audit.specs.inner.Waiting.{AreSleepers, or_kept}

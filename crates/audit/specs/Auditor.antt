@@ -1,8 +1,6 @@
 -- What an auditor knows about the entries so far.
 use Rattle.std.specs.Prelude.{◌≡◌, ◌<◌, ◌+◌, ◌^◌, ℕ, List, length, Option, None, Some}
-use Rattle.history.specs.declared.entry.Entry.{Entry}
-use Rattle.history.specs.Legal.{IsLegal}
-use Rattle.history.specs.Start.{Start}
+use Rattle.audit.specs.Below.{Entry, IsLegal, Start}
 use Rattle.audit.specs.declared.auditor.Auditor.{Auditor}
 use Rattle.audit.specs.declared.ledger.Ledger.{Ledger}
 use Rattle.audit.specs.Ledger.{LedgerStand}

@@ -1,12 +1,6 @@
 -- What the audit's tables of holds represent.
 use Rattle.std.specs.Prelude.{◌≡◌, ℕ, ◌*◌, ◌≤◌, List, length, slice_index, true}
-use Rattle.deciding.specs.Holds.{most_held}
-use Rattle.history.specs.declared.entry.Entry.{Entry}
-use Rattle.history.specs.declared.entry.Mode.TheVariants.{X, S}
-use Rattle.history.specs.Counts.{counts, held, owner, readers}
-use Rattle.history.specs.declared.limits.TheConstants.{MOST_BASE_PERMITS}
-use Rattle.history.specs.Object.{is_lock}
-use Rattle.history.specs.Start.{Start}
+use Rattle.audit.specs.Below.{most_held, Entry, X, S, counts, held, owner, readers, MOST_BASE_PERMITS, is_lock, Start}
 use Rattle.audit.specs.declared.holds.Holds.{Holds}
 
 pub record HoldsStand (s : Start) (h : List Entry) (holds : Holds) : Type 0 where

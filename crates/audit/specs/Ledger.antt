@@ -1,11 +1,6 @@
 -- What the audit's ledger represents: the first entries of a legal history.
 use Rattle.std.specs.Prelude.{◌≡◌, ◌<◌, ◌+◌, ◌^◌, ℕ, List, length, Ok, Some}
-use Rattle.history.specs.declared.entry.Entry.{Entry}
-use Rattle.history.specs.declared.step.Step.{Step}
-use Rattle.history.specs.Start.{Start}
-use Rattle.history.specs.Steps.{entry_for}
-use Rattle.deciding.specs.Amounts.{AreAmounts}
-use Rattle.deciding.specs.ObjectState.{IsHistory}
+use Rattle.audit.specs.Below.{Entry, Step, Start, entry_for, AreAmounts, IsHistory}
 use Rattle.audit.specs.declared.ledger.Ledger.{Ledger}
 use Rattle.audit.specs.Holds.{HoldsStand}
 use Rattle.audit.specs.Waiting.{WaitingStand}

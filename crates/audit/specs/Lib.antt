@@ -1,3 +1,4 @@
+pub mod Below
 pub mod Holds
 pub mod Waiting
 pub mod Ledger

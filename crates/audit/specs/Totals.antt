@@ -1,14 +1,6 @@
 -- The totals of a history.
 use Rattle.std.specs.Prelude.{List, length, ℤ, pos, ◌+ℤ◌, ◌-ℤ◌}
-use Rattle.history.specs.declared.entry.Entry.{Entry}
-use Rattle.history.specs.declared.entry.Mode.TheVariants.{X, S}
-use Rattle.history.specs.declared.header.Object.{Object}
-use Rattle.history.specs.declared.header.Object.TheVariants.{Lock, ReadWrite, Semaphore, Latch}
-use Rattle.history.specs.Counts.{count, free, held, total, unheld}
-use Rattle.history.specs.Line.{line}
-use Rattle.history.specs.Sleepers.{sleepers}
-use Rattle.history.specs.Start.{Start}
-use Rattle.deciding.specs.declared.balance.Balance.{Balance}
+use Rattle.audit.specs.Below.{Entry, X, S, Object, Lock, ReadWrite, Semaphore, Latch, count, free, held, total, unheld, line, sleepers, Start, Balance}
 use Rattle.audit.specs.declared.sums.Totals.{Totals}
 
 abbrev pub no_totals : Totals

@@ -5,9 +5,7 @@ use Rattle.audit.specs.declared.verdict.Judgement.TheVariants.{Legal, NotLegal}
 use Rattle.audit.specs.declared.verdict.Verdict.{Verdict}
 use Rattle.audit.specs.declared.verdict.Verdict.TheVariants as verdict
 use Rattle.audit.specs.Totals.{totals_of}
-use Rattle.history.specs.declared.entry.Entry.{Entry}
-use Rattle.history.specs.Legal.{IsLegal}
-use Rattle.history.specs.Start.{Start}
+use Rattle.audit.specs.Below.{Entry, IsLegal, Start}
 
 -- the first n entries, which are the last in the list
 abbrev pub front : ℕ → List Entry → List Entry

@@ -1,12 +1,7 @@
 -- What the audit's queue and waiters represent.
 use Rattle.std.specs.Prelude.{◌≡◌, ◌+◌, ℕ, List, length, slice_index_or}
-use Rattle.history.specs.declared.entry.Entry.{Entry}
+use Rattle.audit.specs.Below.{Entry, last_sleep, Start, JoinedBy, Keeps, sleep_of, LastSleep}
 use Rattle.history.specs.declared.entry.End.TheVariants as end
-use Rattle.history.specs.Sleepers.{last_sleep}
-use Rattle.history.specs.Start.{Start}
-use Rattle.condition_queue.specs.Following.{JoinedBy, Keeps}
-use Rattle.deciding.specs.Sleep.{sleep_of}
-use Rattle.deciding.specs.declared.sleep.LastSleep.{LastSleep}
 use Rattle.audit.specs.declared.waiting.Waiting.{Waiting}
 
 -- what a seat saved that never waited on a condition

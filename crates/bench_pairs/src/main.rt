@@ -3,15 +3,18 @@
 //! - `lock_pairs`: pairs under the word lock, and under std's mutex.
 //! - `monitor_pairs`: pairs at monitors of each kind.
 //! - `closes`: locks that are opened and closed.
+//! - `trims`: trims of a lock's core.
 //!
 //! `bench_pairs` makes a few of each, and `bench_pairs NAME` a few of one. `bench_pairs lock_pairs measure`
 //! and `bench_pairs monitor_pairs measure MS` measure how many pairs the threads make. `bench_pairs closes
-//! SEATS TIMES` closes this many locks of this many seats.
+//! SEATS TIMES` closes this many locks of this many seats, and `bench_pairs trims PAIRS TIMES` measures this many trims, each
+//! behind as many pairs.
 #![tactic(auto)]
 
 mod closes;
 mod lock_pairs;
 mod monitor_pairs;
+mod trims;
 
 use std::sync::Wait;
 use std::thread::Threads;
@@ -34,11 +37,13 @@ fn run<R: Print + Eprint + AllocGlobal + Threads + Wait + Clock + Sync>(
         None => {
             lock_pairs::run(rt, false)?;
             monitor_pairs::run(rt, false, None)?;
-            closes::run(rt, None, None)
+            closes::run(rt, None, None)?;
+            trims::run(rt, None, None)
         }
         Some("lock_pairs") => lock_pairs::run(rt, measure),
         Some("monitor_pairs") => monitor_pairs::run(rt, measure, milliseconds),
         Some("closes") => closes::run(rt, word_at(words, 1), word_at(words, 2)),
+        Some("trims") => trims::run(rt, word_at(words, 1), word_at(words, 2)),
         Some(other) => eprintln!(rt; "bench_pairs: no pairs {other}"),
     }
 }

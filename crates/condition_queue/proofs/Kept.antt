@@ -1,10 +1,9 @@
 -- What falling asleep and leaving make of the lists, the counts and the table beside them.
-use Rattle.std.proofs.Common.{◌≡◌, ◌≢◌, ◌⊎◌, inl, inr, ℕ, ◌+◌, ◌^◌, ◌<◌, ◌≤◌, Bool, true, false, not, ◌||◌, ◌&&◌, cond, eqb, List, [], ◌∷◌, ◌++◌, length, get_or, set, Option, Some, None, refl, ap, ◌∙◌, sym, subst, arith}
-use Rattle.std.specs.Prelude.{IfSome}
-use Rattle.std.proofs.lemmas.Bool.{cases_eq, cases_lt, eqb-true, eq-eqb, ne_eqb, cond-true, cond-false}
-use Rattle.std.proofs.lemmas.List.{get_or_past, length-set, length_push}
-use Rattle.history.specs.Sleepers.{has, without}
-use Rattle.node_arena.specs.LinkedLists.{LinkedLists, items, list_of, list_count, key_limit, Moves}
+use Rattle.std.proofs.Common.{◌≡◌, ◌≢◌, ◌⊎◌, inl, inr, ℕ, ◌+◌, ◌^◌, ◌<◌, ◌≤◌, Bool, true, false, not, ◌||◌, ◌&&◌, cond, eqb, List, [], ◌∷◌, ◌++◌, length, get_or, set, Option, Some, None, refl, ap, ◌∙◌, sym, subst, arith, IfSome, eqb-true, eq-eqb, ne_eqb, length-set}
+use Rattle.std.proofs.lemmas.Bool.{cases_eq}
+use Rattle.std.proofs.lemmas.Bool.Decides.{nat_tests}
+use Rattle.std.proofs.lemmas.List.{get_or_past, length_push}
+use Rattle.condition_queue.specs.Below.{has, without, LinkedLists, items, list_of, list_count, key_limit, Moves}
 use Rattle.condition_queue.specs.declared.sleeper.Sleeper.{Sleeper}
 use Rattle.condition_queue.specs.Sleepers.{AreLinkedSleepers, SleepOnce, sleeps_on, condition_of}
 use Rattle.condition_queue.proofs.Lists.{has-append, has-without, once-push, once-without, length-once, without_absent, at_set}
@@ -17,18 +16,10 @@ sleeps_elsewhere c d (Some s) p n = ne_eqb s.condition d (λ e. n (sym e ∙ eqb
 -- only a seat of the object sleeps, and only on a condition of the object
 pub seat_below : (table : List (Option Sleeper)) (c s : ℕ) → sleeps_on c (get_or table s None) ≡ true →
     s < length table
-seat_below table c s p = by (cases_lt s (length table))
-  where
-    by : (s < length table) ⊎ (length table ≤ s) → s < length table
-    by (inl l) = l
-    by (inr l) = let no : false ≡ true = ap (sleeps_on c) (sym (get_or_past table s None l)) ∙ p in cc
+seat_below table c s p = grind (arith, get_or_past table s None)
 
 pub condition_below : (lists : List (List ℕ)) (c s : ℕ) → has s (get_or lists c []) ≡ true → c < length lists
-condition_below lists c s p = by (cases_lt c (length lists))
-  where
-    by : (c < length lists) ⊎ (length lists ≤ c) → c < length lists
-    by (inl l) = l
-    by (inr l) = let no : false ≡ true = ap (has s) (sym (get_or_past lists c [] l)) ∙ p in cc
+condition_below lists c s p = grind (arith, get_or_past lists c [])
 
 pub known_asleep : (o : Option Sleeper) (x : Sleeper) → o ≡ Some x → sleeps_on x.condition o ≡ true
 known_asleep o x told = ap (sleeps_on x.condition) told ∙ eq-eqb x.condition x.condition refl
@@ -63,19 +54,8 @@ module _ (seats : ℕ) (l : LinkedLists) (counts : List ℕ) (table : List (Opti
   room_to_join c s seat none =
       let few =
       length-once seats (items l c ++ s ∷ []) (once-push s (items l c) (kept.once c) (awake c s none))
-      (λ i h. below i (cases_eq s i) h) in
+      (λ i h. grind (arith, nat_tests, asleep_below c i, kept.listed c i, has-append i (items l c) (s ∷ []))) in
       omega (arith, few, length_push (items l c) s)
-    where
-      right : (h b : Bool) → b ≡ false → (h || (b || false)) ≡ true → h ≡ true
-      right true b e p = refl
-      right false true e p = cc
-      right false false e p = p
-
-      below : (i : ℕ) → (s ≡ i) ⊎ (s ≡ i → ⊥) → has i (items l c ++ s ∷ []) ≡ true → i < seats
-      below i (inl e) h = omega (arith, e, seat)
-      below i (inr m) h =
-          asleep_below c i (sym (kept.listed c i)
-          ∙ right (has i (items l c)) (eqb s i) (ne_eqb s i m) (sym (has-append i (items l c) (s ∷ [])) ∙ h))
 
   -- the list of one condition changes by one seat, and the table at that seat
   module _ (c s n : ℕ) (m : LinkedLists) (o : Option Sleeper) (low : c < list_count l) (seat : s < seats)
@@ -87,57 +67,28 @@ module _ (seats : ℕ) (l : LinkedLists) (counts : List ℕ) (table : List (Opti
     told : (i : ℕ) → get_or (set table s o) i None ≡ cond (eqb s i) o (get_or table i None)
     told i = at_set table s i o None (omega (arith, seat, kept.one_a_seat))
 
-    told_here : (i : ℕ) → s ≡ i → get_or (set table s o) i None ≡ o
-    told_here i f = told i ∙ cond-true _ _ _ (eq-eqb s i f)
+    listed_now : (d i : ℕ) → has i (items m d) ≡ sleeps_on d (get_or (set table s o) i None)
+    listed_now d i = grind (arith, nat_tests, told i, changed i, others d, kept.listed d i, elsewhere d)
 
-    told_there : (i : ℕ) → (s ≡ i → ⊥) → get_or (set table s o) i None ≡ get_or table i None
-    told_there i x = told i ∙ cond-false _ _ _ (ne_eqb s i x)
-
-    listed_now : (d i : ℕ) → (c ≡ d) ⊎ (c ≡ d → ⊥) → (s ≡ i) ⊎ (s ≡ i → ⊥) →
-        has i (items m d) ≡ sleeps_on d (get_or (set table s o) i None)
-    listed_now d i (inl e) (inl f) =
-        ap (λ k. has i (items m k)) (sym e) ∙ changed i
-        ∙ cond-true _ _ _ (eq-eqb s i f) ∙ ap (λ k. sleeps_on k o) e
-        ∙ sym (ap (sleeps_on d) (told_here i f))
-    listed_now d i (inl e) (inr x) =
-        ap (λ k. has i (items m k)) (sym e) ∙ changed i
-        ∙ cond-false _ _ _ (ne_eqb s i x) ∙ kept.listed c i ∙ ap (λ k. sleeps_on k (get_or table i None)) e
-        ∙ sym (ap (sleeps_on d) (told_there i x))
-    listed_now d i (inr n) (inl f) =
-        ap (has i) (others d (λ e. n (sym e))) ∙ kept.listed d i
-        ∙ ap (λ k. sleeps_on d (get_or table k None)) (sym f) ∙ sym (elsewhere d (λ e. n (sym e)))
-        ∙ sym (ap (sleeps_on d) (told_here i f))
-    listed_now d i (inr n) (inr x) =
-        ap (has i) (others d (λ e. n (sym e))) ∙ kept.listed d i
-        ∙ sym (ap (sleeps_on d) (told_there i x))
-
-    owned_now : (i : ℕ) → (s ≡ i) ⊎ (s ≡ i → ⊥) → list_of m i ≡ condition_of (get_or (set table s o) i None)
-    owned_now i (inl f) =
-        ap (list_of m) (sym f) ∙ moves.moved ∙ sym (ap condition_of (told_here i f))
-    owned_now i (inr x) =
-        moves.others i (λ e. x (sym e)) ∙ kept.owned i
-        ∙ sym (ap condition_of (told_there i x))
+    owned_now : (i : ℕ) → list_of m i ≡ condition_of (get_or (set table s o) i None)
+    owned_now i = grind (arith, nat_tests, told i, moves.moved, moves.others i, kept.owned i)
 
     once_now : (d : ℕ) → (c ≡ d) ⊎ (c ≡ d → ⊥) → SleepOnce (items m d)
     once_now d (inl e) = subst (λ k. SleepOnce (items m k)) e once
     once_now d (inr x) = subst SleepOnce (sym (others d (λ e. x (sym e)))) (kept.once d)
 
-    counted_now : (d : ℕ) → (c ≡ d) ⊎ (c ≡ d → ⊥) → get_or (set counts c n) d 0 ≡ length (items m d)
-    counted_now d (inl e) =
-        at_set counts c d n 0 (omega (arith, low, kept.each_counted)) ∙ cond-true _ _ _ (eq-eqb c d e) ∙ long
-        ∙ ap (λ k. length (items m k)) e
-    counted_now d (inr x) =
-        at_set counts c d n 0 (omega (arith, low, kept.each_counted)) ∙ cond-false _ _ _ (ne_eqb c d x)
-        ∙ kept.counted d
-        ∙ ap length (sym (others d (λ e. x (sym e))))
+    counted_now : (d : ℕ) → get_or (set counts c n) d 0 ≡ length (items m d)
+    counted_now d =
+        let set_at = at_set counts c d n 0 (omega (arith, low, kept.each_counted)) in
+        grind (arith, nat_tests, set_at, long, kept.counted d, others d)
 
     pub kept_changed : AreLinkedSleepers seats m (set counts c n) (set table s o)
     kept_changed =
         record {
-          listed = λ d i. listed_now d i (cases_eq c d) (cases_eq s i);
-          owned = λ i. owned_now i (cases_eq s i);
+          listed = listed_now;
+          owned = owned_now;
           once = λ d. once_now d (cases_eq c d);
-          counted = λ d. counted_now d (cases_eq c d);
+          counted = counted_now;
           each_counted = omega (arith, length-set counts c n, kept.each_counted, moves.count);
           one_a_seat = length-set table s o ∙ kept.one_a_seat;
           linked = omega (arith, kept.linked, moves.limit);
@@ -153,16 +104,13 @@ module _ (seats : ℕ) (l : LinkedLists) (counts : List ℕ) (table : List (Opti
   kept_joined c s h n m low seat none last others moves more =
       kept_changed c s n m (Some (record { condition = c; holds = h })) low seat
       (subst SleepOnce (sym last) (once-push s (items l c) (kept.once c) (awake c s none)))
-      (λ i. ap (has i) last ∙ has-append i (items l c) (s ∷ []) ∙ asleep (eqb s i) (has i (items l c))
-      ∙ ap (λ b. cond (eqb s i) b (has i (items l c))) (sym (eq-eqb c c refl)))
+      (λ i. ap (has i) last ∙ has-append i (items l c) (s ∷ [])
+      ∙ asleep (eqb s i) (has i (items l c)) (eqb c c) (eq-eqb c c refl))
       (λ d x. ne_eqb c d (λ e. x (sym e)) ∙ ap (sleeps_on d) (sym none)) others moves
       (omega (arith, more, kept.counted c, ap length last, length_push (items l c) s))
     where
-      asleep : (b h : Bool) → (h || (b || false)) ≡ cond b true h
-      asleep true true = refl
-      asleep true false = refl
-      asleep false true = refl
-      asleep false false = refl
+      asleep : (b h t : Bool) → t ≡ true → (h || (b || false)) ≡ cond b t h
+      asleep b h t e = grind arith
 
   -- one who sleeps leaves
   pub kept_left : (s n : ℕ) (x : Sleeper) (m : LinkedLists) → get_or table s None ≡ Some x →
@@ -180,8 +128,7 @@ module _ (seats : ℕ) (l : LinkedLists) (counts : List ℕ) (table : List (Opti
       (omega (arith, fewer, kept.counted c, shorter))
     where
       gone : (b h : Bool) → (not b && h) ≡ cond b false h
-      gone true h = refl
-      gone false h = refl
+      gone b h = grind arith
 
   -- a seat that has left is in no list
   pub left_all : (s : ℕ) (x : Sleeper) (m : LinkedLists) → get_or table s None ≡ Some x →

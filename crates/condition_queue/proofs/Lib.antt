@@ -2,3 +2,4 @@ pub mod Lists
 pub mod Kept
 pub mod Moving
 pub mod Movable
+pub mod Behind

@@ -1,22 +1,12 @@
 -- That queue and waiters stand for one entry more, and are as it needs them.
-use Rattle.std.proofs.Common.{◌≡◌, ◌⊎◌, ⊎_elim, ℕ, zero, suc, ◌+◌, ◌<◌, ◌≤◌, Bool, true, false, cond, eqb, List, ◌∷◌, ◌++◌, length, Option, Some, None, refl, ap, ◌∙◌, sym, arith}
+use Rattle.std.proofs.Common.{◌≡◌, ◌⊎◌, ⊎_elim, ℕ, zero, suc, ◌+◌, ◌<◌, ◌≤◌, Bool, true, false, cond, eqb, List, ◌∷◌, ◌++◌, length, Option, Some, None, refl, ap, ◌∙◌, sym, arith, is_some, eq-eqb, append-nil, length-append}
 use Rattle.std.specs.List.{filter}
-use Rattle.std.specs.Prelude.{is_some}
-use Rattle.std.proofs.lemmas.Bool.{cases_eq, cases_lt, eq-eqb, false≢true}
-use Rattle.std.proofs.lemmas.List.{append-nil, length-append}
-use Rattle.acquire_queue.specs.Line.{Line}
+use Rattle.std.proofs.lemmas.Bool.{cases_eq, cases_lt, false≢true}
+use Rattle.condition_queue.specs.Below.{Line, Entry, Word, line, arrivals_by, place_of, sleepers, sleepers_after, has, last_sleep, sleeps_below, Start, IsHistory, at_most_one, asleep}
 use Rattle.condition_queue.specs.declared.sleeper.Sleeper.{Sleeper}
 use Rattle.condition_queue.specs.Sleepers.{Sleepers, asleep_on, sleeper_of, sleeps_on}
-use Rattle.history.specs.declared.entry.Entry.{Entry}
-use Rattle.history.specs.declared.entry.Word.{Word}
 use Rattle.history.specs.declared.entry.Word.TheVariants as word
-use Rattle.history.specs.Line.{line, arrivals_by, place_of}
-use Rattle.history.specs.Sleepers.{sleepers, sleepers_after, has, last_sleep, sleeps_below}
-use Rattle.history.specs.Start.{Start}
-use Rattle.deciding.specs.ObjectState.{IsHistory}
 use Rattle.deciding.proofs.Bounds.{all_below, waits_by}
-use Rattle.history.specs.Steps.{at_most_one}
-use Rattle.history.specs.Waiting.{asleep}
 use Rattle.history.proofs.Changes.{all_stay}
 use Rattle.history.proofs.Entering.{Known, KnownBy, OnCondition}
 use Rattle.history.proofs.LineLemmas.{line_after, stays}

@@ -1,14 +1,10 @@
 -- Moving sleepers one after another.
-use Rattle.std.proofs.Common.{◌≡◌, ◌⊎◌, inl, inr, ℕ, zero, suc, ◌+◌, ◌<◌, Bool, true, false, ◌||◌, cond, eqb, List, [], ◌∷◌, ◌++◌, length, map, take, drop, Option, Some, None, refl, ap, ◌∙◌, sym, arith}
-use Rattle.std.specs.Prelude.{slice_get}
-use Rattle.std.proofs.lemmas.Bool.{cases_eq, eq-eqb, ne_eqb, cond-true, cond-false}
-use Rattle.std.proofs.lemmas.List.{append_assoc, drop-drop, length-drop, map-append}
+use Rattle.std.proofs.Common.{◌≡◌, ◌⊎◌, inl, inr, ℕ, zero, suc, ◌+◌, ◌<◌, Bool, true, false, ◌||◌, cond, eqb, List, [], ◌∷◌, ◌++◌, length, map, take, drop, Option, Some, None, refl, ap, ◌∙◌, sym, arith, slice_get, eq-eqb, ne_eqb, append_assoc, drop-drop, length-drop}
+use Rattle.std.proofs.lemmas.Bool.{cases_eq, cond-true, cond-false}
+use Rattle.std.proofs.lemmas.Bool.Decides.{nat_tests}
+use Rattle.std.proofs.lemmas.List.{map-append}
 use Rattle.std.proofs.Math.Seq.{take-add}
-use Rattle.history.specs.declared.arrival.Arrival.{Arrival}
-use Rattle.history.specs.Line.{coming_back, place_of}
-use Rattle.history.specs.Sleepers.{has, without}
-use Rattle.history.specs.Steps.{at_most_one}
-use Rattle.acquire_queue.specs.Line.{Line}
+use Rattle.condition_queue.specs.Below.{Arrival, coming_back, place_of, has, without, at_most_one, Line}
 use Rattle.condition_queue.specs.Sleepers.{Sleepers, SleepOnce, asleep_on, sleeper_of, sleeps_on}
 use Rattle.condition_queue.specs.declared.sleeper.Sleeper.{Sleeper}
 use Rattle.condition_queue.specs.Moves.{Moves}
@@ -42,11 +38,10 @@ pub moved_sleepers : (s : ℕ) (xs : List ℕ) (old new : ℕ → Option Sleeper
     ((i : ℕ) → new i ≡ cond (eqb s i) None (old i)) → s ∷ [] ≡ take 1 xs → (i : ℕ) →
     new i ≡ cond (has i (take 1 xs)) None (old i)
 moved_sleepers s xs old new left first i =
-    left i ∙ ap (λ b. cond b None (old i)) (alone (eqb s i) ∙ ap (has i) first)
+    left i ∙ ap (λ b. cond b None (old i)) (alone ∙ ap (has i) first)
   where
-    alone : (b : Bool) → b ≡ (b || false)
-    alone true = refl
-    alone false = refl
+    alone : eqb s i ≡ (eqb s i || false)
+    alone = grind arith
 
 -- who still sleeps on the condition
 pub left_asleep : (c k : ℕ) (old mid : Sleepers) (before after : Line) → Moves c k old mid before after →
@@ -95,9 +90,7 @@ one_more c k n old mid new before line after first next low e =
         ∙ rw (ne_eqb c d m) refl
 
     two : (a b : Bool) (o : Option Sleeper) → cond b None (cond a None o) ≡ cond (a || b) None o
-    two true true o = refl
-    two true false o = refl
-    two false b o = refl
+    two a b o = grind arith
 
     sleepers : (i : ℕ) → sleeper_of new i ≡ cond (has i (take (k + 1) (asleep_on old c))) None
         (sleeper_of old i)
@@ -129,30 +122,17 @@ moves_more c k n old mid new before line after first next low e =
 place_of-append : (i : ℕ) (xs ys : List Arrival) → place_of i xs ≡ None → place_of i ys ≡ None →
     place_of i (xs ++ ys) ≡ None
 place_of-append i [] ys p q = q
-place_of-append i (a ∷ xs) ys p q = by (eqb a.seat i) p (λ e. place_of-append i xs ys e q)
-  where
-    by : (b : Bool) → cond b (Some a) (place_of i xs) ≡ None →
-        (place_of i xs ≡ None → place_of i (xs ++ ys) ≡ None) → cond b (Some a) (place_of i (xs ++ ys)) ≡ None
-    by true p ih = cc
-    by false p ih = ih p
+place_of-append i (a ∷ xs) ys p q = grind (arith, place_of-append i xs ys)
 
 drop_has : (i k : ℕ) (xs : List ℕ) → has i (drop k xs) ≡ true → has i xs ≡ true
 drop_has i zero xs p = p
 drop_has i (suc k) [] p = p
-drop_has i (suc k) (x ∷ xs) p = by (eqb x i) (drop_has i k xs p)
-  where
-    by : (b : Bool) → has i xs ≡ true → (b || has i xs) ≡ true
-    by true q = refl
-    by false q = q
+drop_has i (suc k) (x ∷ xs) p = grind (arith, drop_has i k xs p)
 
 once_apart : (i k : ℕ) (xs : List ℕ) → SleepOnce xs → has i (drop k xs) ≡ true → has i (take k xs) ≡ false
 once_apart i zero xs once p = refl
 once_apart i (suc k) [] once p = refl
-once_apart i (suc k) (x ∷ xs) once p = by (cases_eq x i) (once_apart i k xs once.1 p)
-  where
-    by : (x ≡ i) ⊎ (x ≡ i → ⊥) → has i (take k xs) ≡ false → (eqb x i || has i (take k xs)) ≡ false
-    by (inl e) ih = let no : false ≡ true = sym once.0 ∙ ap (λ j. has j xs) e ∙ drop_has i k xs p in cc
-    by (inr n) ih = rw (ne_eqb x i n) ih
+once_apart i (suc k) (x ∷ xs) once p = grind (arith, nat_tests, drop_has i k xs p, once_apart i k xs once.1 p)
 
 pub still_apart : (c k : ℕ) (old mid : Sleepers) (before line : Line) → Moves c k old mid before line →
     SleepOnce (asleep_on old c) →

@@ -1,17 +1,9 @@
 -- When wait queue and conditions represent a history, how an entry changes them, and what it requires of
 -- them.
 use Rattle.std.specs.Prelude.{◌≡◌, ◌≤◌, ◌<◌, ◌+◌, ◌*◌, ◌^◌, ℕ, ◌==◌, not, true, false, List, [], ◌∷◌, ◌++◌, if◌then◌else◌, filter, map, take, length, Option, Some, None}
-use Rattle.acquire_queue.specs.Line.{Line}
+use Rattle.condition_queue.specs.Below.{Line, Arrival, Entry, Word, Queued, Granted, Left, Await, Lapse, Signal, SignalAll, Back, coming_back, line, place_of, has, sleepers, Start, at_most_one}
 use Rattle.condition_queue.specs.declared.sleeper.Sleeper.{Sleeper}
 use Rattle.condition_queue.specs.Sleepers.{Sleepers, asleep_on}
-use Rattle.history.specs.declared.arrival.Arrival.{Arrival}
-use Rattle.history.specs.declared.entry.Entry.{Entry}
-use Rattle.history.specs.declared.entry.Word.{Word}
-use Rattle.history.specs.declared.entry.Word.TheVariants.{Queued, Granted, Left, Await, Lapse, Signal, SignalAll, Back}
-use Rattle.history.specs.Line.{coming_back, line, place_of}
-use Rattle.history.specs.Sleepers.{has, sleepers}
-use Rattle.history.specs.Start.{Start}
-use Rattle.history.specs.Steps.{at_most_one}
 
 -- At most as many have joined the queue as n entries can add: each adds its seat, or all waiters of a
 -- condition.

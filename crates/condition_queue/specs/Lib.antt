@@ -1,3 +1,4 @@
+pub mod Below
 pub mod Sleepers
 pub mod Moves
 pub mod Following

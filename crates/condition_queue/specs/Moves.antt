@@ -1,8 +1,6 @@
 -- What changes, and what stays, when waiters move from a condition to the wait queue.
 use Rattle.std.specs.Prelude.{◌≡◌, ℕ, ◌+◌, ◌==◌, if◌then◌else◌, ◌++◌, map, take, drop, None}
-use Rattle.history.specs.Line.{coming_back}
-use Rattle.history.specs.Sleepers.{has}
-use Rattle.acquire_queue.specs.Line.{Line}
+use Rattle.condition_queue.specs.Below.{coming_back, has, Line}
 use Rattle.condition_queue.specs.Sleepers.{Sleepers, asleep_on, sleeper_of}
 
 -- The n longest waiters of a condition joined the end of the queue, in order.

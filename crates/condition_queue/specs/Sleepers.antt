@@ -1,7 +1,6 @@
 -- The conditions' waiters as contracts see them, and how the fields represent them.
 use Rattle.std.specs.Prelude.{◌≡◌, ℕ, ◌<◌, ◌^◌, ◌==◌, Bool, false, List, [], ◌∷◌, length, slice_index_or, Option, Some, None}
-use Rattle.history.specs.Sleepers.{has}
-use Rattle.node_arena.specs.LinkedLists.{LinkedLists, items, list_of, list_count, key_limit}
+use Rattle.condition_queue.specs.Below.{has, LinkedLists, items, list_of, list_count, key_limit}
 use Rattle.condition_queue.specs.declared.sleeper.Sleeper.{Sleeper}
 
 -- How many seats and conditions there are, who waits on each condition (the longest waiting first), and what

@@ -172,7 +172,7 @@ impl Waiters {
     }
 
     /// Returns the longest waiter of a condition.
-    fn first_on(&self, c: u8) -> Option<u16>
+    pub fn first_on(&self, c: u8) -> Option<u16>
         requires { c < self.now.conditions }
         ensures first { result ≡ slice_get (asleep_on self.now c) 0 }
         ensures once { SleepOnce (asleep_on self.now c) }
@@ -182,5 +182,15 @@ impl Waiters {
     {
         let seat = self.lists.front(c as usize)?;
         Some(seat as u16)
+    }
+
+    /// Returns the waiter right after another one of its condition.
+    pub fn behind(&self, seat: u16) -> Option<u16>
+        ensures { (c k : ℕ) → slice_get (asleep_on self.now c) k ≡ Some seat
+            → result ≡ slice_get (asleep_on self.now c) (k + 1) }
+    {
+        let _sleeper = self.sleeper_of(seat)?;
+        let next = self.lists.behind(seat as usize)?;
+        Some(next as u16)
     }
 }

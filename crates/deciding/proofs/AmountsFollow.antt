@@ -1,21 +1,9 @@
 -- That the numbers of permits and of a latch stand for one more entry.
-use Rattle.std.proofs.Common.{◌≡◌, ◌⊎◌, inl, inr, ℕ, ◌+◌, ◌-◌, ◌≤◌, List, [], ◌∷◌, ℤ, refl, ap, ◌∙◌, sym, subst, arith}
-use Rattle.std.specs.Prelude.{FitsSigned, nat_abs, pos, ◌-ℤ◌, ◌+ℤ◌, ◌≤ℤ◌}
+use Rattle.std.proofs.Common.{◌≡◌, ◌⊎◌, inl, inr, ℕ, ◌+◌, ◌-◌, ◌≤◌, List, [], ◌∷◌, ℤ, refl, ap, ◌∙◌, sym, subst, arith, FitsSigned, nat_abs, pos, ◌-ℤ◌, ◌+ℤ◌, ◌≤ℤ◌}
 use Rattle.std.specs.Int.{w32, w128}
 use Rattle.std.proofs.lemmas.Int.{ints}
-use Rattle.history.specs.declared.entry.Entry.{Entry}
-use Rattle.history.specs.declared.entry.Word.{Word}
+use Rattle.deciding.specs.Below.{Entry, Word, S, Object, Lock, ReadWrite, Semaphore, Latch, Base, based, seat_of, counted_after, free, free_after, total, AreCounted, AreHeld, IsGood, IsInRange, IsOpening, created, is_semaphore, opening_count, most_shared, Start}
 use Rattle.history.specs.declared.entry.Word.TheVariants as word
-use Rattle.history.specs.declared.entry.Mode.TheVariants.{S}
-use Rattle.history.specs.declared.header.Object.{Object}
-use Rattle.history.specs.declared.header.Object.TheVariants.{Lock, ReadWrite, Semaphore, Latch}
-use Rattle.history.specs.Base.{Base, based, seat_of}
-use Rattle.history.specs.Counts.{counted_after, free, free_after, total}
-use Rattle.history.specs.GoodBase.{AreCounted, AreHeld, IsGood}
-use Rattle.history.specs.Header.{IsInRange, IsOpening}
-use Rattle.history.specs.Object.{created, is_semaphore, opening_count}
-use Rattle.history.specs.Ownership.{most_shared}
-use Rattle.history.specs.Start.{Start}
 use Rattle.history.proofs.Permits.{created_fits}
 use Rattle.history.proofs.SmallBases.{few_in_all}
 use Rattle.deciding.specs.declared.amounts.Amounts.{Amounts}

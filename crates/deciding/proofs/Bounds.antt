@@ -1,27 +1,10 @@
 -- Who owns behind a legal history, and that what is held and free fits.
-use Rattle.std.proofs.Common.{◌≡◌, ◌≢◌, ⊎_elim, ℕ, zero, suc, ◌+◌, ◌*◌, ◌<◌, ◌≤◌, ◌^◌, ltb, true, length, List, [], ◌∷◌, Option, Some, None, ap, ◌∙◌, sym, subst, refl, arith, ℤ, pos, ◌≤ℤ◌}
+use Rattle.std.proofs.Common.{◌≡◌, ◌≢◌, ⊎_elim, ℕ, zero, suc, ◌+◌, ◌*◌, ◌<◌, ◌≤◌, ◌^◌, ltb, true, length, List, [], ◌∷◌, Option, Some, None, ap, ◌∙◌, sym, subst, refl, arith, ℤ, pos, ◌≤ℤ◌, FitsSigned, eq-eqb, ne_eqb, lt-ltb, le-ltb}
 use Rattle.std.specs.Int.{w32, w64}
-use Rattle.std.specs.Prelude.{FitsSigned}
 use mir.Val.{to_z, of_z}
-use Rattle.std.proofs.lemmas.Bool.{cases_eq, eq-eqb, ne_eqb, lt-ltb, le-ltb}
+use Rattle.std.proofs.lemmas.Bool.{cases_eq}
 use Rattle.std.proofs.lemmas.Int.{ints, to_z-of_z}
-use Rattle.history.specs.declared.arrival.Arrival.{Arrival}
-use Rattle.history.specs.declared.entry.Entry.{Entry}
-use Rattle.history.specs.declared.entry.Mode.{Mode}
-use Rattle.history.specs.declared.entry.Mode.TheVariants.{X, S}
-use Rattle.history.specs.Base.{based}
-use Rattle.history.specs.Conservation.{IsConserved}
-use Rattle.history.specs.Could.{is_seat}
-use Rattle.history.specs.Counts.{Counts, counts, free, held, owner}
-use Rattle.history.specs.Faults.{max_amount}
-use Rattle.history.specs.GoodBase.{most_permits}
-use Rattle.history.specs.Header.{IsInRange}
-use Rattle.history.specs.Legal.{IsLegal, AreSeated}
-use Rattle.history.specs.Line.{line, first_of}
-use Rattle.history.specs.Object.{is_lock, is_semaphore}
-use Rattle.history.specs.Ownership.{IsOwned}
-use Rattle.history.specs.Point.{CanFold}
-use Rattle.history.specs.Start.{Start}
+use Rattle.deciding.specs.Below.{Arrival, Entry, Mode, X, S, based, IsConserved, is_seat, Counts, counts, free, held, owner, max_amount, most_permits, IsInRange, IsLegal, AreSeated, line, first_of, is_lock, is_semaphore, IsOwned, CanFold, Start}
 use Rattle.history.proofs.Folding.{based_conserved}
 use Rattle.history.proofs.GoodBases.{good_waits}
 use Rattle.history.proofs.GoodFolds.{free_fits_base, line_seated_on, owned_behind}

@@ -3,12 +3,7 @@ use Rattle.std.proofs.Common.{◌≡◌, ⊎_elim, ℕ, ◌≤◌, List, length,
 use Rattle.std.proofs.lemmas.Bool.{cases_lt}
 use Rattle.std.proofs.lemmas.List.{get_or_past, length-map}
 use Rattle.std.proofs.Math.ListN.{get_or-map}
-use Rattle.history.specs.declared.base.SeatBase.{SeatBase}
-use Rattle.history.specs.declared.entry.Mode.{Mode}
-use Rattle.history.specs.declared.entry.Mode.TheVariants.{X, S}
-use Rattle.history.specs.Base.{Base, holds_of, nothing, seat_of}
-use Rattle.history.specs.Counts.{total}
-use Rattle.history.specs.GoodBase.{IsGood, most_permits}
+use Rattle.deciding.specs.Below.{SeatBase, Mode, X, S, Base, holds_of, nothing, seat_of, total, IsGood, most_permits}
 use Rattle.history.proofs.SmallBases.{few_shared}
 use Rattle.history.proofs.Sums.{total_same}
 

@@ -1,17 +1,8 @@
 -- That a table of holds follows each entry, and how many holds one adds at most.
-use Rattle.std.proofs.Common.{◌≡◌, ⊎_elim, ℕ, ◌+◌, ◌<◌, ◌≤◌, Bool, true, false, ◌&&◌, cond, eqb, List, ◌∷◌, length, get_or, set, refl, ap, ◌∙◌, sym, arith}
-use Rattle.std.proofs.lemmas.Bool.{cases_eq, eq-eqb, ne_eqb}
-use Rattle.std.proofs.lemmas.List.{get_or-set_same, get_or-set_other}
-use Rattle.history.specs.declared.entry.Entry.{Entry}
-use Rattle.history.specs.declared.entry.Mode.{Mode}
-use Rattle.history.specs.declared.entry.Word.{Word}
+use Rattle.std.proofs.Common.{◌≡◌, ⊎_elim, ℕ, ◌+◌, ◌<◌, ◌≤◌, Bool, true, false, ◌&&◌, cond, eqb, List, ◌∷◌, length, get_or, set, refl, ap, ◌∙◌, sym, arith, eq-eqb, ne_eqb, get_or-set_same, get_or-set_other}
+use Rattle.std.proofs.lemmas.Bool.{cases_eq}
+use Rattle.deciding.specs.Below.{Entry, Mode, Word, Object, Lock, ReadWrite, Semaphore, Latch, held, holds_after, same_mode, in_holds, Start}
 use Rattle.history.specs.declared.entry.Word.TheVariants as word
-use Rattle.history.specs.declared.header.Object.{Object}
-use Rattle.history.specs.declared.header.Object.TheVariants.{Lock, ReadWrite, Semaphore, Latch}
-use Rattle.history.specs.Counts.{held, holds_after}
-use Rattle.history.specs.Entry.{same_mode}
-use Rattle.history.specs.Object.{in_holds}
-use Rattle.history.specs.Start.{Start}
 use Rattle.deciding.specs.Holds.{most_held}
 
 -- what stands in a table behind a write

@@ -1,13 +1,7 @@
 -- What a step makes, by its fault and by its seat's phase.
 use Rattle.std.proofs.Common.{◌≡◌, ℕ, Bool, true, false, not, cond, List, Option, Some, None, Result, Ok, Err, refl, ap}
-use Rattle.history.specs.declared.entry.Entry.{Entry}
-use Rattle.history.specs.declared.fault.Fault.{Fault}
+use Rattle.deciding.specs.Below.{Entry, Fault, Step, is_wrong_mode, is_no_condition, is_bad_amount, Phase, phase, suits, Start, entry_for, phase_entry}
 use Rattle.history.specs.declared.fault.Fault.TheVariants as fault
-use Rattle.history.specs.declared.step.Step.{Step}
-use Rattle.history.specs.Faults.{is_wrong_mode, is_no_condition, is_bad_amount}
-use Rattle.history.specs.Phase.{Phase, phase, suits}
-use Rattle.history.specs.Start.{Start}
-use Rattle.history.specs.Steps.{entry_for, phase_entry}
 use Rattle.deciding.specs.Checks.{refused_as}
 use Rattle.deciding.specs.inner.Checks.{in_phase}
 

@@ -1,9 +1,7 @@
 -- What the numbers of permits and countdowns mean.
 use Rattle.std.specs.Prelude.{◌≡◌, ◌+◌, ◌*◌, ◌≤◌, List, length, nat_abs, FitsSigned}
 use Rattle.std.specs.Int.{w128}
-use Rattle.history.specs.declared.entry.Entry.{Entry}
-use Rattle.history.specs.Counts.{counted, free}
-use Rattle.history.specs.Start.{Start}
+use Rattle.deciding.specs.Below.{Entry, counted, free, Start}
 use Rattle.deciding.specs.declared.amounts.Amounts.{Amounts}
 
 pub record AreAmounts (s : Start) (h : List Entry) (a : Amounts) : Type 0 where

@@ -1,13 +1,6 @@
 -- An object's totals.
 use Rattle.std.specs.Prelude.{if◌then◌else◌, ◌<◌, ◌^◌, ℕ, List, length, ℤ, pos}
-use Rattle.history.specs.declared.entry.Entry.{Entry}
-use Rattle.history.specs.declared.entry.Mode.{Mode}
-use Rattle.history.specs.declared.entry.Mode.TheVariants.{X, S}
-use Rattle.history.specs.Counts.{count, free, held, total}
-use Rattle.history.specs.Line.{line}
-use Rattle.history.specs.Object.{is_semaphore}
-use Rattle.history.specs.Sleepers.{sleepers}
-use Rattle.history.specs.Start.{Start}
+use Rattle.deciding.specs.Below.{Entry, Mode, X, S, count, free, held, total, line, is_semaphore, sleepers, Start}
 use Rattle.deciding.specs.declared.balance.Balance.{Balance}
 
 -- the free permits of a semaphore, and 0 for any other object

@@ -1,11 +1,6 @@
 -- What a state of an object represents: a history.
 use Rattle.std.specs.Prelude.{◌≡◌, ◌<◌, ℕ, List}
-use Rattle.history.specs.declared.entry.Entry.{Entry}
-use Rattle.history.specs.Base.{Base, based}
-use Rattle.history.specs.GoodBase.{IsGood}
-use Rattle.history.specs.Header.{IsInRange}
-use Rattle.history.specs.Legal.{IsLegal, AreSeated}
-use Rattle.history.specs.Start.{Start}
+use Rattle.deciding.specs.Below.{Entry, Base, based, IsGood, IsInRange, IsLegal, AreSeated, Start}
 
 -- A legal history from a good base. The base of an object as opened is one.
 pub record IsHistory (s : Start) (h : List Entry) : Type 0 where

@@ -1,23 +1,12 @@
 -- That the table of who waits for a first acquire follows each entry, and what it says of who barges.
-use Rattle.std.proofs.Common.{◌≡◌, ℕ, zero, suc, ◌+◌, ◌<◌, ◌≤◌, Bool, true, false, ◌&&◌, not, cond, eqb, ltb, List, [], ◌∷◌, get_or, set, length, map, Option, None, Some, refl, ap, ◌∙◌, sym, arith}
+use Rattle.std.proofs.Common.{◌≡◌, ℕ, zero, suc, ◌+◌, ◌<◌, ◌≤◌, Bool, true, false, ◌&&◌, not, cond, eqb, ltb, List, [], ◌∷◌, get_or, set, length, map, Option, None, Some, refl, ap, ◌∙◌, sym, arith, is_some, eq-eqb, eqb-true, ne_eqb}
 use mir.Val.{bool_byte}
-use Rattle.std.specs.Prelude.{is_some}
-use Rattle.std.proofs.lemmas.Bool.{eq-eqb, eqb-false, eqb-true, ne_eqb}
+use Rattle.std.proofs.lemmas.Bool.{eqb-false}
 use Rattle.deciding.proofs.HoldsFollow.{at_set}
-use Rattle.history.specs.declared.arrival.Arrival.{Arrival}
-use Rattle.history.specs.declared.base.LinePlace.{LinePlace}
-use Rattle.history.specs.declared.entry.Entry.{Entry}
-use Rattle.history.specs.declared.header.Header.{Header}
-use Rattle.history.specs.Base.{Base, based}
-use Rattle.history.specs.Line.{line, place_of}
-use Rattle.history.specs.Start.{Start, opening}
+use Rattle.drawing.specs.Below.{Arrival, LinePlace, Entry, Header, Base, based, line, place_of, Start, opening, is_queued, more, is_passed, takes_anew, asks, begun}
 use Rattle.history.proofs.LineLemmas.{line_at_first}
-use Rattle.summing.specs.Counting.{is_queued, more}
-use Rattle.summing.specs.Passing.{is_passed, takes_anew}
-use Rattle.summing.specs.Waits.{asks, begun}
 use Rattle.drawing.specs.Askers.{askers}
-use Rattle.drawing.specs.Barging.{barges, passes}
-use Rattle.drawing.specs.Levels.{one_if}
+use Rattle.drawing.specs.Prelude.{barges, passes, one_if}
 use Rattle.drawing.specs.inner.Askers.{asks_or, marked, others}
 
 -- what a mark counts

@@ -1,16 +1,10 @@
 -- That the bars of a history are exactly its longest stretches.
-use Rattle.std.proofs.Common.{◌≡◌, ◌≢◌, ◌⊎◌, ◌↔◌, inl, inr, ⊎_elim, ℕ, zero, suc, ◌+◌, ◌-◌, ◌<◌, ◌≤◌, Bool, true, false, cond, eqb, ltb, List, [], ◌∷◌, length, get_or, drop, refl, ap, ◌∙◌, sym, subst, arith}
+use Rattle.std.proofs.Common.{◌≡◌, ◌≢◌, ◌⊎◌, ◌↔◌, inl, inr, ⊎_elim, ℕ, zero, suc, ◌+◌, ◌-◌, ◌<◌, ◌≤◌, Bool, true, false, cond, eqb, ltb, List, [], ◌∷◌, length, get_or, drop, refl, ap, ◌∙◌, sym, subst, arith, eq-eqb, ne_eqb, lt-ltb, le-ltb, ltb-true}
 use Rattle.std.specs.List.{Contains, flat_map}
-use Rattle.std.proofs.lemmas.Bool.{cases_eq, cases_lt, eq-eqb, ne_eqb, eqb-false, lt-ltb, le-ltb, ltb-true}
+use Rattle.std.proofs.lemmas.Bool.{cases_eq, cases_lt, eqb-false}
 use Rattle.std.proofs.lemmas.List.Elements.{Contains-append_left, Contains-append_right, Contains-append_cases}
-use Rattle.history.specs.declared.entry.Entry.{Entry}
-use Rattle.history.specs.Start.{Start}
-use Rattle.drawing.specs.declared.bar.Bar.{Bar}
-use Rattle.drawing.specs.declared.kind.Kind.{Kind}
-use Rattle.drawing.specs.declared.kind.Kind.TheVariants.{Exclusive, Shared, InLine, Asleep}
-use Rattle.drawing.specs.Bars.{bar_at, bars, ended, ended_by, lasting}
-use Rattle.drawing.specs.IsBar.{IsBar, IsKind, level_behind}
-use Rattle.drawing.specs.Levels.{Track, asleep_tracks, level, level_of, track, tracks, tracks_below, tracks_of_seat}
+use Rattle.drawing.specs.Below.{Entry, Start}
+use Rattle.drawing.specs.Prelude.{Bar, Kind, Exclusive, Shared, InLine, Asleep, bar_at, bars, ended, ended_by, lasting, IsBar, IsKind, level_behind, Track, asleep_tracks, level, level_of, track, tracks, tracks_below, tracks_of_seat}
 use Rattle.drawing.proofs.StretchesFollow.{lasting_none}
 
 -- who stands in lists that are joined

@@ -1,19 +1,9 @@
 -- Worked examples of bars, each computed from the definitions.
 use Rattle.std.specs.Prelude.{◌≡◌, ℕ, List, [], ◌∷◌, pos, refl}
-use Rattle.history.specs.declared.entry.Entry.{Entry}
+use Rattle.drawing.specs.Below.{Entry, X, S, Word, Header, Lock, Semaphore, Fair, opening, plain}
 use Rattle.history.specs.declared.entry.End.TheVariants as end
-use Rattle.history.specs.declared.entry.Mode.TheVariants.{X, S}
-use Rattle.history.specs.declared.entry.Word.{Word}
 use Rattle.history.specs.declared.entry.Word.TheVariants as word
-use Rattle.history.specs.declared.header.Header.{Header}
-use Rattle.history.specs.declared.header.Object.TheVariants.{Lock, Semaphore}
-use Rattle.history.specs.declared.header.Policy.TheVariants.{Fair}
-use Rattle.history.specs.Start.{opening}
-use Rattle.history.specs.Steps.{plain}
-use Rattle.drawing.specs.declared.bar.Bar.{Bar}
-use Rattle.drawing.specs.declared.kind.Kind.{Kind}
-use Rattle.drawing.specs.declared.kind.Kind.TheVariants.{Exclusive, Shared, InLine, Asleep}
-use Rattle.drawing.specs.Bars.{bars}
+use Rattle.drawing.specs.Prelude.{Bar, Kind, Exclusive, Shared, InLine, Asleep, bars}
 
 abbrev bar : ℕ → Kind → ℕ → ℕ → ℕ → Bar
 bar i kind first last holds = record { seat = i; kind = kind; first = first; last = last; holds = holds }

@@ -1,12 +1,7 @@
 -- That marks and curve follow each entry.
-use Rattle.std.proofs.Common.{◌≡◌, ℕ, ◌<◌, ◌≤◌, List, ◌∷◌, ◌++◌, length, refl, sym}
-use Rattle.std.proofs.lemmas.Bool.{lt-ltb, le-ltb}
-use Rattle.std.proofs.lemmas.List.{append-nil}
-use Rattle.history.specs.declared.entry.Entry.{Entry}
-use Rattle.history.specs.Start.{Start}
-use Rattle.drawing.specs.Curve.{amount_of, curve, point}
-use Rattle.drawing.specs.Barging.{barges}
-use Rattle.drawing.specs.Marks.{mark_of, marks, sign_at}
+use Rattle.std.proofs.Common.{◌≡◌, ℕ, ◌<◌, ◌≤◌, List, ◌∷◌, ◌++◌, length, refl, sym, lt-ltb, le-ltb, append-nil}
+use Rattle.drawing.specs.Below.{Entry, Start}
+use Rattle.drawing.specs.Prelude.{amount_of, curve, point, barges, mark_of, marks, sign_at}
 
 pub no_mark : (s : Start) (from : ℕ) (e : Entry) (h : List Entry) → length h < from →
     marks s from h ≡ marks s from (e ∷ h)

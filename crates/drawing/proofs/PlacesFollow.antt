@@ -1,25 +1,16 @@
 -- That no stretches change by an entry, except those at its places, and that these places are there.
-use Rattle.std.proofs.Common.{◌≡◌, ◌≢◌, ⊎_elim, ℕ, suc, ◌+◌, ◌*◌, ◌<◌, Bool, true, false, ◌&&◌, cond, eqb, ltb, List, [], ◌∷◌, ◌++◌, length, get_or, refl, ap, ◌∙◌, sym, subst, arith}
+use Rattle.std.proofs.Common.{◌≡◌, ◌≢◌, ⊎_elim, ℕ, suc, ◌+◌, ◌*◌, ◌<◌, Bool, true, false, ◌&&◌, cond, eqb, ltb, List, [], ◌∷◌, ◌++◌, length, get_or, refl, ap, ◌∙◌, sym, subst, arith, eqb-true, lt-ltb, ltb-true, get_or-append-add, length-append}
 use Rattle.std.specs.List.{All, flat_map}
 use Rattle.std.specs.List.Sorted.{IsPermutation}
-use Rattle.std.proofs.lemmas.Bool.{eqb-true, lt-ltb, ltb-true, or_cases}
-use Rattle.std.proofs.lemmas.List.{get_or-append-add, get_or-map, get_or_append_left, get_or_default, length-append, length-map}
+use Rattle.std.proofs.lemmas.Bool.{or_cases}
+use Rattle.std.proofs.lemmas.List.{get_or-map, get_or_append_left, get_or_default, length-map}
 use Rattle.std.proofs.lemmas.List.Elements.{All-append, All-cons, All-nil, All-take}
 use Rattle.std.proofs.lemmas.List.Sorted.{All-permutation, IsPermutation-sym}
 use Rattle.std.proofs.lemmas.Nat.{mul-add-lt}
-use Rattle.history.specs.declared.entry.Entry.{Entry}
-use Rattle.history.specs.declared.entry.Mode.{Mode}
-use Rattle.history.specs.declared.entry.Mode.TheVariants.{X, S}
-use Rattle.history.specs.declared.entry.Word.{Word}
+use Rattle.drawing.specs.Below.{Entry, Mode, X, S, Word, has, sleepers, Start}
 use Rattle.history.specs.declared.entry.Word.TheVariants as word
-use Rattle.history.specs.Sleepers.{has, sleepers}
-use Rattle.history.specs.Start.{Start}
 use Rattle.drawing.specs.declared.bar.Stretch.{Stretch}
-use Rattle.drawing.specs.declared.kind.Kind.{Kind}
-use Rattle.drawing.specs.declared.kind.Kind.TheVariants.{Exclusive, InLine, Asleep}
-use Rattle.drawing.specs.IsBar.{IsKind}
-use Rattle.drawing.specs.Levels.{level, track, tracks}
-use Rattle.drawing.specs.Stretches.{stretch, stretches}
+use Rattle.drawing.specs.Prelude.{Kind, Exclusive, InLine, Asleep, IsKind, level, track, tracks, stretch, stretches}
 use Rattle.drawing.specs.inner.Places.{StayBeside, is_of_waiters, kind_of, kind_place, moved, place, places_by, places_of}
 use Rattle.drawing.specs.inner.Stretches.{level_now}
 use Rattle.drawing.proofs.StretchesFollow.{drawn}

@@ -2,18 +2,13 @@
 use Rattle.std.proofs.Common.{◌≡◌, ℕ, ◌<◌, false, List, [], ◌∷◌, length, map, get_or, refl, ap, ◌∙◌, sym, arith}
 use Rattle.std.specs.List.{All, AllByRecursion}
 use Rattle.std.proofs.lemmas.List.Elements.{All-cons, All-nil}
-use Rattle.history.specs.declared.base.Sleeper.{Sleeper}
-use Rattle.history.specs.declared.base.LinePlace.{LinePlace}
-use Rattle.history.specs.Base.{Base, based, each_below, seat_of, sleepers_of}
-use Rattle.history.specs.GoodBase.{IsGood, SleepsWell}
-use Rattle.history.specs.Line.{place_of}
+use Rattle.drawing.specs.Below.{Sleeper, LinePlace, Base, based, each_below, seat_of, sleepers_of, IsGood, SleepsWell, place_of, is_placed}
 use Rattle.history.proofs.Folding.{get_or-each, length-each}
 use Rattle.history.proofs.LineLemmas.{line_at_first}
 use Rattle.history.proofs.SmallBases.{few_exclusive}
 use Rattle.deciding.proofs.HeldTables.{shared_few}
 use Rattle.drawing.specs.declared.standings.Standings.{Standings}
 use Rattle.drawing.specs.declared.standings.TheConstants.{CONDITIONS}
-use Rattle.history.specs.Marks.{is_placed}
 use Rattle.drawing.specs.Standings.{AreStanding}
 use Rattle.history.specs.inner.BaseSleepers.{sleeping_seats}
 

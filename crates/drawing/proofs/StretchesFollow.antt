@@ -1,15 +1,10 @@
 -- That the stretches and the bars follow each entry.
-use Rattle.std.proofs.Common.{◌≡◌, ⊎_elim, ℕ, ◌+◌, ◌-◌, ◌<◌, ◌≤◌, Bool, true, false, cond, eqb, List, [], ◌∷◌, ◌++◌, length, map, refl, ap, ◌∙◌, sym, arith}
+use Rattle.std.proofs.Common.{◌≡◌, ⊎_elim, ℕ, ◌+◌, ◌-◌, ◌<◌, ◌≤◌, Bool, true, false, cond, eqb, List, [], ◌∷◌, ◌++◌, length, map, refl, ap, ◌∙◌, sym, arith, eq-eqb, ne_eqb, lt-ltb, le-ltb, append-nil}
 use Rattle.std.specs.List.{flat_map}
-use Rattle.std.proofs.lemmas.Bool.{cases_eq, cases_lt, eq-eqb, ne_eqb, lt-ltb, le-ltb}
-use Rattle.std.proofs.lemmas.List.{append-nil}
-use Rattle.history.specs.declared.entry.Entry.{Entry}
-use Rattle.history.specs.Start.{Start}
-use Rattle.drawing.specs.declared.bar.Bar.{Bar}
+use Rattle.std.proofs.lemmas.Bool.{cases_eq, cases_lt}
+use Rattle.drawing.specs.Below.{Entry, Start}
+use Rattle.drawing.specs.Prelude.{Bar, bar_at, ended, ended_by, lasting, Track, level_of, tracks, fresh, stretch, stretches}
 use Rattle.drawing.specs.declared.bar.Stretch.{Stretch}
-use Rattle.drawing.specs.Bars.{bar_at, ended, ended_by, lasting}
-use Rattle.drawing.specs.Levels.{Track, level_of, tracks}
-use Rattle.drawing.specs.Stretches.{fresh, stretch, stretches}
 use Rattle.drawing.specs.inner.Stretches.{bar_of, ending, going_on}
 
 -- how long a level has lasted, after one more entry

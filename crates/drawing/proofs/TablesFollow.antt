@@ -1,22 +1,13 @@
 -- That the tables of holds, of the line and of sleepers follow each entry.
-use Rattle.std.proofs.Common.{◌≡◌, ⊎_elim, ℕ, ◌<◌, Bool, true, false, ◌&&◌, ◌||◌, not, cond, eqb, List, [], ◌∷◌, ◌++◌, length, get_or, set, map, take, Some, None, refl, ap, ◌∙◌, sym}
+use Rattle.std.proofs.Common.{◌≡◌, ⊎_elim, ℕ, ◌<◌, Bool, true, false, ◌&&◌, ◌||◌, not, cond, eqb, List, [], ◌∷◌, ◌++◌, length, get_or, set, map, take, Some, None, refl, ap, ◌∙◌, sym, eq-eqb, ne_eqb, eqb-true}
 use Rattle.std.specs.List.{All, filter, list_any}
 use Rattle.std.proofs.Math.Bool.{and-true, and-false}
-use Rattle.std.proofs.lemmas.Bool.{both_ways, cases_eq, eq-eqb, ne_eqb, eqb-true}
+use Rattle.std.proofs.lemmas.Bool.{both_ways, cases_eq}
 use Rattle.std.proofs.lemmas.List.Elements.{All-push, All-drop, All-nil, All-filter}
-use Rattle.history.specs.declared.arrival.Arrival.{Arrival}
-use Rattle.history.specs.declared.entry.Entry.{Entry}
-use Rattle.history.specs.declared.entry.Mode.{Mode}
-use Rattle.history.specs.declared.entry.Word.{Word}
+use Rattle.drawing.specs.Below.{Arrival, Entry, Mode, Word, held, ends_arrival, same_mode, arrivals_by, coming_back, line, place_of, has, sleepers, sleepers_after, Start, is_placed}
 use Rattle.history.specs.declared.entry.Word.TheVariants as word
-use Rattle.history.specs.Counts.{held}
-use Rattle.history.specs.Entry.{ends_arrival, same_mode}
-use Rattle.history.specs.Line.{arrivals_by, coming_back, line, place_of}
-use Rattle.history.specs.Sleepers.{has, sleepers, sleepers_after}
-use Rattle.history.specs.Start.{Start}
 use Rattle.deciding.proofs.HoldsFollow.{at_set, table_follows}
 use Rattle.history.proofs.LineLemmas.{line_after, stays}
-use Rattle.history.specs.Marks.{is_placed}
 use Rattle.drawing.specs.declared.standings.TheConstants.{CONDITIONS}
 use Rattle.drawing.specs.inner.Tables.{holds_by, line_by, woken}
 

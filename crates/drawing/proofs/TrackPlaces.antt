@@ -1,11 +1,9 @@
 -- Where each track is in the list of all tracks.
-use Rattle.std.proofs.Common.{◌≡◌, ⊎_elim, ℕ, zero, suc, ◌+◌, ◌-◌, ◌*◌, ◌<◌, ◌≤◌, List, [], ◌∷◌, ◌++◌, length, get_or, refl, sym, subst, arith}
+use Rattle.std.proofs.Common.{◌≡◌, ⊎_elim, ℕ, zero, suc, ◌+◌, ◌-◌, ◌*◌, ◌<◌, ◌≤◌, List, [], ◌∷◌, ◌++◌, length, get_or, refl, sym, subst, arith, length-append}
 use Rattle.std.proofs.lemmas.Bool.{cases_lt}
-use Rattle.std.proofs.lemmas.List.{get_or_append_left, get_or-append_right, length-append}
+use Rattle.std.proofs.lemmas.List.{get_or_append_left, get_or-append_right}
 use Rattle.history.specs.declared.header.Header.{Header}
-use Rattle.drawing.specs.declared.kind.Kind.TheVariants.{Asleep}
-use Rattle.drawing.specs.IsBar.{IsKind}
-use Rattle.drawing.specs.Levels.{Track, asleep_tracks, track, tracks, tracks_below, tracks_of_seat}
+use Rattle.drawing.specs.Prelude.{Asleep, IsKind, Track, asleep_tracks, track, tracks, tracks_below, tracks_of_seat}
 use Rattle.drawing.specs.inner.Places.{place}
 
 -- a track at its place, of a kind that there is

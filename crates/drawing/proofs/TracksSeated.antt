@@ -2,13 +2,9 @@
 use Rattle.std.proofs.Common.{◌≡◌, ℕ, zero, suc, ◌<◌, ◌≤◌, Bool, true, false, cond, ltb, List, [], ◌∷◌, length, refl, sym, subst, arith}
 use Rattle.std.specs.List.{All}
 use Rattle.std.proofs.lemmas.List.Elements.{All-append, All-cons, All-map, All-nil, All-push, All-weaker}
-use Rattle.history.specs.declared.entry.Entry.{Entry}
-use Rattle.history.specs.declared.header.Header.{Header}
-use Rattle.history.specs.Start.{Start}
+use Rattle.drawing.specs.Below.{Entry, Header, Start}
 use Rattle.drawing.specs.declared.bar.Stretch.{Stretch}
-use Rattle.drawing.specs.declared.kind.Kind.TheVariants.{Exclusive, Shared, InLine, Asleep}
-use Rattle.drawing.specs.Levels.{Track, asleep_tracks, track, tracks, tracks_below, tracks_of_seat}
-use Rattle.drawing.specs.Stretches.{fresh, stretch, stretches}
+use Rattle.drawing.specs.Prelude.{Exclusive, Shared, InLine, Asleep, Track, asleep_tracks, track, tracks, tracks_below, tracks_of_seat, fresh, stretch, stretches}
 use Rattle.drawing.proofs.StretchesFollow.{some_before}
 
 asleep_seated : (n i c : ℕ) → i < n → All (λ t. t.seat < n) (asleep_tracks i c)

@@ -1,21 +1,10 @@
 -- That an entry leaves all levels as they are, except those at its places.
-use Rattle.std.proofs.Common.{◌≡◌, ◌≢◌, ⊎_elim, ℕ, zero, suc, Bool, true, false, ◌&&◌, ◌||◌, not, cond, eqb, List, [], ◌∷◌, ◌++◌, take, drop, refl, ap, ◌∙◌, sym}
+use Rattle.std.proofs.Common.{◌≡◌, ◌≢◌, ⊎_elim, ℕ, zero, suc, Bool, true, false, ◌&&◌, ◌||◌, not, cond, eqb, List, [], ◌∷◌, ◌++◌, take, drop, refl, ap, ◌∙◌, sym, eqb-true, eq-eqb, ne_eqb}
 use Rattle.std.proofs.Math.Bool.{and-false, or-false}
-use Rattle.std.proofs.lemmas.Bool.{cases_eq, eqb-true, eq-eqb, ne_eqb, or_parts}
-use Rattle.history.specs.declared.entry.Entry.{Entry}
-use Rattle.history.specs.declared.entry.Mode.{Mode}
-use Rattle.history.specs.declared.entry.Mode.TheVariants.{X, S}
-use Rattle.history.specs.declared.entry.Word.{Word}
+use Rattle.std.proofs.lemmas.Bool.{cases_eq, or_parts}
+use Rattle.drawing.specs.Below.{Entry, Mode, X, S, Word, held, holds_after, ends_arrival, same_mode, arrivals_by, line, place_of, is_placed, has, sleepers, sleepers_after, without, Start}
 use Rattle.history.specs.declared.entry.Word.TheVariants as word
-use Rattle.history.specs.Counts.{held, holds_after}
-use Rattle.history.specs.Entry.{ends_arrival, same_mode}
-use Rattle.history.specs.Line.{arrivals_by, line, place_of}
-use Rattle.history.specs.Marks.{is_placed}
-use Rattle.history.specs.Sleepers.{has, sleepers, sleepers_after, without}
-use Rattle.history.specs.Start.{Start}
-use Rattle.drawing.specs.declared.kind.Kind.{Kind}
-use Rattle.drawing.specs.declared.kind.Kind.TheVariants.{Exclusive, Shared, InLine, Asleep}
-use Rattle.drawing.specs.Levels.{level, one_if}
+use Rattle.drawing.specs.Prelude.{Kind, Exclusive, Shared, InLine, Asleep, level, one_if}
 use Rattle.drawing.specs.inner.Places.{is_of_waiters, kind_of, moved}
 use Rattle.drawing.proofs.TablesFollow.{line_is, there-coming_back}
 

@@ -1,7 +1,7 @@
 -- A list that is changed from its front on, and what is gathered on the way.
-use Rattle.std.proofs.Common.{◌≡◌, ℕ, zero, suc, ◌+◌, ◌-◌, ◌<◌, ◌≤◌, ◌||◌, eqb, List, [], ◌∷◌, ◌++◌, length, get_or, set, map, take, drop, refl, ap, ◌∙◌, sym, subst, arith}
+use Rattle.std.proofs.Common.{◌≡◌, ℕ, zero, suc, ◌+◌, ◌-◌, ◌<◌, ◌≤◌, ◌||◌, eqb, List, [], ◌∷◌, ◌++◌, length, get_or, set, map, take, drop, refl, ap, ◌∙◌, sym, subst, arith, append-nil, take_all}
 use Rattle.std.specs.List.{flat_map}
-use Rattle.std.proofs.lemmas.List.{append-nil, drop_all, flat_map_more, get_or_default, set-get_or, take_all, take_more}
+use Rattle.std.proofs.lemmas.List.{drop_all, flat_map_more, get_or_default, set-get_or, take_more}
 use Rattle.std.proofs.lemmas.List.Recursion.{or_push}
 use Rattle.history.specs.Sleepers.{has}
 

@@ -1,9 +1,6 @@
 -- Who waits in the queue for a first acquire.
 use Rattle.std.specs.Prelude.{◌≡◌, ◌<◌, ℕ, zero, suc, false, List, is_some, length, slice_index_or}
-use Rattle.history.specs.declared.entry.Entry.{Entry}
-use Rattle.history.specs.Start.{Start}
-use Rattle.summing.specs.Counting.{more}
-use Rattle.summing.specs.Waits.{begun}
+use Rattle.drawing.specs.Below.{Entry, Start, more, begun}
 use Rattle.drawing.specs.declared.askers.Askers.{Askers}
 
 -- how many of the first n seats wait so after a history

@@ -1,9 +1,6 @@
 -- Acquires that pass a waiter.
 use Rattle.std.specs.Prelude.{ℕ, zero, suc, nat_lt, Bool, List}
-use Rattle.history.specs.declared.entry.Entry.{Entry}
-use Rattle.history.specs.Start.{Start}
-use Rattle.summing.specs.Counting.{more}
-use Rattle.summing.specs.Passing.{is_passed}
+use Rattle.drawing.specs.Below.{Entry, Start, more, is_passed}
 
 -- how many of the first n seats an entry passes, as a summary counts it
 abbrev pub passes : Start → Entry → List Entry → ℕ → ℕ

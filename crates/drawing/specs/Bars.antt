@@ -1,8 +1,7 @@
 -- The bars of a history in the order in which they are drawn: by their last entries, then by seats and kinds.
 use Rattle.std.specs.Prelude.{ℕ, ◌+◌, ◌-◌, ◌==◌, nat_lt, if◌then◌else◌, List, [], ◌∷◌, ◌++◌, length}
 use Rattle.std.specs.List.{flat_map}
-use Rattle.history.specs.declared.entry.Entry.{Entry}
-use Rattle.history.specs.Start.{Start}
+use Rattle.drawing.specs.Below.{Entry, Start}
 use Rattle.drawing.specs.declared.bar.Bar.{Bar}
 use Rattle.drawing.specs.Levels.{Track, level_of, tracks}
 

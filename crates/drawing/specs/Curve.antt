@@ -1,10 +1,6 @@
 -- The curve of free permits, or of a latch's count.
 use Rattle.std.specs.Prelude.{ℕ, nat_lt, if◌then◌else◌, List, [], ◌∷◌, ◌++◌, length, Option, Some, None, ℤ, pos}
-use Rattle.history.specs.declared.entry.Entry.{Entry}
-use Rattle.history.specs.declared.header.Object.{Object}
-use Rattle.history.specs.declared.header.Object.TheVariants.{Lock, ReadWrite, Semaphore, Latch}
-use Rattle.history.specs.Counts.{count, free}
-use Rattle.history.specs.Start.{Start}
+use Rattle.drawing.specs.Below.{Entry, Object, Lock, ReadWrite, Semaphore, Latch, count, free, Start}
 
 -- the number after a history whose curve is drawn; locks have none
 abbrev pub amount_of : Object → Start → List Entry → Option ℤ

@@ -1,8 +1,6 @@
 -- What a drawing knows about the entries so far.
 use Rattle.std.specs.Prelude.{◌≡◌, ◌<◌, ◌+◌, ◌^◌, ℕ, List, length}
-use Rattle.deciding.specs.Amounts.{AreAmounts}
-use Rattle.history.specs.declared.entry.Entry.{Entry}
-use Rattle.history.specs.Start.{Start}
+use Rattle.drawing.specs.Below.{AreAmounts, Entry, Start}
 use Rattle.drawing.specs.declared.drawing.Drawing.{Drawing}
 use Rattle.drawing.specs.Askers.{AreAsking}
 use Rattle.drawing.specs.Bars.{ended}

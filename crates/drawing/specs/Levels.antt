@@ -1,13 +1,6 @@
 -- The state of a seat after a history, as a number for each kind of bar.
 use Rattle.std.specs.Prelude.{ℕ, zero, suc, Bool, if◌then◌else◌, List, [], ◌∷◌, ◌++◌}
-use Rattle.history.specs.declared.entry.Entry.{Entry}
-use Rattle.history.specs.declared.entry.Mode.TheVariants.{X, S}
-use Rattle.history.specs.declared.header.Header.{Header}
-use Rattle.history.specs.Counts.{held}
-use Rattle.history.specs.Line.{line, place_of}
-use Rattle.history.specs.Marks.{is_placed}
-use Rattle.history.specs.Sleepers.{sleepers, has}
-use Rattle.history.specs.Start.{Start}
+use Rattle.drawing.specs.Below.{Entry, X, S, Header, held, line, place_of, is_placed, sleepers, has, Start}
 use Rattle.drawing.specs.declared.kind.Kind.{Kind}
 use Rattle.drawing.specs.declared.kind.Kind.TheVariants.{Exclusive, Shared, InLine, Asleep}
 

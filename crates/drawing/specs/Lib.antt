@@ -1,3 +1,5 @@
+pub mod Prelude
+pub mod Below
 pub mod Levels
 pub mod IsBar
 pub mod Bars

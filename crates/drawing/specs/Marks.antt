@@ -1,11 +1,8 @@
 -- The entries that are marked.
 use Rattle.std.specs.Prelude.{ℕ, Bool, true, false, nat_lt, if◌then◌else◌, List, [], ◌∷◌, ◌++◌, length, Option, Some, None}
-use Rattle.history.specs.declared.entry.Entry.{Entry}
-use Rattle.history.specs.declared.entry.End.{End}
+use Rattle.drawing.specs.Below.{Entry, End, Word, Start}
 use Rattle.history.specs.declared.entry.End.TheVariants as end
-use Rattle.history.specs.declared.entry.Word.{Word}
 use Rattle.history.specs.declared.entry.Word.TheVariants as word
-use Rattle.history.specs.Start.{Start}
 use Rattle.drawing.specs.Barging.{barges}
 use Rattle.drawing.specs.declared.mark.Mark.{Mark}
 use Rattle.drawing.specs.declared.mark.Sign.{Sign}

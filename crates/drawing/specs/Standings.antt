@@ -1,17 +1,9 @@
 -- What the tables of holds, of the queue and of waiters represent.
 use Rattle.std.specs.Prelude.{◌≡◌, ℕ, ◌<◌, ◌≤◌, false, List, [], length, slice_index, slice_index_or}
 use Rattle.std.specs.List.{All}
-use Rattle.deciding.specs.Holds.{most_held}
-use Rattle.history.specs.declared.entry.Entry.{Entry}
-use Rattle.history.specs.declared.entry.Mode.TheVariants.{X, S}
-use Rattle.history.specs.declared.limits.TheConstants.{MOST_BASE_PERMITS}
-use Rattle.history.specs.Counts.{held}
-use Rattle.history.specs.Line.{line, place_of}
-use Rattle.history.specs.Sleepers.{sleepers}
-use Rattle.history.specs.Start.{Start}
+use Rattle.drawing.specs.Below.{most_held, Entry, X, S, MOST_BASE_PERMITS, held, line, place_of, sleepers, Start, is_placed}
 use Rattle.drawing.specs.declared.standings.Standings.{Standings}
 use Rattle.drawing.specs.declared.standings.TheConstants.{CONDITIONS}
-use Rattle.history.specs.Marks.{is_placed}
 
 pub record AreStanding (s : Start) (h : List Entry) (a : Standings) : Type 0 where
   pub exclusive_seats : length a.exclusive.items ≡ s.header.seats

@@ -1,7 +1,6 @@
 -- The stretches that a drawing keeps, one for each track, and how an entry changes them.
 use Rattle.std.specs.Prelude.{ℕ, ◌-◌, nat_lt, if◌then◌else◌, List, length, map}
-use Rattle.history.specs.declared.entry.Entry.{Entry}
-use Rattle.history.specs.Start.{Start}
+use Rattle.drawing.specs.Below.{Entry, Start}
 use Rattle.drawing.specs.declared.bar.Stretch.{Stretch}
 use Rattle.drawing.specs.Levels.{Track, level_of, tracks}
 use Rattle.drawing.specs.Bars.{lasting}

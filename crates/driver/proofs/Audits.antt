@@ -1,16 +1,7 @@
 -- What is written for a history that was judged.
-use Rattle.std.proofs.Common.{◌≡◌, ℕ, List, Option, None, Some, Result, IfSome, reverse, subst, sym}
-use Rattle.std.specs.Prelude.{IfErr, IsErrOf}
-use Rattle.history.specs.declared.entry.Entry.{Entry}
-use Rattle.history.specs.Base.{Base, based}
-use Rattle.history_text.specs.HistoryText.{IsHistoryText, history_form}
-use Rattle.audit.specs.declared.verdict.Judgement.{Judgement}
-use Rattle.audit.specs.declared.verdict.Verdict.{Verdict}
-use Rattle.audit.specs.Verdict.{IsJudgement, verdict_of}
-use Rattle.streams.specs.declared.stream_fault.StreamFault.{StreamFault}
-use Rattle.streams.specs.declared.stream_fault.StreamFault.TheVariants.{WriteFailed}
-use Rattle.driver.specs.TextReader.{IsFaultOf}
-use Rattle.driver.specs.AuditStream.{IsToldOf}
+use Rattle.std.proofs.Common.{◌≡◌, ℕ, List, Option, None, Some, Result, IfSome, reverse, subst, sym, IfErr, IsErrOf}
+use Rattle.driver.specs.Below.{Entry, Base, based, IsHistoryText, history_form, Judgement, Verdict, IsJudgement, verdict_of, StreamFault, WriteFailed}
+use Rattle.driver.specs.Prelude.{IsFaultOf, IsToldOf}
 use Rattle.driver.proofs.Judging.{verdict_is}
 
 -- this is the text for its verdict

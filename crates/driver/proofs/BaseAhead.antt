@@ -1,40 +1,14 @@
 -- The lines of a base ahead of a reader's window.
-use Rattle.std.proofs.Common.{◌≡◌, inl, inr, ◌⊎◌, ℕ, ◌-◌, ◌≤◌, true, List, [], ◌∷◌}
-use Rattle.std.proofs.Common.{◌++◌, length, map, drop, Option, None, Some, Ok, Err}
-use Rattle.std.proofs.Common.{IfSome, refl, sym, ap, subst, ◌∙◌, arith, append_assoc}
+use Rattle.std.proofs.Common.{◌≡◌, inl, inr, ◌⊎◌, ℕ, ◌-◌, ◌≤◌, true, List, [], ◌∷◌, ◌++◌, length, map, drop, Option, None, Some, Ok, Err, IfSome, refl, sym, ap, subst, ◌∙◌, arith, append_assoc}
 use Rattle.std.specs.Io.KnownBytes.{Keeps, IsAtEnd, prepend_known}
-use Rattle.history.specs.declared.header.Header.{Header}
-use Rattle.history.specs.Base.{Base, based, opening_base}
-use Rattle.history.specs.Entries.{or_opening}
-use Rattle.history.specs.declared.limits.TheConstants.{MOST_FOLDED}
-use Rattle.history.specs.GoodBase.{IsBaseOf, IsGood}
-use Rattle.history.specs.Start.{Start}
-use Rattle.history.specs.Text.{ended}
+use Rattle.driver.specs.Below.{Header, Base, based, opening_base, or_opening, MOST_FOLDED, IsBaseOf, IsGood, Start, ended, TextFault, CutShort, Begins, MOST_LINES, BaseLine, Head, Place, base_line, base_lines, head_of, history_form, AreEntriesRead, HasShortLine, IsBaseLineNext, IsBaseLineTaken, LacksBaseLine, LinesRead, Based, Line, GoodBeginsSo, IsToldBase, StreamFault, Text, Memory, IsOfReading, IsTooLong, StaysAhead}
 use Rattle.history.proofs.OpeningBase.{based_opening}
-use Rattle.line_text.specs.declared.fault.TextFault.{TextFault}
-use Rattle.line_text.specs.declared.fault.TextFault.TheVariants.{CutShort}
-use Rattle.line_text.specs.Reading.{Begins}
 use Rattle.line_text.proofs.OneReading.{lacks, same_lines}
 use Rattle.line_text.proofs.UnderWay.{last_bytes}
-use Rattle.history_text.specs.declared.base_under_way.TheConstants.{MOST_LINES}
-use Rattle.history_text.specs.declared.base_line.BaseLine.{BaseLine}
-use Rattle.history_text.specs.declared.place.Head.{Head}
-use Rattle.history_text.specs.declared.place.Place.{Place}
-use Rattle.history_text.specs.BaseLines.{base_line, base_lines}
-use Rattle.history_text.specs.HistoryLines.{head_of}
-use Rattle.history_text.specs.HistoryText.{history_form}
-use Rattle.history_text.specs.NextLine.{AreEntriesRead, HasShortLine, IsBaseLineNext}
-use Rattle.history_text.specs.NextLine.{IsBaseLineTaken, LacksBaseLine, LinesRead}
-use Rattle.history_text.specs.TextLines.{Based, Line}
-use Rattle.history_text.specs.ToldBases.{GoodBeginsSo, IsToldBase}
 use Rattle.history_text.proofs.BaseTextRead.{line_begins, place_behind, whole_begins}
 use Rattle.history_text.proofs.HeadWritten.{sum_calls}
 use Rattle.history_text.proofs.HistoryLawful.{lawful}
 use Rattle.history_text.proofs.ShortEntries.{short}
-use Rattle.streams.specs.declared.stream_fault.StreamFault.{StreamFault}
-use Rattle.streams.specs.declared.stream_fault.StreamFault.TheVariants.{Text, Memory}
-use Rattle.streams.specs.ReadingOn.{IsOfReading, IsTooLong}
-use Rattle.streams.specs.Window.{StaysAhead}
 use Rattle.driver.specs.BaseReader.{EntriesBehind, IsPlacedBehind}
 use Rattle.driver.specs.inner.BaseReader.{HeadRead, IsLineTaken, AreLinesRead, lines_known}
 use Rattle.driver.proofs.ReadingAhead.{all_kept, fault_ahead, header_ahead, header_kept, kept, left_of, reading_fault}

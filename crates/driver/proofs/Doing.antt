@@ -1,30 +1,14 @@
 -- Acts of a core, one after another, and what is kept of them.
-use Rattle.std.proofs.Common.{◌≡◌, inr, ⊎_elim, ℕ, ◌+◌, ◌≤◌, false, ltb, List, [], ◌++◌, All}
-use Rattle.std.proofs.Common.{length, reverse, Result, Ok, Err, refl, ap, sym, subst, ◌∙◌, arith, append-nil}
-use Rattle.std.proofs.lemmas.Bool.{lt-ltb, le-ltb, cases_lt}
-use Rattle.std.proofs.lemmas.List.{drop_at, length-append, length-reverse, reverse-append, reverse-reverse}
+use Rattle.std.proofs.Common.{◌≡◌, inr, ⊎_elim, ℕ, ◌+◌, ◌≤◌, false, ltb, List, [], ◌++◌, All, length, reverse, Result, Ok, Err, refl, ap, sym, subst, ◌∙◌, arith, append-nil, lt-ltb, le-ltb, drop_at, length-append}
+use Rattle.std.proofs.lemmas.Bool.{cases_lt}
+use Rattle.std.proofs.lemmas.List.{length-reverse, reverse-append, reverse-reverse}
 use Rattle.std.proofs.lemmas.List.Elements.{All-append, All-drop, All-from_recursion}
-use Rattle.frame.specs.declared.acts.Act.{Act}
-use Rattle.frame.specs.declared.acts.Act.TheVariants.{Do, Trim}
-use Rattle.frame.specs.Acts.{IsOfSeats}
-use Rattle.frame.specs.Core.{CoreView, IsTrimmed}
-use Rattle.history.specs.declared.entry.Entry.{Entry}
-use Rattle.history.specs.declared.fault.Fault.{Fault}
-use Rattle.history.specs.declared.header.Header.{Header}
-use Rattle.history.specs.Base.{Base, based, folded}
-use Rattle.history.specs.Entries.{ended_calls}
-use Rattle.history.specs.EntryWords.{IsSpelt}
-use Rattle.history.specs.declared.limits.TheConstants.{MOST_FOLDED}
-use Rattle.history.specs.GoodBase.{IsBaseOf}
-use Rattle.history.specs.Legal.{calls}
-use Rattle.history.specs.Point.{CanFold}
+use Rattle.driver.specs.Below.{Act, Do, Trim, IsOfSeats, CoreView, IsTrimmed, Entry, Fault, Header, Base, based, folded, ended_calls, IsSpelt, MOST_FOLDED, IsBaseOf, calls, CanFold, StepsHeader, IsAct}
 use Rattle.history.proofs.Folding.{fold_alike}
 use Rattle.history.proofs.GoodBases.{good_waits}
 use Rattle.history.proofs.Lists.{calls-ended, ended_append, ended_calls-reverse}
 use Rattle.history_text.proofs.Lists.{each-reverse}
 use Rattle.history_text.proofs.Spelt.{all_spelt_on}
-use Rattle.steps.specs.declared.header.StepsHeader.{StepsHeader}
-use Rattle.steps.specs.StepLines.{IsAct}
 use Rattle.driver.specs.Answers.{AreFolded}
 use Rattle.driver.specs.inner.Logged.{gone}
 use Rattle.driver.proofs.ReplayUnderWay.{IsTrimOf, base_after, list_after}

@@ -1,50 +1,18 @@
 -- The acts of a text are done as their lines are read.
-use Rattle.std.proofs.Common.{◌≡◌, ℕ, ◌+◌, ◌≤◌, List, [], ◌∷◌, ◌++◌, All, length, reverse, Option}
-use Rattle.std.proofs.Common.{None, Some, Result, Ok, Err, IfSome, refl, subst, sym, ap, ◌∙◌, arith}
-use Rattle.std.proofs.lemmas.List.{length-append, length-reverse}
+use Rattle.std.proofs.Common.{◌≡◌, ℕ, ◌+◌, ◌≤◌, List, [], ◌∷◌, ◌++◌, All, length, reverse, Option, None, Some, Result, Ok, Err, IfSome, refl, subst, sym, ap, ◌∙◌, arith, length-append}
+use Rattle.std.proofs.lemmas.List.{length-reverse}
 use Rattle.std.proofs.lemmas.List.Elements.{All-nil}
-use Rattle.frame.specs.declared.acts.Act.{Act}
-use Rattle.frame.specs.declared.acts.Act.TheVariants.{Do, Trim}
-use Rattle.frame.specs.Core.{CoreView}
-use Rattle.history.specs.declared.entry.Entry.{Entry}
-use Rattle.history.specs.declared.fault.Fault.{Fault}
-use Rattle.history.specs.declared.step.Answer.{Answer}
-use Rattle.history.specs.declared.step.Answer.TheVariants.{Recorded, Sleep}
-use Rattle.history.specs.declared.step.Step.{Step}
-use Rattle.history.specs.Answers.{answer}
-use Rattle.history.specs.Base.{Base, based, opening_base}
-use Rattle.history.specs.Entries.{ended_calls}
-use Rattle.history.specs.EntryWords.{IsSpelt}
-use Rattle.history.specs.Legal.{calls}
-use Rattle.history.specs.Fold.{MayFold}
-use Rattle.history.specs.Point.{CanFold}
-use Rattle.history.specs.Start.{Start}
-use Rattle.history.specs.Text.{ended}
+use Rattle.driver.specs.Below.{Act, Do, Trim, CoreView, Entry, Fault, Answer, Recorded, Sleep, Step, answer, Base, based, opening_base, ended_calls, IsSpelt, calls, MayFold, CanFold, Start, ended, counts_line, history_text, IsText, StepsHeader, steps_form}
 use Rattle.history.proofs.Lists.{calls-ended, ended_append, ended_calls-reverse}
 use Rattle.history.proofs.OpeningBase.{based_opening}
-use Rattle.history_text.specs.EntryLines.{counts_line}
-use Rattle.history_text.specs.Pieces.{history_text}
-use Rattle.line_text.specs.Reading.{IsText}
-use Rattle.steps.specs.declared.header.StepsHeader.{StepsHeader}
-use Rattle.steps.specs.StepsText.{steps_form}
-use Rattle.driver.specs.declared.form.Form.{Form}
-use Rattle.driver.specs.declared.form.Form.TheVariants.{Replay, History}
-use Rattle.driver.specs.declared.remark.Remark.{Remark}
-use Rattle.driver.specs.Answers.{AllAnswers, answers_text}
+use Rattle.driver.specs.Prelude.{Form, Replay, History, Remark, AllAnswers, answers_text, remark_of, told_lines, trim_remark, AreAnswersBehind, IsLawful, answer_text, answer_line, behind_acts, done_lines, entries_of, header_line, trim_line, Progress, IsNext}
 use Rattle.driver.specs.inner.Logged.{IsLogged, IsRemarked, Logged, gone}
-use Rattle.driver.specs.Remarks.{remark_of, told_lines, trim_remark}
-use Rattle.driver.specs.ReplayStream.{AreAnswersBehind, IsLawful, answer_text}
 use Rattle.driver.specs.inner.ReplayStream.{IsAnswerTo}
-use Rattle.driver.specs.ReplayText.{answer_line, behind_acts, done_lines, entries_of, header_line, trim_line}
-use Rattle.driver.specs.TextReader.{Progress, IsNext}
 use Rattle.driver.proofs.ReadingAhead.{ReadOn}
 use Rattle.driver.proofs.WrittenAnswers.{replayed}
-use Rattle.driver.proofs.Doing.{all_counted, all_in_order, all_stay, folded_calls}
-use Rattle.driver.proofs.Doing.{folded_counted, has_trimmed, spelt_more}
-use Rattle.driver.proofs.Remarking.{Remarked, added_count, added_is, remarked_all}
-use Rattle.driver.proofs.Remarking.{remarked_none, remarked_on, remarked_trim}
-use Rattle.driver.proofs.ReplayUnderWay.{IsTrimOf, PlayedSoFar, answered, base_all, base_after}
-use Rattle.driver.proofs.ReplayUnderWay.{entries_all, list_after, played_all, played_step, played_none, played_trim}
+use Rattle.driver.proofs.Doing.{all_counted, all_in_order, all_stay, folded_calls, folded_counted, has_trimmed, spelt_more}
+use Rattle.driver.proofs.Remarking.{Remarked, added_count, added_is, remarked_all, remarked_none, remarked_on, remarked_trim}
+use Rattle.driver.proofs.ReplayUnderWay.{IsTrimOf, PlayedSoFar, answered, base_all, base_after, entries_all, list_after, played_all, played_step, played_none, played_trim}
 
 -- These acts were read. The entries that were folded, the oldest first, and the list after them, with these
 -- remarks, have all their answers.

@@ -1,16 +1,10 @@
 -- What a stream leaves that doesn't answer its text.
-use Rattle.std.proofs.Common.{◌≡◌, inl, inr, ◌⊎◌, ℕ, List, [], Option, Result, Ok, Err, IfSome, refl, sym, subst}
+use Rattle.std.proofs.Common.{◌≡◌, inl, inr, ◌⊎◌, ℕ, List, [], Option, Result, Ok, Err, IfSome, refl, sym, subst, OnOk}
 use Rattle.std.proofs.KnownBytes.{Keeps-refl}
-use Rattle.std.specs.Prelude.{OnOk}
 use Rattle.std.specs.Result.{IfErr}
 use Rattle.std.specs.Io.KnownBytes.{IsAtEnd}
-use Rattle.line_text.specs.Form.{Form}
-use Rattle.streams.specs.declared.stream_fault.StreamFault.{StreamFault}
-use Rattle.streams.specs.declared.stream_fault.StreamFault.TheVariants.{Text, ReadFailed, WriteFailed, Memory}
-use Rattle.streams.specs.Streams.{IsReadNoFurther, IsReadOut, IsReadTo, Streams}
-use Rattle.streams.specs.ReadingOn.{IsOfReading, IsToldFor, IsTooLong}
-use Rattle.driver.specs.Answers.{Writes}
-use Rattle.driver.specs.TextReader.{IsFaultOf, IsPartLeft, Progress, WereRead}
+use Rattle.driver.specs.Below.{Form, StreamFault, Text, ReadFailed, WriteFailed, Memory, IsReadNoFurther, IsReadOut, IsReadTo, Streams, IsOfReading, IsToldFor, IsTooLong}
+use Rattle.driver.specs.Prelude.{Writes, IsFaultOf, IsPartLeft, Progress, WereRead}
 use Rattle.driver.specs.inner.TextReader.{IsFaultBehind}
 use Rattle.driver.proofs.ReadingAhead.{too_long}
 

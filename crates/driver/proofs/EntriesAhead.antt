@@ -1,47 +1,19 @@
 -- The entries of a history text ahead of a reader's window.
-use Rattle.std.proofs.Common.{◌≡◌, ℕ, ◌+◌, ◌-◌, ◌<◌, ◌≤◌, ◌^◌, List, [], ◌∷◌, ◌++◌}
-use Rattle.std.proofs.Common.{length, drop, Option, None, Some, Result, Ok, Err, IfSome}
-use Rattle.std.proofs.Common.{refl, sym, ap, subst, ◌∙◌, arith, append_assoc, append-nil}
-use Rattle.std.proofs.lemmas.List.{length-append}
+use Rattle.std.proofs.Common.{◌≡◌, ℕ, ◌+◌, ◌-◌, ◌<◌, ◌≤◌, ◌^◌, List, [], ◌∷◌, ◌++◌, length, drop, Option, None, Some, Result, Ok, Err, IfSome, refl, sym, ap, subst, ◌∙◌, arith, append_assoc, append-nil, length-append}
 use Rattle.std.specs.Io.KnownBytes.{Keeps, IsAtEnd, prepend_known}
-use Rattle.history.specs.declared.entry.Entry.{Entry}
-use Rattle.history.specs.declared.header.Header.{Header}
-use Rattle.history.specs.Base.{Base}
-use Rattle.history.specs.declared.limits.TheConstants.{MOST_FOLDED}
-use Rattle.history.specs.Header.{IsInRange}
-use Rattle.history.specs.Text.{ended}
-use Rattle.line_text.specs.declared.limits.TheConstants.{LINE_BYTES}
-use Rattle.line_text.specs.declared.fault.TextFault.{TextFault}
-use Rattle.line_text.specs.declared.fault.TextFault.TheVariants.{BadLine, CutShort}
-use Rattle.line_text.specs.Reading.{Begins, IsText}
-use Rattle.line_text.specs.UnderWay.{AreRead, SoFar}
+use Rattle.driver.specs.Below.{Entry, Header, Base, MOST_FOLDED, IsInRange, ended, LINE_BYTES, TextFault, BadLine, CutShort, Begins, IsText, AreRead, SoFar, BaseLine, Head, Place, IsBaseLine, base_line, entry_line, head_of, IsHistoryText, history_form, AreEntriesRead, IsEntryBehind, LacksBaseLine, behind, Line, lines_on, StreamFault, Text, ReadFailed, WriteFailed, Memory, IsReadNoFurther, IsOfReading, IsTooLong, StaysAhead, room}
 use Rattle.line_text.proofs.Growing.{broken}
 use Rattle.line_text.proofs.LongLines.{uncut}
 use Rattle.line_text.proofs.UnderWay.{last_bytes}
-use Rattle.history_text.specs.declared.base_line.BaseLine.{BaseLine}
-use Rattle.history_text.specs.declared.place.Head.{Head}
-use Rattle.history_text.specs.declared.place.Place.{Place}
-use Rattle.history_text.specs.BaseLineLimits.{IsBaseLine}
-use Rattle.history_text.specs.BaseLines.{base_line}
-use Rattle.history_text.specs.EntryLines.{entry_line}
-use Rattle.history_text.specs.HistoryLines.{head_of}
-use Rattle.history_text.specs.HistoryText.{IsHistoryText, history_form}
-use Rattle.history_text.specs.NextLine.{AreEntriesRead, IsEntryBehind, LacksBaseLine, behind}
-use Rattle.history_text.specs.TextLines.{Line, lines_on}
 use Rattle.history_text.proofs.BaseLineLemmas.{base_short}
 use Rattle.history_text.proofs.EntriesRead.{read_all, read_one}
 use Rattle.history_text.proofs.HistoryItems.{length-on}
 use Rattle.history_text.proofs.HistoryLawful.{lawful}
 use Rattle.history_text.proofs.ShortEntries.{entry_short, short, waiting_short}
-use Rattle.streams.specs.declared.stream_fault.StreamFault.{StreamFault}
-use Rattle.streams.specs.declared.stream_fault.StreamFault.TheVariants.{Text, ReadFailed, WriteFailed, Memory}
-use Rattle.streams.specs.Streams.{IsReadNoFurther}
-use Rattle.streams.specs.ReadingOn.{IsOfReading, IsTooLong}
-use Rattle.streams.specs.Window.{IsAhead, StaysAhead, room}
+use Rattle.streams.specs.Window.{IsAhead}
 use Rattle.driver.specs.BaseReader.{EntriesBehind}
 use Rattle.driver.specs.inner.BaseReader.{AreLinesRead, lines_known}
-use Rattle.driver.specs.HistoryReader.{EntriesHeld, EntriesRead, IsEntryNext, base_held}
-use Rattle.driver.specs.TextReader.{IsFaultOf, reader_at}
+use Rattle.driver.specs.Prelude.{EntriesHeld, EntriesRead, IsEntryNext, base_held, IsFaultOf, reader_at}
 use Rattle.driver.specs.inner.TextReader.{IsAfterEnd}
 use Rattle.driver.proofs.ReadingAhead.{all_kept, ended_here, fault_ahead, left_of, no_further, reading_fault}
 

@@ -1,23 +1,10 @@
 -- The lines of entries, one after another.
-use Rattle.std.proofs.Common.{◌≡◌, ℕ, ◌+◌, List, [], ◌∷◌, ◌++◌, length, sym, ap}
-use Rattle.std.proofs.Common.{◌∙◌, arith, append_assoc, reverse, codes, nat_lt}
+use Rattle.std.proofs.Common.{◌≡◌, ℕ, ◌+◌, List, [], ◌∷◌, ◌++◌, length, sym, ap, ◌∙◌, arith, append_assoc, reverse, codes, nat_lt}
 use Rattle.std.proofs.lemmas.List.{length-reverse}
-use Rattle.history.specs.declared.entry.Entry.{Entry}
-use Rattle.history.specs.declared.header.Header.{Header}
-use Rattle.history.specs.Base.{Base, based}
-use Rattle.history.specs.Entries.{ended_calls}
-use Rattle.history.specs.Legal.{calls}
-use Rattle.history.specs.Spelling.{part_of}
-use Rattle.history.specs.Text.{ended}
+use Rattle.driver.specs.Below.{Entry, Header, Base, based, ended_calls, calls, part_of, ended, BaseLine, counts_line, entry_line, head_line, head_of, entry_lines, history_text, lines_text as base_text}
 use Rattle.history.proofs.Lists.{calls-ended, ended_calls-reverse}
-use Rattle.history_text.specs.declared.base_line.BaseLine.{BaseLine}
-use Rattle.history_text.specs.EntryLines.{counts_line, entry_line}
-use Rattle.history_text.specs.HistoryLines.{head_line, head_of}
-use Rattle.history_text.specs.Pieces.{entry_lines, history_text, lines_text as base_text}
 use Rattle.history_text.proofs.HistoryItems.{told_none}
-use Rattle.driver.specs.declared.form.Form.TheVariants.{History}
-use Rattle.driver.specs.Answers.{AllAnswers, AreFolded, first_line, lines_text}
-use Rattle.driver.specs.Remarks.{told_lines}
+use Rattle.driver.specs.Prelude.{History, AllAnswers, AreFolded, first_line, lines_text, told_lines}
 
 pub entry_lines-append : (k : ℕ) (xs ys : List Entry) →
     entry_lines k (xs ++ ys) ≡ entry_lines k xs ++ entry_lines (k + length xs) ys

@@ -1,31 +1,16 @@
 -- The place in a history that is explained, and the entries before it.
-use Rattle.std.proofs.Common.{◌≡◌, ℕ, zero, suc, ◌+◌, ◌-◌, ◌<◌, ◌≤◌, ◌^◌, true, ltb-true, arith, List, [], ◌∷◌, ◌++◌, length, take, drop, reverse, Option, None, Some, Result, Ok, Err, IfSome, refl, ap, ◌∙◌, sym, subst, lit<}
+use Rattle.std.proofs.Common.{◌≡◌, ℕ, zero, suc, ◌+◌, ◌-◌, ◌<◌, ◌≤◌, ◌^◌, true, ltb-true, arith, List, [], ◌∷◌, ◌++◌, length, take, drop, reverse, Option, None, Some, Result, Ok, Err, IfSome, refl, ap, ◌∙◌, sym, subst, lit<, Bool, IfOk, IsSomeAnd, if◌then◌else◌, drop_at, get_or-take, length-drop, length-take, take-append-drop, take-take}
 use Rattle.std.specs.List.{All, AllByRecursion, slice_get}
-use Rattle.std.specs.Prelude.{Bool, IfOk, IsSomeAnd, if◌then◌else◌}
-use Rattle.std.proofs.lemmas.List.{drop_at, get_or-take, length-drop, length-reverse, length-take, reverse-append, reverse-reverse, take-append-drop, take-take}
+use Rattle.std.proofs.lemmas.List.{length-reverse, reverse-append, reverse-reverse}
 use Rattle.std.proofs.lemmas.Option.{get_or_from_slice_get, slice_get_within}
-use Rattle.audit.specs.declared.verdict.Judgement.{Judgement}
+use Rattle.driver.specs.Below.{Judgement, Verdict, IsNext, IsJudgement, front, verdict_of, Entry, Base, based, folded, IsGood, IsInRange, AreSeated, IsLegal, CanFold, Start, unfolded_text, fits_fold}
 use Rattle.audit.specs.declared.verdict.Judgement.TheVariants.{Legal, NotLegal}
-use Rattle.audit.specs.declared.verdict.Verdict.{Verdict}
-use Rattle.audit.specs.Ledger.{IsNext}
-use Rattle.audit.specs.Verdict.{IsJudgement, front, verdict_of}
 use Rattle.audit.proofs.Fronts.{front_next}
-use Rattle.history.specs.declared.entry.Entry.{Entry}
-use Rattle.history.specs.Base.{Base, based, folded}
-use Rattle.history.specs.GoodBase.{IsGood}
-use Rattle.history.specs.Header.{IsInRange}
-use Rattle.history.specs.Legal.{AreSeated, IsLegal}
-use Rattle.history.specs.Point.{CanFold}
-use Rattle.history.specs.Start.{Start}
 use Rattle.history.proofs.Alike.{entry_alike}
 use Rattle.history.proofs.Folding.{goes_on}
 use Rattle.history_text.proofs.Lists.{each-reverse}
-use Rattle.explain_text.specs.Document.{unfolded_text}
-use Rattle.explaining.specs.State.{fits_fold}
-use Rattle.driver.specs.AuditText.{before_wrong}
-use Rattle.driver.specs.DrawStream.{wrong_of}
+use Rattle.driver.specs.Prelude.{before_wrong, wrong_of, is_legal_at, legal_count, place_before, text_after, text_of}
 use Rattle.driver.specs.inner.ExplainStream.{IsLegalNext, IsNextOf, kept_for}
-use Rattle.driver.specs.ExplainStream.{is_legal_at, legal_count, place_before, text_after, text_of}
 
 -- a front of legal entries
 pub legal_drop : (s : Start) (n : ℕ) (h : List Entry) → IsLegal s h → IsLegal s (drop n h)

@@ -1,15 +1,13 @@
 -- Bytes are gathered, and written in pieces.
-use Rattle.std.proofs.Common.{◌≡◌, ◌⊎◌, inl, inr, ℕ, ◌+◌, ◌<◌, ◌≤◌, List, [], ◌++◌, length, take, take_all}
-use Rattle.std.proofs.Common.{Option, Result, Ok, Err, sym, ap, ◌∙◌, arith, append_assoc, append-nil, subst}
+use Rattle.std.proofs.Common.{◌≡◌, ◌⊎◌, inl, inr, ℕ, ◌+◌, ◌<◌, ◌≤◌, List, [], ◌++◌, length, take, take_all, Option, Result, Ok, Err, sym, ap, ◌∙◌, arith, append_assoc, append-nil, subst}
 use Rattle.std.proofs.Math.Seq.{take-append-add, take-append_seam}
 use Rattle.std.proofs.lemmas.Bool.{cases_lt, false≢true}
 use Rattle.std.proofs.lemmas.List.{take-append-le}
 use Rattle.std.proofs.KnownBytes.{Appends-trans}
 use Rattle.std.specs.Io.KnownBytes.{Appends}
 use Rattle.std.specs.Result.{IsErr, OnErr, OnOk}
-use Rattle.streams.specs.declared.source.DeviceFailed.{DeviceFailed}
+use Rattle.driver.specs.Below.{DeviceFailed, AppendsFront}
 use Rattle.driver.specs.LineWriter.{Gathers, IsGathered}
-use Rattle.streams.specs.Writing.{AppendsFront}
 
 -- a front of some bytes is a front of those and more
 front_by : (a b : Option (List ℕ)) (bytes more : List ℕ) (n : ℕ) → (n < length bytes) ⊎ (length bytes ≤ n) →

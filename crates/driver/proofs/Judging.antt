@@ -1,29 +1,14 @@
 -- The entries of a text are judged, and the first of them kept, as their lines are read.
-use Rattle.std.proofs.Common.{◌≡◌, ℕ, ◌+◌, ◌-◌, ◌<◌, ◌≤◌, ◌^◌, Bool, true, false, List, [], ◌∷◌, ◌++◌, length}
-use Rattle.std.proofs.Common.{reverse, take, Option, None, Some, Ok, IfSome, refl, sym, ap, ◌∙◌, arith, subst}
-use Rattle.std.proofs.lemmas.Bool.{ltb-true, ltb-false}
-use Rattle.std.proofs.lemmas.List.{length-append, length-reverse, reverse-append, take_all, take-append-le}
+use Rattle.std.proofs.Common.{◌≡◌, ℕ, ◌+◌, ◌-◌, ◌<◌, ◌≤◌, ◌^◌, Bool, true, false, List, [], ◌∷◌, ◌++◌, length, reverse, take, Option, None, Some, Ok, IfSome, refl, sym, ap, ◌∙◌, arith, subst, ltb-true, ltb-false, length-append, take_all, nat_lt, if◌then◌else◌}
+use Rattle.std.proofs.lemmas.List.{length-reverse, reverse-append, take-append-le}
 use Rattle.std.proofs.lemmas.List.Elements.{All-push}
-use Rattle.std.specs.Prelude.{nat_lt, if◌then◌else◌}
 use Rattle.std.specs.List.{All}
 use Rattle.audit.specs.declared.auditor.Auditor.{Auditor}
-use Rattle.audit.specs.declared.verdict.Judgement.{Judgement}
+use Rattle.driver.specs.Below.{Judgement, HasJudged, IsJudgement, verdict_of, Entry, Header, Base, based, IsBasedWell, or_opening, ends_call, IsInRange, calls, Start, IsHistoryText}
 use Rattle.audit.specs.declared.verdict.Judgement.TheVariants.{Legal, NotLegal}
-use Rattle.audit.specs.Auditor.{HasJudged}
 use Rattle.audit.proofs.Beginnings.{header_from}
-use Rattle.audit.specs.Verdict.{IsJudgement, verdict_of}
-use Rattle.history.specs.declared.entry.Entry.{Entry}
-use Rattle.history.specs.declared.header.Header.{Header}
-use Rattle.history.specs.Base.{Base, based}
-use Rattle.history.specs.Entries.{IsBasedWell, or_opening}
-use Rattle.history.specs.Entry.{ends_call}
-use Rattle.history.specs.Header.{IsInRange}
-use Rattle.history.specs.Legal.{calls}
-use Rattle.history.specs.Start.{Start}
-use Rattle.history_text.specs.HistoryText.{IsHistoryText}
 use Rattle.driver.specs.declared.judged.Judged.{Judged}
-use Rattle.driver.specs.AuditStream.{IsVerdict}
-use Rattle.driver.specs.HistoryReader.{AreCounted, EntriesHeld, IsEntryNext, base_held}
+use Rattle.driver.specs.Prelude.{IsVerdict, AreCounted, EntriesHeld, IsEntryNext, base_held}
 use Rattle.driver.specs.inner.Judged.{IsJudged, kept_with}
 use Rattle.driver.proofs.EntriesAhead.{EntriesOn}
 

@@ -1,24 +1,11 @@
 -- The entries that a page shows, and the state before them.
-use Rattle.std.proofs.Common.{◌≡◌, ℕ, zero, suc, ◌<◌, ◌≤◌, arith, List, [], ◌∷◌, ◌++◌, length, take, drop, reverse, refl, ap, ◌∙◌, sym, subst}
+use Rattle.std.proofs.Common.{◌≡◌, ℕ, zero, suc, ◌<◌, ◌≤◌, arith, List, [], ◌∷◌, ◌++◌, length, take, drop, reverse, refl, ap, ◌∙◌, sym, subst, length-take, take-append-drop}
 use Rattle.std.specs.List.{All}
-use Rattle.std.proofs.lemmas.List.{length-take, reverse-append, reverse-reverse, take-append-drop}
-use Rattle.audit.specs.declared.verdict.Judgement.{Judgement}
+use Rattle.std.proofs.lemmas.List.{reverse-append, reverse-reverse}
+use Rattle.driver.specs.Below.{Judgement, Verdict, IsJudgement, verdict_of, Entry, Base, based, IsGood, IsLegal, CanFold, Start, Given, View}
 use Rattle.audit.specs.declared.verdict.Judgement.TheVariants.{Legal, NotLegal}
-use Rattle.audit.specs.declared.verdict.Verdict.{Verdict}
 use Rattle.audit.specs.declared.verdict.Verdict.TheVariants as verdict
-use Rattle.audit.specs.Verdict.{IsJudgement, verdict_of}
-use Rattle.history.specs.declared.entry.Entry.{Entry}
-use Rattle.history.specs.Base.{Base, based}
-use Rattle.history.specs.GoodBase.{IsGood}
-use Rattle.history.specs.Legal.{IsLegal}
-use Rattle.history.specs.Point.{CanFold}
-use Rattle.history.specs.Start.{Start}
-use Rattle.naming.specs.Names.{Given}
-use Rattle.picture.specs.View.{View}
-use Rattle.driver.specs.declared.choice.Choice.{Choice}
-use Rattle.driver.specs.Choice.{end_of, first_of}
-use Rattle.driver.specs.DrawStream.{legal_front, pictured}
-use Rattle.driver.specs.PageStream.{page_on, paged_text}
+use Rattle.driver.specs.Prelude.{Choice, end_of, first_of, legal_front, pictured, page_on, paged_text}
 use Rattle.driver.proofs.Explained.{all_taken, front_is, front_legal, taken_seated}
 
 -- the first of the first entries

@@ -1,31 +1,10 @@
 -- The picture of the entries that were kept.
-use Rattle.std.proofs.Common.{◌≡◌, ℕ, ◌-◌, ◌<◌, ◌^◌, Bool, true, false, List, [], ◌∷◌, length}
-use Rattle.std.proofs.Common.{get_or, take, Option, None, Some, refl, ap, sym, ◌∙◌, arith}
-use Rattle.std.specs.Prelude.{◌↔◌, nat_lt, if◌then◌else◌}
+use Rattle.std.proofs.Common.{◌≡◌, ℕ, ◌-◌, ◌<◌, ◌^◌, Bool, true, false, List, [], ◌∷◌, length, get_or, take, Option, None, Some, refl, ap, sym, ◌∙◌, arith, ◌↔◌, nat_lt, if◌then◌else◌, length-take, take-take, take_all}
 use Rattle.std.proofs.lemmas.Bool.{false≢true}
 use Rattle.std.specs.List.{All, Contains}
-use Rattle.std.proofs.lemmas.List.{length-take, take-take, take_all}
 use Rattle.std.proofs.lemmas.List.Elements.{All-append, All-contains_itself, All-nil, All-push}
-use Rattle.audit.specs.declared.verdict.Verdict.{Verdict}
-use Rattle.audit.specs.declared.verdict.Verdict.TheVariants.{Legal, NotLegal}
-use Rattle.drawing.specs.declared.bar.Bar.{Bar}
-use Rattle.drawing.specs.declared.mark.Sign.{Sign}
-use Rattle.drawing.specs.Bars.{bars}
-use Rattle.drawing.specs.IsBar.{IsBar}
-use Rattle.drawing.specs.Barging.{barges}
-use Rattle.drawing.specs.Marks.{mark_of, marks, sign_at}
-use Rattle.history.specs.declared.entry.Entry.{Entry}
-use Rattle.history.specs.Base.{Base}
-use Rattle.history.specs.Start.{Start}
-use Rattle.naming.specs.Names.{Given}
-use Rattle.overview.specs.Document.{overview_text}
-use Rattle.picture.specs.Document.{svg_text}
-use Rattle.picture.specs.Layout.{IsShort}
-use Rattle.picture.specs.Marks.{IsEarly}
-use Rattle.picture.specs.View.{View}
-use Rattle.driver.specs.declared.choice.Choice.{Choice}
-use Rattle.driver.specs.Choice.{end_between, end_of, is_summed, is_summed_between, kept_between, kept_of}
-use Rattle.driver.specs.DrawStream.{chosen_text, legal_front, pictured, summed_text, text_of_kept}
+use Rattle.driver.specs.Below.{Verdict, Legal, NotLegal, Bar, Sign, bars, IsBar, barges, mark_of, marks, sign_at, Entry, Base, Start, Given, overview_text, svg_text, IsShort, IsEarly, View}
+use Rattle.driver.specs.Prelude.{Choice, end_between, end_of, is_summed, is_summed_between, kept_between, kept_of, chosen_text, legal_front, pictured, summed_text, text_of_kept}
 
 short : (s : Start) (from : ℕ) (h : List Entry) (b : Bar) → length h < 2 ^ 32 → IsBar s from h b → IsShort b
 short s from h b few is = record { order = is.order; last = omega (arith, is.ends_within, few) }

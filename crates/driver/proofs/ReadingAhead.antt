@@ -1,32 +1,16 @@
 -- The items of a text ahead of a reader's window.
-use Rattle.std.proofs.Common.{Bool, true, false, inl, inr, ◌≡◌, ◌≢◌, ℕ, ◌+◌, ◌-◌, ◌<◌, ◌≤◌, List}
-use Rattle.std.proofs.Common.{[], ◌∷◌, ◌++◌, length, drop, Option, None, Some, Result, Ok, Err}
-use Rattle.std.proofs.Common.{IfSome, refl, sym, ap, ◌∙◌, arith, append_assoc, append-nil, subst}
+use Rattle.std.proofs.Common.{Bool, true, false, inl, inr, ◌≡◌, ◌≢◌, ℕ, ◌+◌, ◌-◌, ◌<◌, ◌≤◌, List, [], ◌∷◌, ◌++◌, length, drop, Option, None, Some, Result, Ok, Err, IfSome, refl, sym, ap, ◌∙◌, arith, append_assoc, append-nil, subst, length-append}
 use Rattle.std.proofs.KnownBytes.{Keeps-refl, Keeps-trans}
 use Rattle.std.proofs.lemmas.Bool.{false≢true}
-use Rattle.std.proofs.lemmas.List.{length-append}
 use Rattle.std.specs.Result.{IsErr}
 use Rattle.std.specs.Io.KnownBytes.{Keeps, IsAtEnd, prepend_known}
-use Rattle.history.specs.Text.{ended}
-use Rattle.line_text.specs.declared.limits.TheConstants.{LINE_BYTES}
-use Rattle.line_text.specs.declared.fault.TextFault.{TextFault}
-use Rattle.line_text.specs.declared.fault.TextFault.TheVariants.{BadHeader, BadLine, CutShort}
-use Rattle.line_text.specs.Form.{Form, lines_of}
-use Rattle.line_text.specs.Reading.{Begins, IsText, IsReading}
-use Rattle.line_text.specs.Short.{HasShortLines}
+use Rattle.driver.specs.Below.{ended, LINE_BYTES, TextFault, BadHeader, BadLine, CutShort, Form, lines_of, Begins, IsText, IsReading, HasShortLines, SoFar, AreRead, IsAhead, IsLineBehind, StreamFault, Text, ReadFailed, WriteFailed, Memory, IsReadNoFurther, IsOfReading, IsTooLong, Grows, StaysAhead, room}
 use Rattle.line_text.proofs.Growing.{broken}
 use Rattle.line_text.proofs.Lawful.{IsLawful}
 use Rattle.line_text.proofs.LongLines.{header_cut, line_cut, uncut}
-use Rattle.line_text.specs.UnderWay.{SoFar, AreRead, IsAhead, IsLineBehind}
 use Rattle.line_text.proofs.Following.{begins_more, without, begins_without, with_rest, fault_stays, text_goes_on}
 use Rattle.line_text.proofs.UnderWay.{last_bytes, one_further, read_on, shorter}
-use Rattle.streams.specs.declared.stream_fault.StreamFault.{StreamFault}
-use Rattle.streams.specs.declared.stream_fault.StreamFault.TheVariants.{Text, ReadFailed, WriteFailed, Memory}
-use Rattle.streams.specs.Streams.{IsReadNoFurther}
-use Rattle.streams.specs.ReadingOn.{IsOfReading, IsTooLong}
-use Rattle.streams.specs.Window.{Grows, StaysAhead, room}
-use Rattle.driver.specs.TextReader.{Progress, reader_at, WereRead, IsFaultOf}
-use Rattle.driver.specs.TextReader.{IsNext, IsPartLeft, KeepsPlace}
+use Rattle.driver.specs.TextReader.{Progress, reader_at, WereRead, IsFaultOf, IsNext, IsPartLeft, KeepsPlace}
 use Rattle.driver.specs.inner.TextReader.{IsAfterEnd}
 
 -- ---- the source

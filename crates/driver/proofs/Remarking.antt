@@ -1,28 +1,10 @@
 -- The lines of answers are those of entries and of remarks.
-use Rattle.std.proofs.Common.{◌≡◌, ℕ, ◌+◌, ◌-◌, ◌≤◌, Bool, true, false, cond, List, [], ◌∷◌}
-use Rattle.std.proofs.Common.{◌++◌, length, take, drop, reverse, Option, None, Some, Result, Ok}
-use Rattle.std.proofs.Common.{Err, refl, sym, ap, ◌∙◌, subst, arith, append_assoc, append-nil}
+use Rattle.std.proofs.Common.{◌≡◌, ℕ, ◌+◌, ◌-◌, ◌≤◌, Bool, true, false, cond, List, [], ◌∷◌, ◌++◌, length, take, drop, reverse, Option, None, Some, Result, Ok, Err, refl, sym, ap, ◌∙◌, subst, arith, append_assoc, append-nil, take_at, length-drop}
 use Rattle.std.specs.List.{slice_get}
-use Rattle.std.proofs.lemmas.List.{drop-append-le, take_at, drop_all, length-drop, length-reverse, reverse-append}
-use Rattle.history.specs.declared.entry.Entry.{Entry}
-use Rattle.history.specs.declared.fault.Fault.{Fault}
-use Rattle.history.specs.declared.fault.Fault.TheVariants.{HistoryFull}
-use Rattle.history.specs.declared.step.Answer.{Answer}
-use Rattle.history.specs.declared.step.Answer.TheVariants.{Recorded, Sleep}
-use Rattle.history.specs.declared.step.Step.{Step}
-use Rattle.history.specs.Answers.{answer, answer_by, recorded}
-use Rattle.history.specs.Naming.{named}
-use Rattle.history.specs.Room.{has_room}
-use Rattle.history.specs.Start.{Start}
-use Rattle.history.specs.Steps.{entry_for}
-use Rattle.history.specs.Text.{ended}
-use Rattle.history_text.specs.EntryLines.{entry_line}
-use Rattle.driver.specs.declared.remark.Remark.{Remark}
-use Rattle.driver.specs.declared.remark.Said.TheVariants.{IsNamed}
-use Rattle.driver.specs.Remarks.{entries_said, remark_of, said_line, told_lines, trim_remark}
+use Rattle.std.proofs.lemmas.List.{drop-append-le, drop_all, length-reverse, reverse-append}
+use Rattle.driver.specs.Below.{Entry, Fault, HistoryFull, Answer, Recorded, Sleep, Step, answer, answer_by, recorded, named, has_room, Start, entry_for, ended, entry_line, entry_lines}
+use Rattle.driver.specs.Prelude.{Remark, IsNamed, entries_said, remark_of, said_line, told_lines, trim_remark, answer_line, entries_of, trim_line}
 use Rattle.driver.specs.inner.Logged.{IsRemarked}
-use Rattle.history_text.specs.Pieces.{entry_lines}
-use Rattle.driver.specs.ReplayText.{answer_line, entries_of, trim_line}
 use Rattle.history_text.proofs.TextWritten.{entry_lines-push}
 
 -- the entries after an answer

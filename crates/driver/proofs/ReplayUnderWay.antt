@@ -1,21 +1,6 @@
 -- What a replay has answered, and what is left to answer.
-use Rattle.std.proofs.Common.{◌≡◌, inl, inr, ℕ, ◌+◌, Bool, false, true, cond, ltb, List, [], ◌∷◌, ◌++◌}
-use Rattle.std.proofs.Common.{length, Result, Ok, Err, refl, ap, sym, ◌∙◌, arith, append_assoc, append-nil}
-use Rattle.frame.specs.declared.acts.Act.{Act}
-use Rattle.frame.specs.declared.acts.Act.TheVariants.{Do, Trim}
-use Rattle.frame.specs.declared.acts.Done.TheVariants.{Trimmed}
-use Rattle.frame.specs.Acts.{Outcome, as_answered, behind_one, outcome}
-use Rattle.frame.specs.Core.{CoreView, IsAnswered, start_of}
-use Rattle.history.specs.declared.entry.Entry.{Entry}
-use Rattle.history.specs.declared.fault.Fault.{Fault}
-use Rattle.history.specs.declared.fault.Fault.TheVariants.{OutOfMemory, TrimFull}
-use Rattle.history.specs.declared.header.Header.{Header}
-use Rattle.history.specs.declared.step.Answer.{Answer}
-use Rattle.history.specs.declared.step.Step.{Step}
-use Rattle.history.specs.Answers.{answer}
-use Rattle.history.specs.Base.{Base, based, folded, opening_base}
-use Rattle.history.specs.declared.limits.TheConstants.{MOST_FOLDED}
-use Rattle.history.specs.Text.{ended}
+use Rattle.std.proofs.Common.{◌≡◌, inl, inr, ℕ, ◌+◌, Bool, false, true, cond, ltb, List, [], ◌∷◌, ◌++◌, length, Result, Ok, Err, refl, ap, sym, ◌∙◌, arith, append_assoc, append-nil}
+use Rattle.driver.specs.Below.{Act, Do, Trim, Trimmed, Outcome, as_answered, behind_one, outcome, CoreView, IsAnswered, start_of, Entry, Fault, OutOfMemory, TrimFull, Header, Answer, Step, answer, Base, based, folded, opening_base, MOST_FOLDED, ended}
 use Rattle.driver.specs.ReplayText.{answer_line, done_line, done_lines, entries_done, entries_of, trim_line}
 use Rattle.driver.proofs.Remarking.{added_count, added_is}
 

@@ -1,21 +1,8 @@
 -- The acts of a text ahead of a reader's window.
-use Rattle.std.proofs.Common.{◌≡◌, ℕ, zero, suc, ◌<◌, ◌≤◌, ◌^◌, List, [], ◌∷◌}
-use Rattle.std.proofs.Common.{◌++◌, length, Option, None, Some, Ok, refl, ap, arith}
-use Rattle.frame.specs.declared.acts.Act.{Act}
-use Rattle.history.specs.Header.{IsInRange}
-use Rattle.history.specs.Text.{ended}
-use Rattle.line_text.specs.declared.limits.TheConstants.{LINE_BYTES}
-use Rattle.line_text.specs.Form.{Form}
-use Rattle.line_text.specs.UnderWay.{IsLineBehind}
-use Rattle.steps.specs.declared.header.StepsHeader.{StepsHeader}
-use Rattle.steps.specs.CommonSteps.{stepped}
-use Rattle.steps.specs.declared.common_step.Common.{Common}
-use Rattle.steps.specs.StepLines.{IsAct, IsStep, act_line, step_line}
-use Rattle.steps.specs.StepsText.{steps_form, steps_so_far}
+use Rattle.std.proofs.Common.{◌≡◌, ℕ, zero, suc, ◌<◌, ◌≤◌, ◌^◌, List, [], ◌∷◌, ◌++◌, length, Option, None, Some, Ok, refl, ap, arith}
+use Rattle.driver.specs.Below.{Act, IsInRange, ended, LINE_BYTES, Form, IsLineBehind, StepsHeader, stepped, Common, IsAct, IsStep, act_line, step_line, steps_form, steps_so_far, IsReadNoFurther}
 use Rattle.steps.proofs.ShortSteps.{short}
-use Rattle.streams.specs.Streams.{IsReadNoFurther}
-use Rattle.driver.specs.StepReader.{Held, common_act, progress}
-use Rattle.driver.specs.TextReader.{IsNext, IsOfNoText, Progress, WereRead}
+use Rattle.driver.specs.Prelude.{Held, common_act, progress, IsNext, IsOfNoText, Progress, WereRead}
 
 repeated : ℕ → Act → List Act
 repeated zero act = []

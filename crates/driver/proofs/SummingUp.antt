@@ -1,24 +1,11 @@
 -- The entries of a text are judged and summed up as their lines are read.
-use Rattle.std.proofs.Common.{◌≡◌, ℕ, ◌<◌, ◌≤◌, ◌^◌, List, [], ◌∷◌, length}
-use Rattle.std.proofs.Common.{reverse, Option, None, Some, Ok, IfSome, refl, sym, ap, ◌∙◌, arith, subst}
+use Rattle.std.proofs.Common.{◌≡◌, ℕ, ◌<◌, ◌≤◌, ◌^◌, List, [], ◌∷◌, length, reverse, Option, None, Some, Ok, IfSome, refl, sym, ap, ◌∙◌, arith, subst}
 use Rattle.std.proofs.lemmas.List.{reverse-append}
 use Rattle.audit.proofs.Beginnings.{header_from}
 use Rattle.audit.proofs.Fronts.{front_same}
-use Rattle.audit.specs.Verdict.{front}
-use Rattle.audit.specs.declared.verdict.Verdict.{Verdict}
-use Rattle.audit.specs.declared.verdict.Verdict.TheVariants.{Legal, NotLegal}
-use Rattle.history.specs.declared.entry.Entry.{Entry}
-use Rattle.history.specs.declared.header.Header.{Header}
-use Rattle.history.specs.Base.{Base, based}
-use Rattle.history.specs.Entries.{IsBasedWell}
-use Rattle.history.specs.Header.{IsInRange}
-use Rattle.history.specs.Start.{Start}
-use Rattle.history_text.specs.HistoryText.{IsHistoryText}
-use Rattle.summing.specs.declared.judging.JudgingSumming.{JudgingSumming}
-use Rattle.summing.specs.Judging.{HasJudged, IsFound, found_by, legal_front}
-use Rattle.driver.specs.AuditStream.{IsToldOf, IsVerdict}
-use Rattle.driver.specs.ExplainStream.{legal_count}
-use Rattle.driver.specs.HistoryReader.{AreCounted, EntriesHeld, IsEntryNext, base_held}
+use Rattle.driver.specs.Below.{front, Verdict, Legal, NotLegal, Entry, Header, Base, based, IsBasedWell, IsInRange, Start, IsHistoryText, JudgingSumming, IsFound, found_by, legal_front}
+use Rattle.summing.specs.Judging.{HasJudged}
+use Rattle.driver.specs.Prelude.{IsToldOf, IsVerdict, legal_count, AreCounted, EntriesHeld, IsEntryNext, base_held}
 use Rattle.driver.specs.inner.Summed.{IsSummedUp}
 use Rattle.driver.proofs.EntriesAhead.{EntriesOn}
 use Rattle.driver.proofs.Judging.{base_kept}

@@ -1,19 +1,10 @@
 -- Lines of entries and of remarks, one after another.
-use Rattle.std.proofs.Common.{◌≡◌, ℕ, ◌+◌, ◌-◌, ◌≤◌, ◌<◌, List, [], ◌∷◌, ◌++◌, length, take, drop, get_or}
-use Rattle.std.proofs.Common.{Option, Some, Result, Ok, Err, sym, ap, ◌∙◌, subst, arith, append_assoc}
+use Rattle.std.proofs.Common.{◌≡◌, ℕ, ◌+◌, ◌-◌, ◌≤◌, ◌<◌, List, [], ◌∷◌, ◌++◌, length, take, drop, get_or, Option, Some, Result, Ok, Err, sym, ap, ◌∙◌, subst, arith, append_assoc, take_all, take-take, take-append-drop, get_or-drop, length-take-le, length-drop}
 use Rattle.std.specs.List.{slice_get}
-use Rattle.std.proofs.lemmas.List.{take_more, take_all, drop_more, drop_all, take-take}
-use Rattle.std.proofs.lemmas.List.{take-append-drop, get_or-drop, length-take-le, length-drop}
+use Rattle.std.proofs.lemmas.List.{take_more, drop_more, drop_all}
 use Rattle.std.proofs.lemmas.Option.{get_or_from_slice_get, slice_get_within}
-use Rattle.history.specs.declared.entry.Entry.{Entry}
-use Rattle.history.specs.Text.{ended}
-use Rattle.history_text.specs.EntryLines.{entry_line}
-use Rattle.streams.specs.declared.source.DeviceFailed.{DeviceFailed}
-use Rattle.driver.specs.declared.remark.Remark.{Remark}
-use Rattle.driver.specs.Remarks.{entries_said, said_line, told_lines}
-use Rattle.history_text.specs.Pieces.{entry_lines}
-use Rattle.driver.specs.LineWriter.{Gathers, IsGathered}
-use Rattle.streams.specs.Writing.{AppendsFront}
+use Rattle.driver.specs.Below.{Entry, ended, entry_line, DeviceFailed, entry_lines, AppendsFront}
+use Rattle.driver.specs.Prelude.{Remark, entries_said, said_line, told_lines, Gathers, IsGathered}
 use Rattle.history_text.proofs.TextWritten.{entry_lines-push}
 use Rattle.driver.proofs.EntryLines.{entry_lines-append}
 use Rattle.driver.proofs.Gathering.{gathered_more, front_more, front_longer}

@@ -1,18 +1,9 @@
 -- What is written for a steps text.
 use Rattle.std.proofs.Common.{◌≡◌, ℕ, List, Option, None, Some, Result, Ok, Err, subst}
 use Rattle.std.specs.Io.KnownBytes.{Appends}
-use Rattle.frame.specs.declared.acts.Act.{Act}
-use Rattle.line_text.specs.Reading.{IsText}
-use Rattle.steps.specs.declared.header.StepsHeader.{StepsHeader}
-use Rattle.steps.specs.StepsText.{steps_form}
-use Rattle.driver.specs.declared.form.Form.{Form}
-use Rattle.streams.specs.declared.stream_fault.StreamFault.{StreamFault}
-use Rattle.streams.specs.declared.stream_fault.StreamFault.TheVariants.{Text, ReadFailed, WriteFailed, Memory}
-use Rattle.driver.specs.Answers.{AllAnswers, Writes, answers_text}
-use Rattle.driver.specs.ReplayStream.{IsLawful, Replayed, Replays, answer_text}
+use Rattle.driver.specs.Below.{Act, IsText, StepsHeader, steps_form, StreamFault, Text, ReadFailed, WriteFailed, Memory, AppendsFront}
+use Rattle.driver.specs.Prelude.{Form, AllAnswers, Writes, answers_text, IsLawful, Replayed, Replays, answer_text, behind_acts}
 use Rattle.driver.specs.inner.ReplayStream.{AreAnswersTo}
-use Rattle.driver.specs.ReplayText.{behind_acts}
-use Rattle.streams.specs.Writing.{AppendsFront}
 
 pub replayed : (form : Form) (text : List ℕ) (h : StepsHeader) (acts : List Act) (written : List ℕ) →
     IsText steps_form text h acts → IsLawful (behind_acts h acts).base (behind_acts h acts).entries →

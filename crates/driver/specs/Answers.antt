@@ -1,25 +1,12 @@
 -- The answers to the steps and trims of a text, and what is written of them.
 use Rattle.std.specs.Prelude.{◌≡◌, ℕ, List, [], ◌++◌, Option, Result, Ok, Err, codes, length, reverse}
 use Rattle.std.specs.Io.KnownBytes.{Appends, Keeps}
-use Rattle.history.specs.declared.entry.Entry.{Entry}
-use Rattle.history.specs.declared.header.Header.{Header}
-use Rattle.history.specs.Base.{Base, based}
-use Rattle.history.specs.Entries.{ended_calls}
-use Rattle.history.specs.GoodBase.{IsGood}
-use Rattle.history.specs.Legal.{calls}
-use Rattle.history.specs.Spelling.{part_of}
-use Rattle.history.specs.Text.{ended}
-use Rattle.history_text.specs.EntryLines.{counts_line}
-use Rattle.history_text.specs.Pieces.{history_text}
-use Rattle.steps.specs.declared.header.StepsHeader.{StepsHeader}
+use Rattle.driver.specs.Below.{Entry, Header, Base, based, ended_calls, IsGood, calls, part_of, ended, counts_line, history_text, StepsHeader, StreamFault, WriteFailed, Memory, AppendsFront}
 use Rattle.driver.specs.declared.form.Form.{Form}
 use Rattle.driver.specs.declared.form.Form.TheVariants.{Replay, History}
 use Rattle.driver.specs.declared.remark.Remark.{Remark}
 use Rattle.driver.specs.ReplayText.{header_line}
-use Rattle.streams.specs.declared.stream_fault.StreamFault.{StreamFault}
-use Rattle.streams.specs.declared.stream_fault.StreamFault.TheVariants.{WriteFailed, Memory}
 use Rattle.driver.specs.Remarks.{told_lines}
-use Rattle.streams.specs.Writing.{AppendsFront}
 
 -- The header; the entries that were folded, the oldest first; the base that they left, and the entries after
 -- it, the newest first; and the remarks.

@@ -1,15 +1,7 @@
 -- The audit of a history as one JSON object, and in either notation.
 use Rattle.std.specs.Prelude.{ℕ, ◌+◌, List, ◌++◌, codes, length}
 use Rattle.std.specs.Fmt.{signed_decimal}
-use Rattle.audit.specs.declared.sums.Totals.{Totals}
-use Rattle.audit.specs.declared.verdict.Verdict.{Verdict}
-use Rattle.audit.specs.declared.verdict.Verdict.TheVariants.{Legal, NotLegal}
-use Rattle.audit.specs.Totals.{totals_of}
-use Rattle.history.specs.declared.entry.Entry.{Entry}
-use Rattle.history.specs.declared.header.Object.{Object}
-use Rattle.history.specs.declared.header.Object.TheVariants.{Lock, ReadWrite, Semaphore, Latch}
-use Rattle.history.specs.Base.{Base, based}
-use Rattle.history.specs.Legal.{calls}
+use Rattle.driver.specs.Below.{Totals, Verdict, Legal, NotLegal, totals_of, Entry, Object, Lock, ReadWrite, Semaphore, Latch, Base, based, calls}
 use Rattle.driver.specs.AuditText.{audit_text, number_line}
 use Rattle.driver.specs.declared.notation.Notation.{Notation}
 use Rattle.driver.specs.declared.notation.Notation.TheVariants.{Lines, Json}

@@ -1,17 +1,9 @@
 -- What is written for a history text.
 use Rattle.std.specs.Prelude.{ℕ, List, Option, Result, reverse}
-use Rattle.audit.specs.declared.verdict.Verdict.{Verdict}
-use Rattle.audit.specs.declared.verdict.Verdict.TheVariants.{Legal, NotLegal}
-use Rattle.audit.specs.Verdict.{IsFirstWrong}
-use Rattle.history.specs.declared.entry.Entry.{Entry}
-use Rattle.history.specs.Base.{Base, based}
-use Rattle.history.specs.Legal.{IsLegal}
-use Rattle.history_text.specs.HistoryText.{IsHistoryText, history_form}
-use Rattle.streams.specs.declared.stream_fault.StreamFault.{StreamFault}
+use Rattle.driver.specs.Below.{Verdict, Legal, NotLegal, IsFirstWrong, Entry, Base, based, IsLegal, IsHistoryText, history_form, StreamFault, IsReadOut, Streams}
 use Rattle.driver.specs.AuditJson.{audit_in}
 use Rattle.driver.specs.AuditText.{audit_text}
 use Rattle.driver.specs.declared.notation.Notation.{Notation}
-use Rattle.streams.specs.Streams.{IsReadOut, Streams}
 
 -- the history is legal from its base on, or this is its first illegal entry, counted from the base
 abbrev pub IsVerdict : Base → List Entry → Verdict → Type 0

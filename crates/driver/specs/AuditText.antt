@@ -1,16 +1,7 @@
 -- The audit text: the verdict on a history, and what a legal one adds up to.
 use Rattle.std.specs.Prelude.{ℕ, ◌+◌, nat_lt, if◌then◌else◌, List, [], ◌++◌, codes, decimal, length}
 use Rattle.std.specs.Fmt.{signed_decimal}
-use Rattle.audit.specs.declared.sums.Totals.{Totals}
-use Rattle.audit.specs.declared.verdict.Verdict.{Verdict}
-use Rattle.audit.specs.declared.verdict.Verdict.TheVariants.{Legal, NotLegal}
-use Rattle.audit.specs.Totals.{totals_of}
-use Rattle.history.specs.declared.entry.Entry.{Entry}
-use Rattle.history.specs.declared.header.Object.{Object}
-use Rattle.history.specs.declared.header.Object.TheVariants.{Lock, ReadWrite, Semaphore, Latch}
-use Rattle.history.specs.Base.{Base, based}
-use Rattle.history.specs.Legal.{calls}
-use Rattle.history.specs.Text.{ended}
+use Rattle.driver.specs.Below.{Totals, Verdict, Legal, NotLegal, totals_of, Entry, Object, Lock, ReadWrite, Semaphore, Latch, Base, based, calls, ended}
 
 abbrev pub holds_line : Totals → List ℕ
 holds_line t =

@@ -1,12 +1,7 @@
 -- Reading a base from a source, line by line.
 use Rattle.std.specs.Prelude.{◌≡◌, ℕ, ◌≤◌, List, Option, IfSome, IsSomeAnd}
 use Rattle.std.specs.Io.KnownBytes.{prepend_known}
-use Rattle.history.specs.declared.entry.Entry.{Entry}
-use Rattle.history.specs.Base.{Base, based}
-use Rattle.history_text.specs.declared.base_under_way.TheConstants.{MOST_LINES}
-use Rattle.history_text.specs.declared.place.Head.{Head}
-use Rattle.history_text.specs.declared.place.Place.{Place}
-use Rattle.history_text.specs.NextLine.{AreEntriesRead}
+use Rattle.driver.specs.Below.{Entry, Base, based, MOST_LINES, Head, Place, AreEntriesRead}
 
 -- the text's base was read, and these entries after it, the oldest first; the reader's position is after them
 abbrev pub EntriesBehind : Option (List ℕ) → Head → Base → List Entry → Place → List ℕ → Option (List ℕ) →

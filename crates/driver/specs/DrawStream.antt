@@ -1,19 +1,6 @@
 -- What is drawn for a history text.
 use Rattle.std.specs.Prelude.{ℕ, ◌+◌, if◌then◌else◌, List, [], Option, Some, None, Result, length, reverse, take}
-use Rattle.audit.specs.declared.verdict.Verdict.{Verdict}
-use Rattle.audit.specs.declared.verdict.Verdict.TheVariants.{Legal, NotLegal}
-use Rattle.drawing.specs.Bars.{bars}
-use Rattle.drawing.specs.Curve.{curve}
-use Rattle.drawing.specs.Marks.{marks}
-use Rattle.history.specs.declared.entry.Entry.{Entry}
-use Rattle.history.specs.Base.{Base, based}
-use Rattle.history_text.specs.HistoryText.{history_form}
-use Rattle.naming.specs.Names.{Given}
-use Rattle.overview.specs.Document.{overview_text}
-use Rattle.picture.specs.Document.{svg_text}
-use Rattle.picture.specs.View.{View}
-use Rattle.streams.specs.declared.stream_fault.StreamFault.{StreamFault}
-use Rattle.streams.specs.Streams.{Streams}
+use Rattle.driver.specs.Below.{Verdict, Legal, NotLegal, bars, curve, marks, Entry, Base, based, history_form, Given, overview_text, svg_text, View, StreamFault, Streams}
 use Rattle.driver.specs.declared.choice.Choice.{Choice}
 use Rattle.driver.specs.AuditStream.{IsToldOf}
 use Rattle.driver.specs.Choice.{end_of, first_of, is_cut, is_summed}

@@ -1,21 +1,11 @@
 -- What explains an entry of a history text.
 use Rattle.std.specs.Prelude.{ℕ, ◌+◌, ◌-◌, Bool, true, if◌then◌else◌, min, nat_lt, List, [], Option, Some, None, Result, length, reverse, take}
 use Rattle.std.specs.List.{slice_get}
-use Rattle.audit.specs.declared.verdict.Verdict.{Verdict}
-use Rattle.audit.specs.declared.verdict.Verdict.TheVariants.{Legal, NotLegal}
-use Rattle.deciding.specs.Balance.{balance}
-use Rattle.explain_text.specs.Document.{FoundView, explained, unfolded_text}
+use Rattle.driver.specs.Below.{Verdict, Legal, NotLegal, balance, FoundView, explained, unfolded_text, fits_fold, Entry, Base, based, folded, ready, history_form, StreamFault, Streams}
 use Rattle.explaining.specs.declared.explanation.Standing.{Standing}
 use Rattle.explaining.specs.declared.naming.Naming.TheVariants.{NobodyWaits}
 use Rattle.explaining.specs.Naming.{naming_of}
-use Rattle.explaining.specs.State.{fits_fold}
 use Rattle.explaining.specs.Ways.{ways_of}
-use Rattle.history.specs.declared.entry.Entry.{Entry}
-use Rattle.history.specs.Base.{Base, based, folded}
-use Rattle.history.specs.Naming.{ready}
-use Rattle.history_text.specs.HistoryText.{history_form}
-use Rattle.streams.specs.declared.stream_fault.StreamFault.{StreamFault}
-use Rattle.streams.specs.Streams.{Streams}
 use Rattle.driver.specs.AuditStream.{IsToldOf}
 use Rattle.driver.specs.DrawStream.{wrong_of}
 

@@ -1,14 +1,6 @@
 -- Reading a history text from a source, one entry at a time.
 use Rattle.std.specs.Prelude.{◌≡◌, ◌<◌, ◌≤◌, ℕ, List, [], ◌∷◌, ◌++◌, Option, Some, None, Result, Ok, Err, IfSome}
-use Rattle.history.specs.declared.entry.Entry.{Entry}
-use Rattle.history.specs.declared.header.Header.{Header}
-use Rattle.history.specs.Base.{Base}
-use Rattle.history.specs.Entries.{or_opening}
-use Rattle.history_text.specs.declared.place.Place.{Place}
-use Rattle.history_text.specs.HistoryLines.{head_of}
-use Rattle.history_text.specs.HistoryText.{IsHistoryText, history_form}
-use Rattle.history_text.specs.NextLine.{behind}
-use Rattle.streams.specs.declared.stream_fault.StreamFault.{StreamFault}
+use Rattle.driver.specs.Below.{Entry, Header, Base, or_opening, Place, head_of, IsHistoryText, history_form, behind, StreamFault}
 use Rattle.driver.specs.BaseReader.{EntriesBehind, IsPlacedBehind}
 use Rattle.driver.specs.TextReader.{IsFaultOf}
 

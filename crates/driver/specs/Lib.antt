@@ -1,3 +1,5 @@
+pub mod Prelude
+pub mod Below
 pub mod Answers
 pub mod AuditJson
 pub mod AuditStream

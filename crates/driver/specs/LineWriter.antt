@@ -1,8 +1,7 @@
 -- Gathering lines for a sink.
 use Rattle.std.specs.Prelude.{◌≡◌, ℕ, List, ◌++◌, Option, Result, Ok, Err}
 use Rattle.std.specs.Io.KnownBytes.{Appends}
-use Rattle.streams.specs.declared.source.DeviceFailed.{DeviceFailed}
-use Rattle.streams.specs.Writing.{AppendsFront}
+use Rattle.driver.specs.Below.{DeviceFailed, AppendsFront}
 
 -- the bytes that aren't written yet, and for how many more there is room
 pub record Gathered : Type 0 where

@@ -1,14 +1,6 @@
 -- The page that is written for a history text.
 use Rattle.std.specs.Prelude.{ℕ, if◌then◌else◌, List, [], Option, Some, None, Result, drop, length, reverse, take}
-use Rattle.audit.specs.declared.verdict.Verdict.{Verdict}
-use Rattle.explaining.specs.State.{fits_fold}
-use Rattle.history.specs.declared.entry.Entry.{Entry}
-use Rattle.history.specs.Base.{Base, folded}
-use Rattle.history_text.specs.HistoryText.{history_form}
-use Rattle.naming.specs.Names.{Given}
-use Rattle.picture.specs.View.{View}
-use Rattle.streams.specs.declared.stream_fault.StreamFault.{StreamFault}
-use Rattle.streams.specs.Streams.{Streams}
+use Rattle.driver.specs.Below.{Verdict, fits_fold, Entry, Base, folded, history_form, Given, View, StreamFault, Streams}
 use Rattle.web_page.specs.Document.{page_text}
 use Rattle.driver.specs.declared.choice.Choice.{Choice}
 use Rattle.driver.specs.AuditStream.{IsToldOf}

@@ -1,11 +1,6 @@
 -- Answers as recorded entries, with remarks for what no entry has.
 use Rattle.std.specs.Prelude.{ℕ, ◌+◌, ◌-◌, List, [], ◌∷◌, ◌++◌, Option, Some, None, Result, Ok, Err, drop, take, slice_get}
-use Rattle.history.specs.declared.entry.Entry.{Entry}
-use Rattle.history.specs.declared.fault.Fault.{Fault}
-use Rattle.history.specs.declared.step.Answer.{Answer}
-use Rattle.history.specs.declared.step.Answer.TheVariants.{Recorded, Sleep}
-use Rattle.history.specs.Text.{ended}
-use Rattle.history_text.specs.Pieces.{entry_lines}
+use Rattle.driver.specs.Below.{Entry, Fault, Answer, Recorded, Sleep, ended, entry_lines}
 use Rattle.driver.specs.declared.remark.Remark.{Remark}
 use Rattle.driver.specs.declared.remark.Said.{Said}
 use Rattle.driver.specs.declared.remark.Said.TheVariants.{IsNamed, Sleeps, Fails, Folds, FoldsNone}

@@ -1,9 +1,6 @@
 -- The answers of a replay.
 use Rattle.std.specs.Prelude.{Result, Ok, Err}
-use Rattle.history.specs.declared.fault.Fault.{Fault}
-use Rattle.history.specs.declared.step.Answer.{Answer}
-use Rattle.history.specs.declared.step.Answer.TheVariants.{Recorded, Sleep}
-use Rattle.history.specs.EntryWords.{IsSpelt}
+use Rattle.driver.specs.Below.{Fault, Answer, Recorded, Sleep, IsSpelt}
 
 -- an answer that has a line
 abbrev pub HasLine : Result Answer Fault → Type 0

@@ -1,22 +1,11 @@
 -- What is written for what is read.
 use Rattle.std.specs.Prelude.{◌≡◌, ℕ, List, Option, Result}
-use Rattle.frame.specs.declared.acts.Act.{Act}
-use Rattle.frame.specs.Acts.{Outcome}
-use Rattle.history.specs.declared.entry.Entry.{Entry}
-use Rattle.history.specs.Base.{Base, based}
-use Rattle.history.specs.Legal.{IsLegal, AreSeated}
-use Rattle.history.specs.Order.{IsInOrder, IsFairOrder}
-use Rattle.history_text.specs.Pieces.{history_text}
-use Rattle.line_text.specs.Reading.{IsText}
-use Rattle.steps.specs.StepsText.{steps_form}
-use Rattle.steps.specs.declared.header.StepsHeader.{StepsHeader}
+use Rattle.driver.specs.Below.{Act, Outcome, Entry, Base, based, IsLegal, AreSeated, IsInOrder, IsFairOrder, history_text, IsText, steps_form, StepsHeader, StreamFault, IsReadOut, Streams}
 use Rattle.driver.specs.declared.form.Form.{Form}
 use Rattle.driver.specs.declared.form.Form.TheVariants.{Replay, History}
-use Rattle.streams.specs.declared.stream_fault.StreamFault.{StreamFault}
 use Rattle.driver.specs.Answers.{AllAnswers, answers_text}
 use Rattle.driver.specs.ReplayText.{behind_acts, replay_text}
 use Rattle.driver.specs.TextReader.{Progress, OfText}
-use Rattle.streams.specs.Streams.{IsReadOut, Streams}
 
 -- the history text after these acts, with the base of the last trim
 abbrev pub left_text : Outcome → List ℕ

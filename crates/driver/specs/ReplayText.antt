@@ -1,22 +1,8 @@
 -- The replay text: a line for the answer to each step, and for each trim.
 use Rattle.std.specs.Prelude.{ℕ, ◌+◌, List, [], ◌∷◌, ◌++◌, Some, None, Result, Ok, Err, codes, decimal, length}
-use Rattle.frame.specs.declared.acts.Act.{Act}
-use Rattle.frame.specs.declared.acts.Act.TheVariants.{Do, Trim}
-use Rattle.frame.specs.declared.acts.Done.{Done}
-use Rattle.frame.specs.declared.acts.Done.TheVariants.{Answered, Trimmed}
-use Rattle.frame.specs.Acts.{Outcome, outcome}
-use Rattle.history.specs.declared.fault.Fault.{Fault}
-use Rattle.history.specs.declared.step.Answer.{Answer}
-use Rattle.history.specs.declared.step.Answer.TheVariants.{Recorded, Sleep}
-use Rattle.history.specs.Base.{based, opening_base}
-use Rattle.history.specs.Fault.{fault_name}
-use Rattle.history.specs.Legal.{calls}
-use Rattle.history.specs.Spelling.{part_of}
-use Rattle.history.specs.Text.{ended}
-use Rattle.history_text.specs.EntryLines.{entry_line, counts_line}
+use Rattle.driver.specs.Below.{Act, Do, Trim, Done, Answered, Trimmed, Outcome, outcome, Fault, Answer, Recorded, Sleep, based, opening_base, fault_name, calls, part_of, ended, entry_line, counts_line, StepsHeader}
 use Rattle.steps.specs.declared.header.Format.{Format}
 use Rattle.steps.specs.declared.header.Format.TheVariants.{One, Two}
-use Rattle.steps.specs.declared.header.StepsHeader.{StepsHeader}
 
 -- the replay text has the format of the steps text
 abbrev pub name_of : Format → List ℕ

@@ -1,11 +1,6 @@
 -- Reading a steps text from a source, one act at a time.
 use Rattle.std.specs.Prelude.{ℕ, List, Option}
-use Rattle.frame.specs.declared.acts.Act.{Act}
-use Rattle.frame.specs.declared.acts.Act.TheVariants.{Do}
-use Rattle.steps.specs.CommonSteps.{step_of}
-use Rattle.steps.specs.declared.common_step.Common.{Common}
-use Rattle.steps.specs.declared.header.StepsHeader.{StepsHeader}
-use Rattle.steps.specs.StepsText.{steps_so_far}
+use Rattle.driver.specs.Below.{Act, Do, step_of, Common, StepsHeader, steps_so_far}
 use Rattle.driver.specs.TextReader.{Progress, reader_at}
 
 -- What a reader of steps has: the header, how many acts it has returned, the bytes after them that it holds,

@@ -1,15 +1,8 @@
 -- The summary of a history text.
 use Rattle.std.specs.Prelude.{ℕ, List, Option, Result, length}
-use Rattle.audit.specs.declared.verdict.Verdict.{Verdict}
-use Rattle.audit.specs.Verdict.{front}
-use Rattle.history.specs.declared.entry.Entry.{Entry}
-use Rattle.history.specs.Base.{Base, based}
-use Rattle.history_text.specs.HistoryText.{history_form}
-use Rattle.streams.specs.declared.stream_fault.StreamFault.{StreamFault}
-use Rattle.streams.specs.Streams.{Streams}
+use Rattle.driver.specs.Below.{Verdict, front, Entry, Base, based, history_form, StreamFault, Streams, SummaryView, summary}
 use Rattle.summary_text.specs.Document.{summary_text}
 use Rattle.summary_text.specs.Json.{summary_json}
-use Rattle.summing.specs.Summary.{SummaryView, summary}
 use Rattle.driver.specs.AuditStream.{IsToldOf}
 use Rattle.driver.specs.DrawStream.{wrong_of}
 use Rattle.driver.specs.ExplainStream.{legal_count}

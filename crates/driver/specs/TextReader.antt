@@ -1,13 +1,7 @@
 -- Reading a text from a source, one item at a time.
 use Rattle.std.specs.Prelude.{◌≤◌, ℕ, List, [], ◌∷◌, ◌++◌, length, Option, Some, None, Result, Ok, Err, IfSome, IsSomeAnd}
 use Rattle.std.specs.Io.KnownBytes.{Keeps, prepend_known}
-use Rattle.line_text.specs.Form.{Form}
-use Rattle.line_text.specs.Reading.{IsText, IsReading}
-use Rattle.line_text.specs.UnderWay.{SoFar, AreRead}
-use Rattle.streams.specs.declared.stream_fault.StreamFault.{StreamFault}
-use Rattle.streams.specs.declared.stream_fault.StreamFault.TheVariants.{Text, ReadFailed, WriteFailed, Memory}
-use Rattle.streams.specs.Streams.{IsReadNoFurther}
-use Rattle.streams.specs.Window.{StaysAhead}
+use Rattle.driver.specs.Below.{Form, IsText, IsReading, SoFar, AreRead, StreamFault, Text, ReadFailed, WriteFailed, Memory, IsReadNoFurther, StaysAhead}
 
 -- The progress of reading a text: what is known of it so far, and all that follows the items that were read,
 -- if that is known.

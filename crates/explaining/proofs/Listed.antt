@@ -2,21 +2,8 @@
 use Rattle.std.proofs.Common.{◌≡◌, ◌⊎◌, inl, inr, ℕ, zero, suc, ◌<◌, ◌≤◌, Bool, true, false, not, ◌&&◌, ◌||◌, cond, eqb, eqb-true, leb, leb-false, ltb, arith, List, [], ◌∷◌, ◌++◌, Option, Some, None, Result, Ok, Err, refl, ap, ◌∙◌, sym, subst}
 use Rattle.std.specs.List.{flat_map, list_any}
 use Rattle.std.proofs.lemmas.Option.{same_Some}
-use Rattle.history.specs.declared.entry.Entry.{Entry}
-use Rattle.history.specs.declared.entry.Mode.{Mode}
-use Rattle.history.specs.declared.entry.Mode.TheVariants.{X, S}
-use Rattle.history.specs.declared.fault.Fault.{Fault}
-use Rattle.history.specs.declared.header.Header.{Header}
-use Rattle.history.specs.declared.header.Object.{Object}
-use Rattle.history.specs.declared.limits.TheConstants.{MOST_AMOUNT}
-use Rattle.history.specs.declared.step.Step.{Step}
-use Rattle.history.specs.declared.step.Step.TheVariants.{Acquire, Try, TryFair, EntryInterrupt, Give, Look, Expire, Interrupt, Await, Signal, SignalAll, Drain}
+use Rattle.explaining.specs.Below.{Entry, Mode, X, S, Fault, Header, Object, MOST_AMOUNT, Step, Acquire, Try, TryFair, EntryInterrupt, Give, Look, Expire, Interrupt, Await, Signal, SignalAll, Drain, is_bad_amount, is_bad_number, is_no_condition, is_semaphore, Phase, Idle, InLine, Sleeping, phase, suits, Start, entry_for, idle_entry, phase_entry}
 use Rattle.history.specs.contracts.entry.EntryPartialEq.TheImpl as entries
-use Rattle.history.specs.Faults.{is_bad_amount, is_bad_number, is_no_condition}
-use Rattle.history.specs.Object.{is_semaphore}
-use Rattle.history.specs.Phase.{Phase, Idle, InLine, Sleeping, phase, suits}
-use Rattle.history.specs.Start.{Start}
-use Rattle.history.specs.Steps.{entry_for, idle_entry, phase_entry}
 use Rattle.history.proofs.Entering.{Admitted, admitted}
 use Rattle.history.proofs.OneOwner.{cases_below}
 use Rattle.audit.proofs.SameEntries.{itself, same_entries}

@@ -2,15 +2,7 @@
 use Rattle.std.proofs.Common.{◌≡◌, ℕ, zero, suc, ◌*◌, ◌≤◌, Bool, true, ◌&&◌, leb, leb-true, List, [], ◌∷◌, get_or, arith}
 use Rattle.std.specs.List.{list_all}
 use Rattle.std.proofs.lemmas.Bool.{and_parts}
-use Rattle.history.specs.declared.base.SeatBase.{SeatBase}
-use Rattle.history.specs.declared.entry.Mode.TheVariants.{S}
-use Rattle.history.specs.declared.header.Object.{Object}
-use Rattle.history.specs.declared.header.Object.TheVariants.{Lock, ReadWrite, Semaphore, Latch}
-use Rattle.history.specs.declared.limits.TheConstants.{MOST_AMOUNT}
-use Rattle.history.specs.Base.{Base, based, nothing}
-use Rattle.history.specs.Counts.{held}
-use Rattle.history.specs.GoodBase.{IsModest}
-use Rattle.history.specs.Object.{is_semaphore}
+use Rattle.explaining.specs.Below.{SeatBase, S, Object, Lock, ReadWrite, Semaphore, Latch, MOST_AMOUNT, Base, based, nothing, held, IsModest, is_semaphore}
 use Rattle.explaining.specs.State.{few_permits, fits_fold, is_modest_of}
 
 each_few : (most : ℕ) (seats : List SeatBase) (i : ℕ) → few_permits most seats ≡ true →

@@ -1,9 +1,6 @@
 -- A naming tells the seat that is named.
 use Rattle.std.proofs.Common.{◌≡◌, ℕ, Bool, true, false, not, ◌&&◌, cond, eqb, Option, Some, None, refl}
-use Rattle.history.specs.declared.arrival.Arrival.{Arrival}
-use Rattle.history.specs.Could.{could, is_seat}
-use Rattle.history.specs.Counts.{Counts}
-use Rattle.history.specs.Naming.{named_by, ready_by}
+use Rattle.explaining.specs.Below.{Arrival, could, is_seat, Counts, named_by, ready_by}
 use Rattle.explaining.specs.declared.naming.Naming.TheVariants.{Own, CouldBefore, Named}
 use Rattle.explaining.specs.Naming.{naming_by, seat_named}
 

@@ -1,9 +1,7 @@
 -- What a ledger represents after an entry, legal or not.
 use Rattle.std.proofs.Common.{◌≡◌, ◌<◌, Bool, true, false, List, ◌∷◌, refl}
-use Rattle.history.specs.declared.entry.Entry.{Entry}
-use Rattle.history.specs.Start.{Start}
+use Rattle.explaining.specs.Below.{Entry, Start, IsNext, LedgerStand}
 use Rattle.audit.specs.declared.ledger.Ledger.{Ledger}
-use Rattle.audit.specs.Ledger.{IsNext, LedgerStand}
 use Rattle.explaining.specs.Ways.{steps_of, ways_of}
 use Rattle.explaining.proofs.Listed.{any_is_it, any_made, is_tried, made_any}
 

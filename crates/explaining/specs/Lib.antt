@@ -1,3 +1,4 @@
+pub mod Below
 pub mod Why
 pub mod Ways
 pub mod Naming

@@ -1,11 +1,6 @@
 -- Whom an entry names, and why.
 use Rattle.std.specs.Prelude.{ℕ, ◌==◌, if◌then◌else◌, List, ◌∷◌, Option, Some, None}
-use Rattle.history.specs.declared.arrival.Arrival.{Arrival}
-use Rattle.history.specs.declared.entry.Entry.{Entry}
-use Rattle.history.specs.Could.{is_seat}
-use Rattle.history.specs.Line.{first_of, line}
-use Rattle.history.specs.Naming.{ready}
-use Rattle.history.specs.Start.{Start}
+use Rattle.explaining.specs.Below.{Arrival, Entry, is_seat, first_of, line, ready, Start}
 use Rattle.explaining.specs.declared.naming.Naming.{Naming}
 use Rattle.explaining.specs.declared.naming.Naming.TheVariants.{NobodyWaits, CannotGo, Own, CouldBefore, Named}
 

@@ -1,11 +1,7 @@
 -- Which entries can be folded into a base that was read.
 use Rattle.std.specs.Prelude.{ℕ, ◌+◌, ◌*◌, nat_le, Bool, true, ◌&&◌, List}
 use Rattle.std.specs.List.{list_all}
-use Rattle.history.specs.declared.base.SeatBase.{SeatBase}
-use Rattle.history.specs.declared.header.Object.{Object}
-use Rattle.history.specs.declared.header.Object.TheVariants.{Lock, ReadWrite, Semaphore, Latch}
-use Rattle.history.specs.declared.limits.TheConstants.{MOST_AMOUNT, MOST_FOLDED}
-use Rattle.history.specs.Base.{Base}
+use Rattle.explaining.specs.Below.{SeatBase, Object, Lock, ReadWrite, Semaphore, Latch, MOST_AMOUNT, MOST_FOLDED, Base}
 
 -- whether each seat holds at most so many permits
 abbrev pub few_permits : ℕ → List SeatBase → Bool

@@ -1,18 +1,8 @@
 -- The steps that a seat could take, and what each of them makes.
 use Rattle.std.specs.Prelude.{ℕ, zero, suc, Bool, false, if◌then◌else◌, List, [], ◌∷◌, ◌++◌, Option, Some, None, Result, Ok, Err}
 use Rattle.std.specs.List.{flat_map}
-use Rattle.history.specs.declared.entry.Entry.{Entry}
-use Rattle.history.specs.declared.entry.Mode.{Mode}
-use Rattle.history.specs.declared.entry.Mode.TheVariants.{X, S}
-use Rattle.history.specs.declared.fault.Fault.{Fault}
-use Rattle.history.specs.declared.header.Header.{Header}
-use Rattle.history.specs.declared.header.Object.{Object}
-use Rattle.history.specs.declared.step.Step.{Step}
-use Rattle.history.specs.declared.step.Step.TheVariants.{Acquire, Try, TryFair, EntryInterrupt, Give, Look, Expire, Interrupt, Await, Signal, SignalAll, Drain}
+use Rattle.explaining.specs.Below.{Entry, Mode, X, S, Fault, Header, Object, Step, Acquire, Try, TryFair, EntryInterrupt, Give, Look, Expire, Interrupt, Await, Signal, SignalAll, Drain, is_semaphore, Start, entry_for}
 use Rattle.history.specs.contracts.entry.EntryPartialEq.TheImpl as entries
-use Rattle.history.specs.Object.{is_semaphore}
-use Rattle.history.specs.Start.{Start}
-use Rattle.history.specs.Steps.{entry_for}
 use Rattle.explaining.specs.declared.way.Way.{Way}
 use Rattle.explaining.specs.Why.{why_of}
 

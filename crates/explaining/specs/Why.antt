@@ -1,18 +1,6 @@
 -- Which case decides what a step makes.
 use Rattle.std.specs.Prelude.{ℕ, ◌==◌, nat_lt, Bool, ◌&&◌, ◌||◌, if◌then◌else◌, List, Option, Some, None}
-use Rattle.history.specs.declared.arrival.Arrival.{Arrival}
-use Rattle.history.specs.declared.entry.Entry.{Entry}
-use Rattle.history.specs.declared.entry.Mode.{Mode}
-use Rattle.history.specs.declared.entry.Mode.TheVariants.{X}
-use Rattle.history.specs.declared.entry.Word.{Word}
-use Rattle.history.specs.declared.entry.Word.TheVariants.{Got, TryGot, Queued, Granted, Missed, Back}
-use Rattle.history.specs.declared.step.Step.{Step}
-use Rattle.history.specs.declared.step.Step.TheVariants.{Try}
-use Rattle.history.specs.Could.{held_back, try_held_back}
-use Rattle.history.specs.Counts.{Counts, counts}
-use Rattle.history.specs.Line.{first_mode, first_of, line, place_of}
-use Rattle.history.specs.Object.{is_lock}
-use Rattle.history.specs.Start.{Start}
+use Rattle.explaining.specs.Below.{Arrival, Entry, Mode, X, Word, Got, TryGot, Queued, Granted, Missed, Back, Step, Try, held_back, try_held_back, Counts, counts, first_mode, first_of, line, place_of, is_lock, Start}
 use Rattle.explaining.specs.declared.why.Why.{Why}
 use Rattle.explaining.specs.declared.why.Why.TheVariants.{HeldBack, CouldNot, Again, Could, First, Behind, Cannot, Asleep, Plain}
 

@@ -1,19 +1,8 @@
 -- Steps and trims done in turn.
-use Rattle.std.proofs.Common.{◌≡◌, ◌≢◌, ⊎_elim, ℕ, ◌+◌, false, cond, ltb, List, [], ◌∷◌, ◌++◌, length, Result, Ok, Err, refl, ap, ◌∙◌, sym, subst}
-use Rattle.std.proofs.lemmas.Bool.{lt-ltb, le-ltb, cases_lt}
-use Rattle.history.specs.declared.fault.Fault.{Fault}
-use Rattle.history.specs.declared.fault.Fault.TheVariants.{OutOfMemory, TrimFull}
-use Rattle.history.specs.declared.step.Step.{Step}
-use Rattle.history.specs.Answers.{answer}
-use Rattle.history.specs.Base.{folded}
-use Rattle.history.specs.GoodBase.{most_folded}
-use Rattle.frame.specs.declared.acts.Act.{Act}
-use Rattle.frame.specs.declared.acts.Act.TheVariants.{Do, Trim}
-use Rattle.frame.specs.declared.acts.Done.{Done}
-use Rattle.frame.specs.declared.acts.Done.TheVariants.{Trimmed}
-use Rattle.history.specs.Marks.{marks_after}
-use Rattle.frame.specs.Acts.{AreDone, IsDone, IsOutcome, NoneLacks, Outcome, as_answered, as_trimmed, behind_one, marks_behind, outcome}
-use Rattle.frame.specs.Core.{CoreView, IsTrimmed, marks_of, start_of}
+use Rattle.std.proofs.Common.{◌≡◌, ◌≢◌, ⊎_elim, ℕ, ◌+◌, false, cond, ltb, List, [], ◌∷◌, ◌++◌, length, Result, Ok, Err, refl, ap, ◌∙◌, sym, subst, lt-ltb, le-ltb}
+use Rattle.std.proofs.lemmas.Bool.{cases_lt}
+use Rattle.frame.specs.Below.{Fault, OutOfMemory, TrimFull, Step, answer, folded, most_folded, marks_after}
+use Rattle.frame.specs.Prelude.{Act, Do, Trim, Done, Trimmed, AreDone, IsDone, IsOutcome, NoneLacks, Outcome, as_answered, as_trimmed, behind_one, marks_behind, outcome, CoreView, IsTrimmed, marks_of, start_of}
 use Rattle.frame.proofs.Runs.{answered_so}
 
 -- one act more

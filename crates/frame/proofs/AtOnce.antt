@@ -1,43 +1,14 @@
 -- An entry that moves nobody, while nobody stands in line.
-use Rattle.std.proofs.Common.{◌≡◌, ℕ, ◌+◌, Bool, true, false, cond, eqb, not, ◌&&◌, List, [], ◌∷◌, length, Option, Some, None, Result, Ok, refl, ap, ◌∙◌, sym, subst, arith}
+use Rattle.std.proofs.Common.{◌≡◌, ◌⊎◌, inl, inr, ℕ, ◌+◌, Bool, true, false, cond, eqb, not, ◌&&◌, List, [], ◌∷◌, length, Option, Some, None, Result, Ok, refl, ap, ◌∙◌, sym, subst, arith, is_none, is_some, IfSome, int_lt, ℤ, pos, ◌+ℤ◌, eqb-true}
 use Rattle.std.proofs.Math.Bool.{and-false}
-use Rattle.std.specs.Prelude.{is_none, is_some, IfSome, int_lt, ℤ, pos, ◌+ℤ◌}
-use Rattle.std.proofs.lemmas.Bool.{eqb-true}
-use Rattle.acquire_queue.specs.Line.{Line}
-use Rattle.condition_queue.specs.Following.{JoinedBy, Keeps, line_behind}
+use Rattle.frame.specs.Below.{Line, JoinedBy, Keeps, line_behind, Sleepers, asleep_on, available, refused_as, Arrival, Entry, Mode, Word, Fault, Header, Object, Semaphore, Policy, Step, Acquire, Try, TryFair, Give, held_back, is_reentrant, Counts, counts, HistoryView, start_on, max_amount, first_mode, first_of, line, mode_of, place_of, named_by, ready, ready_by, is_semaphore, is_strict, Idle, phase_by, waits, sleepers, sleepers_after, sleeps_below, Start, acquired, entry_for, gave, idle_entry, plain, tried, tried_fairly}
 use Rattle.condition_queue.specs.declared.sleeper.Sleeper.{Sleeper}
-use Rattle.condition_queue.specs.Sleepers.{Sleepers, asleep_on}
 use Rattle.condition_queue.proofs.Movable.{keeps_next, line_next}
-use Rattle.deciding.specs.Balance.{available}
-use Rattle.deciding.specs.Checks.{refused_as}
 use Rattle.deciding.proofs.InPhase.{entry_admitted, in_phase_made}
-use Rattle.history.specs.declared.arrival.Arrival.{Arrival}
-use Rattle.history.specs.declared.entry.Entry.{Entry}
-use Rattle.history.specs.declared.entry.Mode.{Mode}
-use Rattle.history.specs.declared.entry.Word.{Word}
 use Rattle.history.specs.declared.entry.Word.TheVariants as word
-use Rattle.history.specs.declared.fault.Fault.{Fault}
 use Rattle.history.specs.declared.fault.Fault.TheVariants as fault
-use Rattle.history.specs.declared.header.Header.{Header}
-use Rattle.history.specs.declared.header.Object.{Object}
-use Rattle.history.specs.declared.header.Object.TheVariants.{Semaphore}
-use Rattle.history.specs.declared.header.Policy.{Policy}
-use Rattle.history.specs.declared.step.Step.{Step}
-use Rattle.history.specs.declared.step.Step.TheVariants.{Acquire, Try, TryFair, Give}
-use Rattle.history.specs.Could.{held_back, is_reentrant}
-use Rattle.history.specs.Counts.{Counts, counts}
-use Rattle.history.specs.Entries.{HistoryView, start_on}
-use Rattle.history.specs.Faults.{max_amount}
-use Rattle.history.specs.Line.{first_mode, first_of, line, mode_of, place_of}
-use Rattle.history.specs.Naming.{named_by, ready, ready_by}
-use Rattle.history.specs.Object.{is_semaphore, is_strict}
-use Rattle.history.specs.Phase.{Idle, phase_by, waits}
-use Rattle.history.specs.Sleepers.{sleepers, sleepers_after, sleeps_below}
-use Rattle.history.specs.Start.{Start}
-use Rattle.history.specs.Steps.{acquired, entry_for, gave, idle_entry, plain, tried, tried_fairly}
-use Rattle.frame.specs.AtOnce.{Gives, IsAtOnce, entry_at_once}
+use Rattle.frame.specs.Prelude.{Gives, IsAtOnce, entry_at_once, CoreView, counts_of, start_of, IsAdded}
 use Rattle.frame.specs.inner.AtOnce.{IsAlone, IsIdle, Takes, moves_nobody}
-use Rattle.frame.specs.Core.{CoreView, counts_of, start_of, IsAdded}
 use Rattle.frame.proofs.Stepping.{Names}
 
 -- who waits, behind such an entry
@@ -219,29 +190,28 @@ made_as v i step was e w m n is q shown moves made =
       nobody = ap (λ (x : Entry). moves_nobody x.word) q ∙ moves;
     }
 
-pub acquires : (v : CoreView) (i : ℕ) (step : Step) (e : Entry) (m : Mode) (n : ℕ) → step ≡ Acquire m n →
-    e ≡ plain i word.Got m n → IsAlone v i → Takes v i (Acquire m n) m n → IsMade v i step e
-acquires v i step e m n is q alone t =
+-- an acquire and a try in fair order make the same entry
+pub acquires : (v : CoreView) (i : ℕ) (step : Step) (e : Entry) (m : Mode) (n : ℕ) →
+    (step ≡ Acquire m n) ⊎ (step ≡ TryFair m n) → e ≡ plain i word.Got m n → IsAlone v i → Takes v i step m n →
+    IsMade v i step e
+acquires v i step e m n (inl is) q alone t =
     made_as v i step (Acquire m n) e word.Got m n is q refl refl
-    (acquires_so v i m n alone t)
-
-pub tries_fairly : (v : CoreView) (i : ℕ) (step : Step) (e : Entry) (m : Mode) (n : ℕ) → step ≡ TryFair m n →
-    e ≡ plain i word.Got m n → IsAlone v i → Takes v i (TryFair m n) m n → IsMade v i step e
-tries_fairly v i step e m n is q alone t =
+    (acquires_so v i m n alone (subst (λ x. Takes v i x m n) is t))
+acquires v i step e m n (inr is) q alone t =
     made_as v i step (TryFair m n) e word.Got m n is q refl refl
-    (fairly_so v i m n alone t)
+    (fairly_so v i m n alone (subst (λ x. Takes v i x m n) is t))
 
 pub tries : (v : CoreView) (i : ℕ) (step : Step) (e : Entry) (m : Mode) (n : ℕ) → step ≡ Try m n →
-    e ≡ plain i word.TryGot m n → IsAlone v i → Takes v i (Try m n) m n → IsMade v i step e
+    e ≡ plain i word.TryGot m n → IsAlone v i → Takes v i step m n → IsMade v i step e
 tries v i step e m n is q alone t =
     made_as v i step (Try m n) e word.TryGot m n is q refl refl
-    (tries_so v i m n alone t)
+    (tries_so v i m n alone (subst (λ x. Takes v i x m n) is t))
 
 pub releases : (v : CoreView) (i : ℕ) (step : Step) (e : Entry) (m : Mode) (n : ℕ) → step ≡ Give m n →
-    e ≡ plain i word.Gave m n → IsAlone v i → Gives v i (Give m n) m n → IsMade v i step e
+    e ≡ plain i word.Gave m n → IsAlone v i → Gives v i step m n → IsMade v i step e
 releases v i step e m n is q alone t =
     made_as v i step (Give m n) e word.Gave m n is q refl refl
-    (gives_so v i m n (idle_of v i alone) t)
+    (gives_so v i m n (idle_of v i alone) (subst (λ x. Gives v i x m n) is t))
 
 -- an entry that was added
 pub at_once : (v new : CoreView) (i : ℕ) (step : Step) (e : Entry) (r : Option Entry) → IsMade v i step e →
@@ -251,17 +221,14 @@ at_once v new i step e (Some it) made is =
     subst (λ x. IsAtOnce v i step x new) (sym is.0) (record { is = made.entry; made = made.is; added = is.1 })
 
 -- permits that may be given back
-pub gives_permits : (v : CoreView) (i : ℕ) (step : Step) (m : Mode) (n : ℕ) (p : Policy) (permits free : ℤ)
-    (few : Bool) → refused_as v.header step ≡ None → v.header.object ≡ Semaphore p permits →
-    (start_of v).header ≡ v.header → free ≡ available (start_of v) v.entries →
-    few ≡ not (int_lt (pos max_amount) (free +ℤ pos n)) → few ≡ true → Gives v i step m n
-gives_permits v i step m n p permits free few admitted is same has within t =
-    record {
-      admitted = admitted;
-      gives = ap (λ o. gave o (counts_of v) i m n) is
-          ∙ ap (λ b. cond b (word.Refused fault.TooManyPermits) word.Gave)
-          (ap (λ z. int_lt (pos max_amount) (z +ℤ pos n)) (sym all) ∙ fits _ (sym within ∙ t));
-    }
+pub gives_permits : (v : CoreView) (i : ℕ) (m : Mode) (n : ℕ) (p : Policy) (permits free : ℤ) (few : Bool) →
+    v.header.object ≡ Semaphore p permits → (start_of v).header ≡ v.header →
+    free ≡ available (start_of v) v.entries → few ≡ not (int_lt (pos max_amount) (free +ℤ pos n)) →
+    few ≡ true → gave v.header.object (counts_of v) i m n ≡ word.Gave
+gives_permits v i m n p permits free few is same has within t =
+    ap (λ o. gave o (counts_of v) i m n) is
+    ∙ ap (λ b. cond b (word.Refused fault.TooManyPermits) word.Gave)
+    (ap (λ z. int_lt (pos max_amount) (z +ℤ pos n)) (sym all) ∙ fits _ (sym within ∙ t))
   where
     all : free ≡ (counts_of v).free
     all = has ∙ ap (λ (o : Object). cond (is_semaphore o) (counts_of v).free (pos 0))

@@ -1,24 +1,14 @@
 -- Who owns, and how many permits are free.
-use Rattle.std.proofs.Common.{◌≡◌, ℕ, zero, suc, ◌<◌, Bool, true, false, ltb, List, [], ◌∷◌, length, get_or, Option, Some, None, refl, ap, ◌∙◌, sym, arith, ℤ, pos, ◌≤ℤ◌}
-use Rattle.std.specs.Prelude.{slice_get, is_some}
+use Rattle.std.proofs.Common.{◌≡◌, ℕ, zero, suc, ◌<◌, Bool, true, false, ltb, List, [], ◌∷◌, length, get_or, Option, Some, None, refl, ap, ◌∙◌, sym, arith, ℤ, pos, ◌≤ℤ◌, slice_get, is_some, lt-ltb, le-ltb}
 use Rattle.std.specs.List.{list_any}
-use Rattle.std.proofs.lemmas.Bool.{lt-ltb, le-ltb, or_left, or_right, or_from}
+use Rattle.std.proofs.lemmas.Bool.{or_left, or_right, or_from}
 use Rattle.std.proofs.lemmas.Option.{slice_get-get_or, slice_get_within}
-use Rattle.history.specs.declared.entry.Entry.{Entry}
+use Rattle.frame.specs.Below.{Entry, Policy, max_amount, Semaphore, counts, owner, is_semaphore, Start, IsHistory}
 use Rattle.std.specs.Int.{w64}
 use mir.Val.{to_z, of_z}
-use Rattle.history.specs.declared.header.Policy.{Policy}
-use Rattle.history.specs.Faults.{max_amount}
-use Rattle.history.specs.declared.header.Object.TheVariants.{Semaphore}
-use Rattle.history.specs.Counts.{counts, owner}
-use Rattle.history.specs.Object.{is_semaphore}
-use Rattle.history.specs.Start.{Start}
 use Rattle.history.proofs.Owners.{owner_holds, nobody_holds}
-use Rattle.deciding.specs.ObjectState.{IsHistory}
 use Rattle.deciding.proofs.Bounds.{free_most}
-use Rattle.frame.specs.declared.seat.Seat.{Seat}
-use Rattle.frame.specs.Hooks.{level_of, level_by}
-use Rattle.frame.specs.Seat.{IsSeat, no_holds}
+use Rattle.frame.specs.Prelude.{Seat, level_of, level_by, IsSeat, no_holds}
 
 -- the free permits that the hooks of a semaphore count
 pub level_most : (s : Start) (h : List Entry) (p : Policy) (n z : ℤ) → IsHistory s h →

@@ -1,26 +1,12 @@
 -- The entries of the commonest steps that are not done at once.
-use Rattle.std.proofs.Common.{◌≡◌, ℕ, Bool, true, false, cond, eqb, not, ◌&&◌, ◌||◌, List, [], ◌∷◌, Option, Some, None, Ok, refl, ap, ◌∙◌, sym}
-use Rattle.std.specs.Prelude.{is_none, is_some}
-use Rattle.std.proofs.lemmas.Bool.{and_parts, both_ways, eq-eqb, eqb-true}
+use Rattle.std.proofs.Common.{◌≡◌, ℕ, Bool, true, false, cond, eqb, not, ◌&&◌, ◌||◌, List, [], ◌∷◌, Option, Some, None, Ok, refl, ap, ◌∙◌, sym, is_none, is_some, eq-eqb, eqb-true}
+use Rattle.std.proofs.lemmas.Bool.{and_parts, both_ways}
 use Rattle.condition_queue.specs.declared.sleeper.Sleeper.{Sleeper}
-use Rattle.deciding.specs.Checks.{refused_as}
+use Rattle.frame.specs.Below.{refused_as, Arrival, Entry, Mode, Fault, Acquire, Look, could, held_back, is_seat, limit, Counts, first_of, line, place_of, ready_by, InLine, phase_by, sleeps_below, Start, back, ended, entry_for, line_entry, queued_entry}
 use Rattle.deciding.proofs.InPhase.{entry_admitted, in_phase_made}
-use Rattle.history.specs.declared.arrival.Arrival.{Arrival}
 use Rattle.history.specs.declared.entry.End.TheVariants as end
-use Rattle.history.specs.declared.entry.Entry.{Entry}
-use Rattle.history.specs.declared.entry.Mode.{Mode}
 use Rattle.history.specs.declared.entry.Word.TheVariants as word
-use Rattle.history.specs.declared.fault.Fault.{Fault}
 use Rattle.history.specs.declared.fault.Fault.TheVariants as fault
-use Rattle.history.specs.declared.step.Step.TheVariants.{Acquire, Look}
-use Rattle.history.specs.Could.{could, held_back, is_seat, limit}
-use Rattle.history.specs.Counts.{Counts}
-use Rattle.history.specs.Line.{first_of, line, place_of}
-use Rattle.history.specs.Naming.{ready_by}
-use Rattle.history.specs.Phase.{InLine, phase_by}
-use Rattle.history.specs.Sleepers.{sleeps_below}
-use Rattle.history.specs.Start.{Start}
-use Rattle.history.specs.Steps.{back, ended, entry_for, line_entry, queued_entry}
 use Rattle.frame.specs.inner.AtOnce.{IsIdle, Takes, may_acquire, queues}
 use Rattle.frame.specs.Core.{CoreView, counts_of, start_of}
 use Rattle.frame.specs.inner.Core.{first_mode_of, ready_of}

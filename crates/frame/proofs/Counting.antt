@@ -1,34 +1,15 @@
 -- What an entry makes of the counts, and that the counts allow it.
-use Rattle.std.proofs.Common.{◌≡◌, ℕ, ◌+◌, ◌-◌, ◌<◌, ◌≤◌, Bool, true, false, not, ◌&&◌, cond, eqb, ltb, List, ◌∷◌, Some, Result, Ok, Err, refl, ap, ◌∙◌, sym, subst, arith}
+use Rattle.std.proofs.Common.{◌≡◌, ℕ, ◌+◌, ◌-◌, ◌<◌, ◌≤◌, Bool, true, false, not, ◌&&◌, cond, eqb, ltb, List, ◌∷◌, Some, Result, Ok, Err, refl, ap, ◌∙◌, sym, subst, arith, eq-eqb}
 use mathlib.Core.Path.{fun_ext}
-use Rattle.std.proofs.lemmas.Bool.{eq-eqb}
-use Rattle.history.specs.declared.arrival.Arrival.{Arrival}
-use Rattle.history.specs.declared.entry.Entry.{Entry}
-use Rattle.history.specs.declared.entry.Mode.{Mode}
-use Rattle.history.specs.declared.entry.Mode.TheVariants.{X, S}
-use Rattle.history.specs.declared.entry.Word.{Word}
+use Rattle.frame.specs.Below.{Arrival, Entry, Mode, X, S, Word, Fault, Object, Lock, ReadWrite, Semaphore, Latch, given_of, gave_back, counted_down, could, is_seat, Counts, counts, held, holds_after, free, free_after, counted, counted_after, owner, same_mode, line, place_of, is_lock, is_latch, is_semaphore, opening_count, last_sleep, Start, gave, at_least_none, ended, back, most_exclusive}
 use Rattle.history.specs.declared.entry.Word.TheVariants as word
-use Rattle.history.specs.declared.fault.Fault.{Fault}
 use Rattle.history.specs.declared.fault.Fault.TheVariants as fault
-use Rattle.history.specs.declared.header.Object.{Object}
-use Rattle.history.specs.declared.header.Object.TheVariants.{Lock, ReadWrite, Semaphore, Latch}
-use Rattle.history.specs.Changes.{given_of, gave_back, counted_down}
-use Rattle.history.specs.Could.{could, is_seat}
-use Rattle.history.specs.Counts.{Counts, counts, held, holds_after, free, free_after, counted, counted_after, owner}
-use Rattle.history.specs.Entry.{same_mode}
-use Rattle.history.specs.Line.{line, place_of}
-use Rattle.history.specs.Object.{is_lock, is_latch, is_semaphore, opening_count}
-use Rattle.history.specs.Sleepers.{last_sleep}
-use Rattle.history.specs.Start.{Start}
-use Rattle.history.specs.Steps.{gave, at_least_none, ended, back}
 use Rattle.history.proofs.Changes.{either_way}
 use Rattle.history.proofs.Entering.{Known, KnownBy}
 use Rattle.history.proofs.OneWait.{Waits}
 use Rattle.history.proofs.Owners.{ready_could}
 use Rattle.history.proofs.WhoWaits.{comes_back}
-use Rattle.frame.specs.Effects.{counts_after, IsAllowed, IsTakeable}
-use Rattle.frame.specs.Hooks.{IsRestorable, let_go_answer, drain_answer_of, hold_limit}
-use Rattle.history.specs.Ownership.{most_exclusive}
+use Rattle.frame.specs.Prelude.{counts_after, IsAllowed, IsTakeable, IsRestorable, let_go_answer, drain_answer_of, hold_limit}
 
 -- the counts behind an entry of a word
 abbrev counts_with : Start → List Entry → Entry → Word → Counts

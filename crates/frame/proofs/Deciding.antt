@@ -1,11 +1,7 @@
 -- Who is ready, who sleeps, and the entry that a step makes.
-use Rattle.std.proofs.Common.{◌≡◌, ℕ, ◌<◌, arith, Option, Some, None, Ok, sym, subst}
-use Rattle.std.specs.Prelude.{Result, Err, IfOk, IfSome}
-use Rattle.history.specs.declared.entry.Entry.{Entry}
-use Rattle.history.specs.declared.fault.Fault.{Fault}
-use Rattle.history.specs.declared.step.Step.{Step}
+use Rattle.std.proofs.Common.{◌≡◌, ℕ, ◌<◌, arith, Option, Some, None, Ok, sym, subst, Result, Err, IfOk, IfSome}
+use Rattle.frame.specs.Below.{Entry, Fault, Step, entry_for}
 use Rattle.history.proofs.Answering.{entry_seat}
-use Rattle.history.specs.Steps.{entry_for}
 use Rattle.frame.specs.Core.{CoreView, start_of, IsNext}
 
 -- the entry that a step makes may be added now

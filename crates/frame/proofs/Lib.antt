@@ -1,5 +1,6 @@
 pub mod Deciding
 pub mod Seats
+pub mod Calls
 pub mod Telling
 pub mod Counting
 pub mod Bounds
@@ -11,6 +12,7 @@ pub mod ByKind
 pub mod Owners
 pub mod Tables
 pub mod Opening
+pub mod Written
 pub mod Trimming
 pub mod Runs
 pub mod Acting

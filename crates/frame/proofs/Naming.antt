@@ -1,26 +1,9 @@
 -- Whom an entry names: nobody where the hooks let nobody go, and else the first in line, where it can go now.
-use Rattle.std.proofs.Common.{◌≡◌, ◌≢◌, ⊎_elim, ℕ, ◌<◌, ◌≤◌, Bool, true, false, cond, eqb, List, [], ◌∷◌, ◌++◌, map, take, Option, Some, None, refl, ap, ◌∙◌, sym, subst, arith}
+use Rattle.std.proofs.Common.{◌≡◌, ◌≢◌, ⊎_elim, ℕ, ◌<◌, ◌≤◌, Bool, true, false, cond, eqb, List, [], ◌∷◌, ◌++◌, map, take, Option, Some, None, refl, ap, ◌∙◌, sym, subst, arith, IfSome, eq-eqb, ne_eqb, true≢false}
 use Rattle.std.specs.List.{AllByRecursion}
-use Rattle.std.specs.Prelude.{IfSome}
-use Rattle.std.proofs.lemmas.Bool.{cases_eq, cond_both, eq-eqb, ne_eqb, true≢false}
-use Rattle.history.specs.declared.arrival.Arrival.{Arrival}
-use Rattle.history.specs.declared.entry.Entry.{Entry}
-use Rattle.history.specs.declared.entry.Mode.TheVariants.{X}
-use Rattle.history.specs.declared.entry.Word.{Word}
+use Rattle.std.proofs.lemmas.Bool.{cases_eq, cond_both}
+use Rattle.frame.specs.Below.{Arrival, Entry, X, Word, Header, Object, Lock, ReadWrite, Semaphore, Latch, could, could_of, Counts, counts, owner, ends_arrival, max_amount, IsInRange, line, first_of, arrivals_by, coming_back, named, named_by, ready, ready_by, sleepers, Base, based, Start, IsHistory}
 use Rattle.history.specs.declared.entry.Word.TheVariants as word
-use Rattle.history.specs.declared.header.Header.{Header}
-use Rattle.history.specs.declared.header.Object.{Object}
-use Rattle.history.specs.declared.header.Object.TheVariants.{Lock, ReadWrite, Semaphore, Latch}
-use Rattle.history.specs.Could.{could, could_of}
-use Rattle.history.specs.Counts.{Counts, counts, owner}
-use Rattle.history.specs.Entry.{ends_arrival}
-use Rattle.history.specs.Faults.{max_amount}
-use Rattle.history.specs.Header.{IsInRange}
-use Rattle.history.specs.Line.{line, first_of, arrivals_by, coming_back}
-use Rattle.history.specs.Naming.{named, named_by, ready, ready_by}
-use Rattle.history.specs.Sleepers.{sleepers}
-use Rattle.history.specs.Base.{Base, based}
-use Rattle.history.specs.Start.{Start}
 use Rattle.history.proofs.Asking.{AsksFew}
 use Rattle.history.proofs.SmallHolds.{asks_small}
 use Rattle.history.proofs.Changes.{all_stay}
@@ -28,7 +11,6 @@ use Rattle.history.proofs.Entering.{KnownBy}
 use Rattle.history.proofs.LineLemmas.{line_after}
 use Rattle.frame.specs.Effects.{OpensNobody, counts_after, may_name}
 use Rattle.frame.specs.inner.Effects.{asks_before}
-use Rattle.deciding.specs.ObjectState.{IsHistory}
 use Rattle.deciding.proofs.Bounds.{first_below}
 use Rattle.frame.proofs.Recording.{names_below}
 use Rattle.frame.proofs.Stepping.{Next}

@@ -1,24 +1,12 @@
 -- A core that was just opened.
 use Rattle.std.proofs.Common.{◌≡◌, ℕ, List, [], length, get_or, replicate, Some, refl, ap, ◌∙◌, sym, subst, arith}
 use Rattle.std.proofs.lemmas.List.{length-replicate, get_or-replicate}
-use Rattle.acquire_queue.specs.Line.{Line}
-use Rattle.condition_queue.specs.Following.{Keeps}
-use Rattle.condition_queue.specs.Sleepers.{Sleepers, asleep_on}
-use Rattle.history.specs.declared.header.Header.{Header}
-use Rattle.history.specs.Base.{Base, based, opening_base}
-use Rattle.history.specs.Counts.{Counts, counts}
-use Rattle.history.specs.Entries.{HistoryView}
-use Rattle.history.specs.Fold.{MayFold}
-use Rattle.history.specs.Header.{IsInRange}
-use Rattle.history.specs.Marks.{AreRight, unmarked}
-use Rattle.history.specs.Room.{owed}
-use Rattle.history.specs.Start.{Start, opening}
+use Rattle.frame.specs.Below.{Line, Keeps, Sleepers, asleep_on, Header, Base, based, opening_base, Counts, counts, HistoryView, MayFold, IsInRange, AreRight, unmarked, owed, Start, opening}
 use Rattle.history.proofs.Marking.{opening_right}
 use Rattle.history.proofs.OpeningBase.{based_opening}
 use Rattle.history.proofs.RoomLemmas.{nothing_owed}
-use Rattle.frame.specs.declared.seat.Seat.{Seat}
-use Rattle.frame.specs.Core.{IsInStep}
-use Rattle.frame.specs.Seat.{IsSeat, no_holds}
+use Rattle.frame.specs.Prelude.{Seat, IsInStep, AreCalled, IsSeat, no_holds}
+use Rattle.frame.proofs.Calls.{called_opened}
 use Rattle.frame.proofs.Seats.{seat_free}
 use Rattle.frame.proofs.Telling.{marks_free}
 
@@ -53,6 +41,7 @@ opening_stands agrees k b kept queue waiters table range opens may told is line 
           subst (IsSeat (based b) [] i)
           (sym (ap (λ t. get_or t i no_holds) free ∙ get_or-replicate k.seats i no_holds no_holds l))
           (here.seat i);
+      called = subst (λ x. AreCalled k.seats x [] table) (sym opens) (called_opened k table free);
       told = subst (AreRight (based b) []) (sym (marks_free k.seats table free)) here.right;
       cap = refl;
       owed = sym here.owed;

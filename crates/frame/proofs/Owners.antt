@@ -1,16 +1,9 @@
 -- What a take, a give and the like make of an owner and its holds.
-use Rattle.std.proofs.Common.{◌≡◌, ◌≢◌, ⊎_elim, ℕ, ◌+◌, ◌-◌, ◌<◌, ◌≤◌, Bool, true, false, ◌&&◌, cond, eqb, Option, Some, None, refl, ap, ◌∙◌, sym, subst, arith, zero-add}
-use Rattle.std.proofs.lemmas.Bool.{cases_eq, ltb-true, leb-true, eqb-true, ne_eqb, eq-eqb, and_parts, and_from, lt-ltb, le-leb}
-use Rattle.history.specs.declared.entry.Mode.{Mode}
-use Rattle.history.specs.declared.entry.Mode.TheVariants.{X, S}
-use Rattle.history.specs.Changes.{holds_with, took, gave_back, restored}
-use Rattle.history.specs.Could.{is_none_or}
-use Rattle.history.specs.Counts.{Counts, owner, seat_with}
-use Rattle.history.specs.Object.{in_holds}
+use Rattle.std.proofs.Common.{◌≡◌, ◌≢◌, ⊎_elim, ℕ, ◌+◌, ◌-◌, ◌<◌, ◌≤◌, Bool, true, false, ◌&&◌, cond, eqb, Option, Some, None, refl, ap, ◌∙◌, sym, subst, arith, zero-add, ltb-true, leb-true, eqb-true, ne_eqb, eq-eqb, lt-ltb, le-leb}
+use Rattle.std.proofs.lemmas.Bool.{cases_eq, and_parts, and_from}
+use Rattle.frame.specs.Below.{Mode, X, S, holds_with, took, gave_back, restored, is_none_or, Counts, owner, seat_with, in_holds, Object}
 use Rattle.history.proofs.Sums.{seat_with_none, seat_with_one}
-use Rattle.history.specs.declared.header.Object.{Object}
-use Rattle.frame.specs.Hooks.{AreAlike, opening_counts}
-use Rattle.frame.specs.Owners.{holds_of, owner_in, is_owner_in, is_owned, Owns}
+use Rattle.frame.specs.Prelude.{AreAlike, opening_counts, holds_of, owner_in, is_owner_in, is_owned, Owns}
 
 -- the holds of the owner, and of any other seat
 at_own : (holds i : ℕ) → cond (eqb i i) holds 0 ≡ holds

@@ -1,19 +1,8 @@
 -- What is answered where an entry was added, or not.
-use Rattle.std.proofs.Common.{◌≡◌, inl, ℕ, ◌<◌, eqb, true, not, ◌&&◌, ◌∷◌, ◌++◌, Option, Some, None, Result, Ok, refl, ap, ◌∙◌, sym, subst}
-use Rattle.std.specs.Prelude.{IfOk, IfSome, IsOk, OnErr, Err, ◌⊎◌}
+use Rattle.std.proofs.Common.{◌≡◌, inl, ℕ, ◌<◌, eqb, true, not, ◌&&◌, ◌∷◌, ◌++◌, Option, Some, None, Result, Ok, refl, ap, ◌∙◌, sym, subst, IfOk, IfSome, IsOk, OnErr, Err, ◌⊎◌}
 use Rattle.std.proofs.lemmas.Bool.{cond_both}
-use Rattle.history.specs.Could.{is_seat}
+use Rattle.frame.specs.Below.{is_seat, Entry, Mode, Refused, Fault, OutOfMemory, Answer, Recorded, Sleep, Step, answer_by, recorded, named, named_by, has_room, was_owed, entry_for, held, same_mode}
 use Rattle.history.proofs.Answering.{entry_seat}
-use Rattle.history.specs.declared.entry.Entry.{Entry}
-use Rattle.history.specs.declared.fault.Fault.{Fault}
-use Rattle.history.specs.declared.fault.Fault.TheVariants.{OutOfMemory}
-use Rattle.history.specs.declared.step.Answer.{Answer}
-use Rattle.history.specs.declared.step.Answer.TheVariants.{Recorded, Sleep}
-use Rattle.history.specs.declared.step.Step.{Step}
-use Rattle.history.specs.Answers.{answer_by, recorded}
-use Rattle.history.specs.Naming.{named, named_by}
-use Rattle.history.specs.Room.{has_room, was_owed}
-use Rattle.history.specs.Steps.{entry_for}
 use Rattle.frame.specs.Core.{
   CoreView,
   made_by,
@@ -31,6 +20,7 @@ use Rattle.frame.specs.Core.{
   LacksMemory,
   NamesBelow,
 }
+use Rattle.frame.specs.inner.Core.{IsEntered}
 use Rattle.frame.specs.Tidied.{HasTidied, WasTidied}
 use Rattle.frame.proofs.Telling.{marks_slept}
 
@@ -80,20 +70,33 @@ names_below seats e before after name below is =
     by (Some j) l = cond_both (not (eqb j e.seat) && not (is_seat before j)) (Some j) None
         (λ x. IfSome x (λ k. k < seats)) (λ t. l) (λ t. tt)
 
--- what is known of an entry that was recorded, or not
-pub record Entered (v : CoreView) (e : Entry) (r : Result Answer Fault) (new : CoreView) : Type 0 where
-  pub recorded : IsRecorded v e r new
-  pub told : IsTold v e.seat r new
-  pub header : new.header ≡ v.header
-  pub base : new.base ≡ v.base
-  pub fault : OnErr r (new ≡ v)
-  pub places : new.places ≡ places_behind v r
-  pub refused : IfOk r (λ answer. KeepsHolds v e.seat answer new)
-  pub owed : was_owed v.header.object e ≡ true → IsOk r
-  pub grown : new.entries ≡ made_by r ++ v.entries
-  pub own : IfOk r (λ answer. IsOf e.seat answer)
-  pub names : IfOk r (λ answer. NamesBelow v.header.seats answer)
-  pub tidied : IfOk r (λ answer. HasTidied e.seat answer)
+-- a refusal leaves all holds as they were
+keeps_holds : (v new : CoreView) (e : Entry) (f : Fault) → e.word ≡ Refused f → new.entries ≡ e ∷ v.entries →
+    (i : ℕ) (m : Mode) → held (start_of v) new.entries i m ≡ held (start_of v) v.entries i m
+keeps_holds v new e f refused grown i m =
+    let had = held (start_of v) v.entries i m in
+    let same : held (start_of v) (e ∷ v.entries) i m ≡ had =
+    rw refused (cond_both (eqb e.seat i && same_mode e.mode m) had had (λ x. x ≡ had) (λ t. refl) (λ t. refl)) in
+    ap (λ h. held (start_of v) h i m) grown ∙ same
+
+pub entered : (v new : CoreView) (e : Entry) (name : Option ℕ) → IsAdded v e (Ok name) new →
+    IfSome name (λ j. j < v.header.seats) → IsEntered v e (Ok (Recorded e name)) new
+entered v new e name is below =
+    let grown = ap (λ (w : CoreView). w.entries) is.2 in
+    record {
+      recorded = recorded_now v new e name is;
+      told = is.3;
+      header = ap (λ (w : CoreView). w.header) is.2;
+      base = ap (λ (w : CoreView). w.base) is.2;
+      fault = tt;
+      places = ap (λ (w : CoreView). w.places) is.2;
+      refused = λ f q. (grown, keeps_holds v new e f q grown);
+      owed = λ _. refl;
+      grown = grown;
+      own = refl;
+      names = below;
+      tidied = tt;
+    }
 
 answered_by : (v new : CoreView) (i : ℕ) (step : Step) (e : Entry) (r : Result Answer Fault) →
     entry_for (start_of v) v.entries i step ≡ Ok (Some e) → IsRecorded v e r new → IsAnswered v i step r new
@@ -106,7 +109,7 @@ same_entry x y q = cc
 
 -- so a step was answered that makes it
 pub stepped : (v new : CoreView) (i : ℕ) (step : Step) (e : Entry) (r : Result Answer Fault) →
-    entry_for (start_of v) v.entries i step ≡ Ok (Some e) → Entered v e r new → IsStepped v i step r new
+    entry_for (start_of v) v.entries i step ≡ Ok (Some e) → IsEntered v e r new → IsStepped v i step r new
 stepped v new i step e r made is =
     let own : e.seat ≡ i = entry_seat (start_of v) v.entries i step e made in
     record {
@@ -150,6 +153,31 @@ waited v new i step made is tidied =
       names = tt;
       tidied = tidied;
     })
+
+-- a step that can't be made changes nothing
+pub failed : (v : CoreView) (i : ℕ) (step : Step) (f : Fault) →
+    entry_for (start_of v) v.entries i step ≡ Err f → IsStepped v i step (Err f) v
+failed v i step f made =
+    record {
+      answered = inl (record {
+        answer = sym (ap (λ m. (answer_by (start_of v) v.entries m).0) made);
+        entries = sym (ap (λ m. (answer_by (start_of v) v.entries m).1) made);
+        header = refl;
+        base = refl;
+        places = refl;
+      });
+      told = refl;
+      header = refl;
+      base = refl;
+      fault = refl;
+      places = refl;
+      refused = tt;
+      owed = λ m. absurd (let some = m.1 in cc (made, some));
+      grown = refl;
+      own = tt;
+      names = tt;
+      tidied = tt;
+    }
 
 -- an entry that is made, by what it was called
 pub made_plain : (r : Result (Option Entry) Fault) (x e : Entry) → r ≡ Ok (Some e) → x ≡ e → r ≡ Ok (Some x)

@@ -1,12 +1,6 @@
 -- Steps answered in turn.
 use Rattle.std.proofs.Common.{◌≡◌, ◌≢◌, ⊎_elim, ℕ, List, [], ◌∷◌, ◌++◌, Result, Err, refl, ap, ◌∙◌, subst}
-use Rattle.history.specs.declared.fault.Fault.{Fault}
-use Rattle.history.specs.declared.fault.Fault.TheVariants.{OutOfMemory}
-use Rattle.history.specs.declared.step.Answer.{Answer}
-use Rattle.history.specs.declared.step.Step.{Step}
-use Rattle.history.specs.Answers.{answer, results}
-use Rattle.history.specs.Base.{Base, based}
-use Rattle.history.specs.Marks.{marks, marks_after}
+use Rattle.frame.specs.Below.{Fault, OutOfMemory, Answer, Step, answer, results, Base, based, marks, marks_after}
 use Rattle.frame.specs.Core.{CoreView, marks_of, start_of, IsAnswer, IsAnswered, IsTold, LacksMemory}
 use Rattle.frame.specs.Runs.{AreAnswered, AreResults, NoneLacksMemory}
 

@@ -1,28 +1,12 @@
 -- What the table of seats tells of a history.
-use Rattle.std.proofs.Common.{◌≡◌, ◌≢◌, ⊎_elim, ℕ, true, cond, List, [], ◌∷◌, refl, ap, ◌∙◌, sym}
-use Rattle.std.proofs.lemmas.Bool.{eq-eqb}
-use Rattle.history.specs.declared.entry.Entry.{Entry}
-use Rattle.history.specs.declared.entry.Mode.{Mode}
-use Rattle.history.specs.declared.entry.Mode.TheVariants.{X, S}
-use Rattle.history.specs.declared.entry.Word.{Word}
-use Rattle.history.specs.declared.entry.Word.TheVariants.{Await, Lapse}
-use Rattle.history.specs.declared.header.Object.{Object}
-use Rattle.history.specs.Base.{Base, based, folded}
-use Rattle.history.specs.Counts.{held, holds_after}
-use Rattle.history.specs.Entry.{is_exclusive, same_mode}
-use Rattle.history.specs.Ownership.{is_away}
-use Rattle.history.specs.Phase.{phase}
-use Rattle.history.specs.Sleepers.{last_sleep, sleep_after}
-use Rattle.history.specs.Start.{Start}
+use Rattle.std.proofs.Common.{◌≡◌, ◌≢◌, ⊎_elim, ℕ, true, cond, List, [], ◌∷◌, refl, ap, ◌∙◌, sym, eq-eqb}
+use Rattle.frame.specs.Below.{Entry, Mode, X, S, Word, Await, Lapse, Object, Base, based, folded, held, holds_after, is_exclusive, same_mode, is_away, phase, last_sleep, sleep_after, Start, LastSleep, sleep_of}
 use Rattle.history.proofs.Alike.{Alike, away_alike, phase_alike}
 use Rattle.history.proofs.Away.{was_away}
 use Rattle.history.proofs.Entering.{Known}
 use Rattle.history.proofs.OneWait.{Waits}
 use Rattle.history.proofs.SleepLemmas.{held_other, last_sleep_other}
-use Rattle.deciding.specs.declared.sleep.LastSleep.{LastSleep}
-use Rattle.deciding.specs.Sleep.{sleep_of}
-use Rattle.frame.specs.declared.seat.Seat.{Seat}
-use Rattle.frame.specs.Seat.{IsSeat, no_holds, seat_after, sleep_behind}
+use Rattle.frame.specs.Prelude.{Seat, IsSeat, no_holds, seat_after, sleep_behind}
 
 -- a seat that did nothing yet
 pub seat_free : (s : Start) (i : ℕ) → ((m : Mode) → held s [] i m ≡ 0) →

@@ -1,26 +1,8 @@
 -- What stands for a history stands for it with one entry more.
-use Rattle.std.proofs.Common.{◌≡◌, ◌≢◌, ◌⊎◌, ⊎_elim, ◌↔◌, ℕ, ◌+◌, ◌-◌, ◌^◌, ◌<◌, ◌≤◌, max, Bool, true, false, List, ◌∷◌, length, get_or, set, Option, Some, Result, Ok, Err, refl, ap, ◌∙◌, sym, subst, arith}
-use Rattle.std.proofs.lemmas.Bool.{cases_eq, le-leb, lt-leb, cases_lt}
-use Rattle.std.proofs.lemmas.List.{length-set, get_or-set_same, get_or-set_other}
-use Rattle.acquire_queue.specs.Line.{Line}
-use Rattle.condition_queue.specs.Sleepers.{Sleepers}
-use Rattle.history.specs.declared.entry.Entry.{Entry}
-use Rattle.history.specs.declared.fault.Fault.{Fault}
+use Rattle.std.proofs.Common.{◌≡◌, ◌≢◌, ◌⊎◌, ⊎_elim, ◌↔◌, ℕ, ◌+◌, ◌-◌, ◌^◌, ◌<◌, ◌≤◌, max, Bool, true, false, List, ◌∷◌, length, get_or, set, Option, Some, Result, Ok, Err, refl, ap, ◌∙◌, sym, subst, arith, le-leb, length-set, get_or-set_same, get_or-set_other, IfSome}
+use Rattle.std.proofs.lemmas.Bool.{cases_eq, lt-leb, cases_lt}
+use Rattle.frame.specs.Below.{Line, Sleepers, Entry, Fault, Step, entry_for, Header, Base, based, Counts, counts, HistoryView, base_on, or_opening, start_on, MayFold, IsInRange, AreRight, remarked, named, ready, whole_pages, CanFold, owed, was_owed, releases, reserves, IsHistory, JoinedBy, Keeps}
 use Rattle.history.specs.declared.fault.Fault.TheVariants as fault
-use Rattle.history.specs.declared.step.Step.{Step}
-use Rattle.history.specs.Steps.{entry_for}
-use Rattle.std.specs.Prelude.{IfSome}
-use Rattle.history.specs.declared.header.Header.{Header}
-use Rattle.history.specs.Base.{Base, based}
-use Rattle.history.specs.Counts.{Counts, counts}
-use Rattle.history.specs.Entries.{HistoryView, base_on, or_opening, start_on}
-use Rattle.history.specs.Fold.{MayFold}
-use Rattle.history.specs.Header.{IsInRange}
-use Rattle.history.specs.Marks.{AreRight, remarked}
-use Rattle.history.specs.Naming.{named, ready}
-use Rattle.history.specs.Pages.{whole_pages}
-use Rattle.history.specs.Point.{CanFold}
-use Rattle.history.specs.Room.{owed, was_owed, releases, reserves}
 use Rattle.history.proofs.RoomLemmas.{owed_releases}
 use Rattle.history.proofs.Entering.{Known, known}
 use Rattle.history.proofs.GoodBases.{good_waits}
@@ -28,12 +10,8 @@ use Rattle.history.proofs.Marking.{right_recorded, right_slept}
 use Rattle.history.proofs.OneWait.{Waits, waits_from}
 use Rattle.history.proofs.Owing.{owed_known}
 use Rattle.history.proofs.SmallHolds.{exclusive_small, shared_small}
-use Rattle.deciding.specs.ObjectState.{IsHistory}
-use Rattle.frame.specs.declared.seat.Seat.{Seat}
-use Rattle.condition_queue.specs.Following.{JoinedBy, Keeps}
-use Rattle.frame.specs.Core.{CoreView, IsInStep, IsNext, IsAdded, with_history}
-use Rattle.frame.specs.Effects.{IsAllowed, counts_after}
-use Rattle.frame.specs.Seat.{IsSeat, marks_in, no_holds, seat_after, told_in, with_mark}
+use Rattle.frame.specs.Prelude.{Seat, CoreView, IsInStep, IsNext, IsAdded, with_history, IsAllowed, counts_after, AreCalled, IsSeat, marks_in, no_holds, seat_after, told_in, with_mark}
+use Rattle.frame.proofs.Calls.{called_mark, called_next, called_telling, few_calls}
 use Rattle.frame.proofs.Counting.{allowed, counts_next}
 use Rattle.frame.proofs.Seats.{seat_next, seat_other}
 use Rattle.frame.proofs.Telling.{length_telling, marks_behind, marks_untold, table_behind, tabled_mark, tabled_telling, told_behind}
@@ -146,6 +124,19 @@ shared_next k b h e x range n short is =
     let c = range.cap in
     let q = (own_next k b h e x n is).shared in
     omega (arith, l, q, c, short)
+
+-- and for one call more
+pub calls_next : {agrees : Counts → Type 0} {queue : Line} {waiters : Sleepers} {table : List Seat}
+    (k : Header) (kept : HistoryView) (i : ℕ) → IsInStep agrees k kept queue waiters table → i < k.seats →
+    (get_or table i no_holds).calls + 1 < 2 ^ 64
+calls_next k kept i s l =
+    let same = ap (λ (x : Header). x.seats) s.based in
+    let few = few_calls (base_on k kept) kept.entries i s.may_fold.can.good (omega (arith, l, same)) in
+    let is = s.called i l in
+    let r = s.room in
+    let c = s.range.cap in
+    let t = s.may_fold.can.good.entries in
+    omega (arith, few, is, r, c, t)
 
 -- no more is released than was owed and is reserved
 pub within : (k : Header) (b : Base) (h : List Entry) (e : Entry) (was : ℕ) → Next k b h e →
@@ -361,6 +352,12 @@ stands_next agrees agrees' k kept kept' queue queue' waiters waiters' table tabl
           (sym (length-set table e.seat _)) below)
           (tabled_next k base kept.entries e table s.seats n s.tabled)
           i l)));
+      called = subst (λ b. AreCalled k.seats b kept'.entries table') (sym same)
+          (subst (λ g. AreCalled k.seats base g table') (sym entries)
+          (subst (AreCalled k.seats base (e ∷ kept.entries)) (sym is)
+          (called_telling k.seats base (e ∷ kept.entries) name mid
+          (subst (λ m. IfSome name (λ j. j < m)) (sym (length-set table e.seat _)) below)
+          (called_next k.seats base kept.entries e k.object table s.seats n.seat s.called))));
       told = subst (λ b. AreRight (based b) kept'.entries (marks_in table')) (sym same)
           (subst (λ g. AreRight (based base) g (marks_in table')) (sym entries)
           (subst (λ t. AreRight (based base) (e ∷ kept.entries) (marks_in t)) (sym is)
@@ -409,6 +406,8 @@ stands_untold agrees k kept queue waiters table table' i s below waits is =
       seats = length-set table i _ ∙ s.seats;
       tabled = tabled_mark (start_on k kept) kept.entries k.seats false i table
           (let z = s.seats in omega (arith, below, z)) s.tabled;
+      called = called_mark k.seats (base_on k kept) kept.entries false i table
+          (let z = s.seats in omega (arith, below, z)) s.called;
       told = subst (AreRight (start_on k kept) kept.entries)
           (sym (marks_untold (start_on k kept) kept.entries table i))
           (right_slept (start_on k kept) kept.entries i (marks_in table) waits s.told);

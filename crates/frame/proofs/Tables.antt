@@ -1,8 +1,8 @@
 -- The sum of a table with a number for each seat.
-use Rattle.std.proofs.Common.{◌≡◌, ◌≢◌, ⊎_elim, ℕ, zero, suc, ◌+◌, ◌<◌, ◌≤◌, List, length, length-set, get_or, slice_index, refl, arith}
+use Rattle.std.proofs.Common.{◌≡◌, ◌≢◌, ⊎_elim, ℕ, zero, suc, ◌+◌, ◌<◌, ◌≤◌, List, length, length-set, get_or, slice_index, refl, arith, get_or-set_same, get_or-set_other}
 use Rattle.std.proofs.Math.ListN.{set, replicate, length-replicate, get_or-eq_default}
 use Rattle.std.proofs.lemmas.Bool.{cases_lt}
-use Rattle.std.proofs.lemmas.List.{get_or-set_same, get_or-set_other, get_or-replicate}
+use Rattle.std.proofs.lemmas.List.{get_or-replicate}
 use Rattle.history.specs.Counts.{total}
 use Rattle.history.proofs.Sums.{total_change}
 use Rattle.history.proofs.Times.{total_part}

@@ -1,21 +1,10 @@
 -- The marks of a table of seats.
-use Rattle.std.proofs.Common.{◌≡◌, ⊎_elim, ℕ, ◌<◌, ◌≤◌, Bool, true, false, not, ◌&&◌, ◌||◌, cond, eqb, List, length, get_or, set, replicate, Option, Some, None, Ok, refl, ap, ◌∙◌, sym, subst, arith}
-use Rattle.std.specs.Prelude.{IfSome}
-use Rattle.std.proofs.lemmas.Bool.{cases_eq, cases_lt, eq-eqb, ne_eqb}
-use Rattle.std.proofs.lemmas.List.{get_or-map, get_or-replicate, get_or-set_other, get_or-set_same, get_or_past, length-map, length-replicate, length-set, map-set}
-use Rattle.history.specs.declared.entry.Entry.{Entry}
-use Rattle.history.specs.declared.header.Header.{Header}
-use Rattle.history.specs.declared.header.Object.{Object}
-use Rattle.history.specs.declared.step.Answer.TheVariants.{Recorded, Sleep}
-use Rattle.history.specs.Could.{is_seat}
-use Rattle.history.specs.Entries.{HistoryView, start_on}
-use Rattle.history.specs.Marks.{StandInLine, marks_after, own_mark, remarked, unmarked}
-use Rattle.history.specs.Naming.{named}
-use Rattle.history.specs.Start.{Start}
+use Rattle.std.proofs.Common.{◌≡◌, ⊎_elim, ℕ, ◌<◌, ◌≤◌, Bool, true, false, not, ◌&&◌, ◌||◌, cond, eqb, List, length, get_or, set, replicate, Option, Some, None, Ok, refl, ap, ◌∙◌, sym, subst, arith, IfSome, eq-eqb, ne_eqb, get_or-set_other, get_or-set_same, length-set}
+use Rattle.std.proofs.lemmas.Bool.{cases_eq, cases_lt}
+use Rattle.std.proofs.lemmas.List.{get_or-map, get_or-replicate, get_or_past, length-map, length-replicate, map-set}
+use Rattle.frame.specs.Below.{Entry, Header, Object, Recorded, Sleep, is_seat, HistoryView, start_on, StandInLine, marks_after, own_mark, remarked, unmarked, named, Start}
 use Rattle.history.proofs.Marking.{remarked_is}
-use Rattle.frame.specs.declared.seat.Seat.{Seat}
-use Rattle.frame.specs.Core.{CoreView, IsTold, marks_of, start_of, unmarked_at, with_history}
-use Rattle.frame.specs.Seat.{IsSeat, marks_in, no_holds, seat_after, telling, told_in, with_mark}
+use Rattle.frame.specs.Prelude.{Seat, CoreView, IsTold, marks_of, start_of, unmarked_at, with_history, IsSeat, marks_in, no_holds, seat_after, telling, told_in, with_mark}
 
 -- the list of the marks of a table has the mark of each seat
 pub marks_at : (t : List Seat) (i : ℕ) → get_or (told_in t) i false ≡ marks_in t i

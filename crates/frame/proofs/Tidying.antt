@@ -1,8 +1,6 @@
 -- A queue without a cancelled node is tidy.
-use Rattle.std.proofs.Common.{◌≡◌, ℕ, zero, suc, ◌≤◌, Bool, true, false, cond, List, [], ◌∷◌, length, Some, refl, ap, ◌∙◌, arith}
-use Rattle.std.specs.Prelude.{slice_get}
-use Rattle.acquire_queue.specs.Line.{live, IsTidy}
-use Rattle.node_arena.specs.declared.node.NumberedNode.{NumberedNode}
+use Rattle.std.proofs.Common.{◌≡◌, ℕ, zero, suc, ◌≤◌, Bool, true, false, cond, List, [], ◌∷◌, length, Some, refl, ap, ◌∙◌, arith, slice_get}
+use Rattle.frame.specs.Below.{live, IsTidy, NumberedNode}
 
 live_few : (nodes : List NumberedNode) → length (live nodes) ≤ length nodes
 live_few [] = omega arith

@@ -1,14 +1,7 @@
 -- What a list of steps and trims returns, and the state after it.
 use Rattle.std.specs.Prelude.{◌≡◌, ◌≢◌, ◌<◌, ℕ, Bool, ◌+◌, nat_lt, if◌then◌else◌, List, [], ◌∷◌, length, Result, Ok, Err}
 use Rattle.std.specs.List.{AllByRecursion}
-use Rattle.history.specs.declared.entry.Entry.{Entry}
-use Rattle.history.specs.declared.fault.Fault.{Fault}
-use Rattle.history.specs.declared.fault.Fault.TheVariants.{OutOfMemory, TrimFull}
-use Rattle.history.specs.declared.step.Answer.{Answer}
-use Rattle.history.specs.Answers.{answer}
-use Rattle.history.specs.Base.{Base, based, folded}
-use Rattle.history.specs.GoodBase.{most_folded}
-use Rattle.history.specs.Marks.{marks_after}
+use Rattle.frame.specs.Below.{Entry, Fault, OutOfMemory, TrimFull, Answer, answer, Base, based, folded, most_folded, marks_after}
 use Rattle.frame.specs.declared.acts.Act.{Act}
 use Rattle.frame.specs.declared.acts.Act.TheVariants.{Do, Trim}
 use Rattle.frame.specs.declared.acts.Done.{Done}

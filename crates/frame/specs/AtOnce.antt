@@ -1,13 +1,7 @@
 -- What is done at once.
 use Rattle.std.specs.Prelude.{◌≡◌, ℕ, None, Ok, Some}
-use Rattle.deciding.specs.Checks.{refused_as}
-use Rattle.history.specs.declared.entry.Entry.{Entry}
-use Rattle.history.specs.declared.entry.Mode.{Mode}
-use Rattle.history.specs.declared.entry.Mode.TheVariants.{X}
+use Rattle.frame.specs.Below.{refused_as, Entry, Mode, X, Step, Acquire, Try, TryFair, Give, entry_for, gave, plain}
 use Rattle.history.specs.declared.entry.Word.TheVariants as word
-use Rattle.history.specs.declared.step.Step.{Step}
-use Rattle.history.specs.declared.step.Step.TheVariants.{Acquire, Try, TryFair, Give}
-use Rattle.history.specs.Steps.{entry_for, gave, plain}
 use Rattle.frame.specs.Core.{CoreView, counts_of, start_of, IsAdded}
 
 -- the object has such a step, and its seat releases

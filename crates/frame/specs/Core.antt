@@ -27,35 +27,9 @@ use Rattle.std.specs.Prelude.{
   OnErr,
   ◌++◌,
 }
-use Rattle.acquire_queue.specs.Line.{Line}
-use Rattle.condition_queue.specs.Following.{JoinedBy, Keeps}
-use Rattle.condition_queue.specs.Sleepers.{Sleepers}
-use Rattle.deciding.specs.ObjectState.{IsHistory}
-use Rattle.history.specs.declared.entry.Entry.{Entry}
-use Rattle.history.specs.declared.entry.Mode.{Mode}
-use Rattle.history.specs.declared.entry.Word.TheVariants.{Refused}
-use Rattle.history.specs.declared.fault.Fault.{Fault}
-use Rattle.history.specs.declared.fault.Fault.TheVariants.{HistoryFull, OutOfMemory, TrimFull}
-use Rattle.history.specs.declared.header.Header.{Header}
-use Rattle.history.specs.declared.header.Object.{Object}
-use Rattle.history.specs.declared.step.Answer.{Answer}
-use Rattle.history.specs.declared.step.Answer.TheVariants.{Recorded, Sleep}
-use Rattle.history.specs.declared.step.Step.{Step}
-use Rattle.history.specs.Answers.{answer, recorded}
-use Rattle.history.specs.Base.{Base, based, folded}
-use Rattle.history.specs.Counts.{Counts, counts, held}
-use Rattle.history.specs.Entries.{HistoryView, base_on, start_on}
-use Rattle.history.specs.Fold.{MayFold}
-use Rattle.history.specs.GoodBase.{most_folded}
-use Rattle.history.specs.Header.{IsInRange}
-use Rattle.history.specs.Marks.{AreRight, marks_after}
-use Rattle.history.specs.Naming.{named}
-use Rattle.history.specs.Pages.{whole_pages}
-use Rattle.history.specs.Room.{owed, has_room, was_owed}
-use Rattle.history.specs.Start.{Start}
-use Rattle.history.specs.Steps.{entry_for}
+use Rattle.frame.specs.Below.{Line, JoinedBy, Keeps, Sleepers, IsHistory, Entry, Mode, Refused, Fault, HistoryFull, OutOfMemory, TrimFull, Header, Object, Answer, Recorded, Sleep, Step, answer, recorded, Base, based, folded, Counts, counts, held, HistoryView, base_on, start_on, MayFold, most_folded, IsInRange, AreRight, marks_after, named, whole_pages, owed, has_room, was_owed, Start, entry_for}
 use Rattle.frame.specs.declared.seat.Seat.{Seat}
-use Rattle.frame.specs.Seat.{IsSeat, marks_in, no_holds}
+use Rattle.frame.specs.Seat.{AreCalled, IsSeat, marks_in, no_holds}
 use Rattle.frame.specs.Tidied.{HasTidied}
 
 -- the header of an object as opened
@@ -113,6 +87,7 @@ pub record IsInStep (agrees : Counts → Type 0) (k : Header) (kept : HistoryVie
   pub seats : length table ≡ k.seats
   pub tabled : (i : ℕ) → i < k.seats →
       IsSeat (start_on k kept) kept.entries i (slice_index_or table i no_holds)
+  pub called : AreCalled k.seats (base_on k kept) kept.entries table
   pub told : AreRight (start_on k kept) kept.entries (marks_in table)
   pub cap : kept.cap ≡ k.cap
   pub owed : kept.owed ≡ owed (start_on k kept) kept.entries

@@ -1,23 +1,6 @@
 -- How an entry changes the counts, and what it requires of them.
 use Rattle.std.specs.Prelude.{◌≡◌, ◌<◌, ℕ, Bool, true, false, Ok}
-use Rattle.history.specs.declared.entry.Entry.{Entry}
-use Rattle.history.specs.declared.entry.Word.{Word}
-use Rattle.history.specs.declared.entry.Word.TheVariants.{
-  Got,
-  TryGot,
-  Granted,
-  Gave,
-  Counted,
-  Await,
-  Back,
-  Drained,
-  Left,
-}
-use Rattle.history.specs.Changes.{took, given, let_go, restored, drained}
-use Rattle.history.specs.Could.{could}
-use Rattle.history.specs.Counts.{Counts}
-use Rattle.history.specs.Object.{is_semaphore}
-use Rattle.history.specs.Steps.{gave}
+use Rattle.frame.specs.Below.{Entry, Word, Got, TryGot, Granted, Gave, Counted, Await, Back, Drained, Left, took, given, let_go, restored, drained, could, Counts, is_semaphore, gave}
 use Rattle.frame.specs.Hooks.{IsRestorable, NobodyElse, NobodyElseNew, let_go_answer, drain_answer}
 
 abbrev pub counts_after : Word → Counts → Entry → Counts

@@ -1,19 +1,8 @@
 -- What the hooks' results mean.
 use Rattle.std.specs.Prelude.{◌≡◌, ◌≢◌, ℕ, ◌<◌, ◌≤◌, ◌==◌, nat_lt, Bool, true, false, ◌||◌, not, if◌then◌else◌, Option, Some, None, Result, Ok, Err, [], ℤ, pos}
-use Rattle.history.specs.declared.entry.Mode.{Mode}
-use Rattle.history.specs.declared.entry.Mode.TheVariants.{X, S}
-use Rattle.history.specs.declared.entry.Word.{Word}
+use Rattle.frame.specs.Below.{Mode, X, S, Word, Fault, Object, Lock, ReadWrite, Semaphore, Latch, could, is_seat, max_holds, max_shared, Counts, counts, owner, readers, max_amount, is_lock, is_semaphore, opening, gave, at_least_none}
 use Rattle.history.specs.declared.entry.Word.TheVariants as word
-use Rattle.history.specs.declared.fault.Fault.{Fault}
 use Rattle.history.specs.declared.fault.Fault.TheVariants as fault
-use Rattle.history.specs.declared.header.Object.{Object}
-use Rattle.history.specs.declared.header.Object.TheVariants.{Lock, ReadWrite, Semaphore, Latch}
-use Rattle.history.specs.Could.{could, is_seat, max_holds, max_shared}
-use Rattle.history.specs.Counts.{Counts, counts, owner, readers}
-use Rattle.history.specs.Faults.{max_amount}
-use Rattle.history.specs.Object.{is_lock, is_semaphore}
-use Rattle.history.specs.Start.{opening}
-use Rattle.history.specs.Steps.{gave, at_least_none}
 use Rattle.frame.specs.declared.hooks.Line.{Line}
 use Rattle.frame.specs.declared.hooks.Line.TheVariants.{Empty, FirstX, FirstS}
 use Rattle.frame.specs.declared.hooks.Gave.{Gave}

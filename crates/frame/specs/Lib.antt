@@ -1,3 +1,5 @@
+pub mod Prelude
+pub mod Below
 pub mod Hooks
 pub mod Seat
 pub mod Effects

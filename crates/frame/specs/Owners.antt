@@ -1,8 +1,6 @@
 -- Exclusive holds of an object with one owner: who it is, and how many it has.
 use Rattle.std.specs.Prelude.{◌≡◌, ℕ, ◌<◌, ◌==◌, nat_lt, nat_le, Bool, true, ◌&&◌, if◌then◌else◌, Option, Some, None}
-use Rattle.history.specs.declared.entry.Mode.TheVariants.{X}
-use Rattle.history.specs.Could.{is_seat}
-use Rattle.history.specs.Counts.{Counts}
+use Rattle.frame.specs.Below.{X, is_seat, Counts}
 
 -- the exclusive holds of a seat
 abbrev pub holds_of : Option ℕ → ℕ → ℕ → ℕ

@@ -1,12 +1,7 @@
 -- What a list of steps returns, and the state after it.
 use Rattle.std.specs.Prelude.{◌≡◌, ◌≢◌, ℕ, List, [], ◌∷◌, Result, Err}
 use Rattle.std.specs.List.{AllByRecursion}
-use Rattle.history.specs.declared.fault.Fault.{Fault}
-use Rattle.history.specs.declared.fault.Fault.TheVariants.{OutOfMemory}
-use Rattle.history.specs.declared.step.Answer.{Answer}
-use Rattle.history.specs.declared.step.Step.{Step}
-use Rattle.history.specs.Answers.{results}
-use Rattle.history.specs.Marks.{marks}
+use Rattle.frame.specs.Below.{Fault, OutOfMemory, Answer, Step, results, marks}
 use Rattle.frame.specs.Core.{CoreView, marks_of, start_of, IsAnswered, IsTold}
 
 -- each step is answered in turn, on the state after the one before

@@ -1,26 +1,13 @@
 -- What the core keeps of a seat, and what it means.
-use Rattle.std.specs.Prelude.{◌≡◌, ℕ, Bool, true, false, if◌then◌else◌, List, map, Option, Some, None, slice_index_or, slice_set}
+use Rattle.std.specs.Prelude.{◌≡◌, ◌<◌, ◌+◌, ℕ, Bool, true, false, if◌then◌else◌, List, map, Option, Some, None, slice_index_or, slice_set}
 use Rattle.history.specs.declared.entry.End.TheVariants as end
-use Rattle.history.specs.declared.entry.Entry.{Entry}
-use Rattle.history.specs.declared.entry.Mode.{Mode}
-use Rattle.history.specs.declared.entry.Mode.TheVariants.{X, S}
-use Rattle.history.specs.declared.entry.Word.{Word}
-use Rattle.history.specs.declared.entry.Word.TheVariants.{Await, Lapse}
-use Rattle.history.specs.declared.header.Object.{Object}
-use Rattle.history.specs.Counts.{held, holds_after}
-use Rattle.history.specs.Entry.{is_exclusive}
-use Rattle.history.specs.Marks.{own_mark}
-use Rattle.history.specs.Ownership.{is_away}
-use Rattle.history.specs.Phase.{phase}
-use Rattle.history.specs.Sleepers.{last_sleep}
-use Rattle.history.specs.Start.{Start}
-use Rattle.deciding.specs.declared.sleep.LastSleep.{LastSleep}
-use Rattle.deciding.specs.Sleep.{sleep_of}
+use Rattle.frame.specs.Below.{Entry, Mode, X, S, Word, Await, Lapse, Object, Base, calls_of, held, holds_after, ends_call, is_exclusive, own_mark, is_away, phase, last_sleep, Start, LastSleep, sleep_of}
 use Rattle.frame.specs.declared.seat.Seat.{Seat}
 
 abbrev pub no_holds : Seat
 no_holds =
     record {
+      calls = 0;
       exclusive = 0;
       shared = 0;
       sleep = record { condition = 0; holds = 0; how = end.None };
@@ -40,6 +27,7 @@ sleep_behind _ e was = was
 abbrev pub seat_after : Object → Entry → Seat → Seat
 seat_after o e was =
     record {
+      calls = was.calls + (if ends_call e.word then 1 else 0);
       exclusive = if is_exclusive e.mode then holds_after o e.word e.n was.exclusive else was.exclusive;
       shared = if is_exclusive e.mode then was.shared else holds_after o e.word e.n was.shared;
       sleep = sleep_behind e.word e was.sleep;
@@ -72,3 +60,7 @@ pub record IsSeat (s : Start) (h : List Entry) (i : ℕ) (x : Seat) : Type 0 whe
   pub exclusive : x.exclusive ≡ held s h i X
   pub shared : x.shared ≡ held s h i S
   pub sleep : is_away (phase s h i) ≡ true → sleep_of x.sleep ≡ last_sleep s h i
+
+-- Each of the first n seats has the calls that it ended, with those before the base.
+abbrev pub AreCalled : ℕ → Base → List Entry → List Seat → Type 0
+AreCalled n b h seats = (i : ℕ) → i < n → (slice_index_or seats i no_holds).calls ≡ calls_of b h i

@@ -1,7 +1,6 @@
 -- That the cancelled nodes right before a seat's were freed.
 use Rattle.std.specs.Prelude.{ℕ}
-use Rattle.history.specs.declared.step.Answer.{Answer}
-use Rattle.history.specs.declared.step.Answer.TheVariants.{Recorded, Sleep}
+use Rattle.frame.specs.Below.{Answer, Recorded, Sleep}
 
 -- They were freed, if there were any. What it means stays hidden. So only a function that calls `tidy_before` can meet
 -- a contract that promises it.

@@ -2,3 +2,4 @@
 pub mod AtOnce
 pub mod Core
 pub mod Effects
+pub mod Snapshot

@@ -41,7 +41,8 @@
 //!
 //! [`Core::trim`](machine::Core::trim) folds all entries into the history's base, which keeps all that the
 //! definitions ask of them. Their places become free. The rest of the core depends on base and list together,
-//! so a trim doesn't change it.
+//! so a trim doesn't change it. Nor does a trim look at the entries: the rest of the core says what they come
+//! to, and the base is written from that (`snapshot.rt`).
 //!
 //! Room is kept in the same way. A hold of a lock owes the entry of its release. A waiter owes the entries
 //! that end its wait and release what it acquires. As many places of the history stay reserved. So a release
@@ -67,6 +68,7 @@ pub mod hooks;
 pub mod machine;
 pub mod run;
 pub mod seat;
+mod snapshot;
 
 pub use deciding::balance::Balance;
 pub use history::step::{Answer, Step};

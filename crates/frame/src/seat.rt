@@ -1,16 +1,20 @@
 //! What the core keeps of each seat.
 
-ghost use Rattle.std.specs.Prelude.{◌≡◌, ◌+◌, ◌<◌, ◌^◌, length, slice_set, false, IfSome};
+ghost use Rattle.std.specs.Prelude.{◌≡◌, ◌+◌, ◌<◌, ◌^◌, length, if◌then◌else◌, slice_index_or, slice_set, false, IfSome};
+ghost use Rattle.history.specs.Entry.{ends_call};
 ghost use Rattle.frame.specs.Seat.{seat_after, seat_behind, no_holds, holds_in, telling, with_mark};
 
 use deciding::sleep::LastSleep;
+use history::entries::ends_call;
 use history::entry::{End, Entry, Mode, Word};
 use history::header::Object;
 use history::holds::holds_after;
 
-/// The holds of a seat, its last sleep, and whether it was told that it could go.
+/// The calls and holds of a seat, its last sleep, and whether it was told that it could go.
 #[derive(Clone, Copy, Debug, PartialEq, Eq)]
 pub struct Seat {
+    /// How many calls it ended, with those of folded entries.
+    pub calls: u64,
     pub exclusive: u32,
     /// Shared holds. Those of a semaphore may pass 64 bits.
     pub shared: u128,
@@ -19,11 +23,12 @@ pub struct Seat {
 }
 
 impl Seat {
-    /// Returns a seat that holds nothing and never slept.
+    /// Returns a seat that ended no call, holds nothing and never slept.
     pub fn free() -> Seat
         ensures { result ≡ no_holds }
     {
         Seat {
+            calls: 0,
             exclusive: 0,
             shared: 0,
             sleep: LastSleep {
@@ -47,10 +52,12 @@ impl Seat {
     /// Updates the record for an entry of its seat.
     #[inline(always)]
     pub fn follow(&mut self, object: Object, entry: Entry)
+        requires calls { self.old.calls + 1 < 2 ^ 64 }
         requires exclusive { (seat_after object entry self.old).exclusive < 2 ^ 32 }
         requires shared { (seat_after object entry self.old).shared < 2 ^ 128 }
         ensures { self.new ≡ seat_after object entry self.old }
     {
+        self.calls = calls_after(self.calls, entry.word);
         match entry.mode {
             Mode::X => {
                 self.exclusive = holds_after(object, entry, u128::from(self.exclusive)) as u32;
@@ -75,10 +82,20 @@ impl Seat {
     }
 }
 
+/// Returns how many calls a seat ended, after an entry with this word.
+#[inline(always)]
+fn calls_after(calls: u64, word: Word) -> u64
+    requires { calls + 1 < 2 ^ 64 }
+    ensures { result ≡ calls + (if ends_call word then 1 else 0) }
+{
+    calls + u64::from(ends_call(word))
+}
+
 /// Updates the record of the entry's seat in a table.
 #[inline(always)]
 pub fn update(seats: &mut Vec<Seat>, object: Object, entry: Entry)
     requires seat { entry.seat < length seats.old.items }
+    requires calls { (slice_index_or seats.old.items entry.seat no_holds).calls + 1 < 2 ^ 64 }
     requires exclusive { (seat_behind object entry seats.old.items).exclusive < 2 ^ 32 }
     requires shared { (seat_behind object entry seats.old.items).shared < 2 ^ 128 }
     ensures { seats.new.items

@@ -1,16 +1,6 @@
 -- What the calls of a lock leave of a pass's holds.
 use Rattle.std.proofs.Common.{◌≡◌, ◌+◌, true, Result, Ok, Err, IsOk, refl, sym, ap, ◌∙◌, arith, subst}
-use Rattle.history.specs.declared.entry.Entry.{Entry}
-use Rattle.history.specs.declared.fault.Fault.{Fault}
-use Rattle.history.specs.Object.{is_lock}
-use Rattle.permit.specs.Deed.{Deed}
-use Rattle.word_lock.specs.Ticket.{LockId}
-use Rattle.history.specs.declared.entry.Mode.TheVariants.{X}
-use Rattle.history.specs.declared.step.Step.TheVariants.{Try}
-use Rattle.monitor.specs.Shown.{Shown}
-use Rattle.monitor.specs.Stepping.{IsSame}
-use Rattle.monitor.specs.declared.room.WhenFull.{WhenFull}
-use Rattle.monitor_fronts.specs.Holding.{holds}
+use Rattle.guarded.specs.Below.{Entry, Fault, is_lock, Deed, LockId, X, Try, Shown, IsSame, WhenFull, holds}
 use Rattle.monitor_fronts.proofs.Counting.{of_lock}
 use Rattle.monitor_fronts.proofs.MakingRoom.{acquires_gain, awaits_keep, tries_gain}
 use Rattle.guarded.specs.declared.asking.Asked.{Asked}

@@ -1,31 +1,13 @@
 -- What the calls of a pool leave of the free permits, and so of the items that one has.
-use Rattle.std.proofs.Common.{◌≡◌, ℕ, Bool, true, false, cond, List, [], ◌∷◌, length, Option}
-use Rattle.std.proofs.Common.{None, IfErr, Result, Ok, Err, sym, ap, ◌∙◌, subst, arith}
-use Rattle.std.specs.Prelude.{ℤ, pos, ◌+ℤ◌, ◌-ℤ◌}
+use Rattle.std.proofs.Common.{◌≡◌, ℕ, Bool, true, false, cond, List, [], ◌∷◌, length, Option, None, IfErr, Result, Ok, Err, sym, ap, ◌∙◌, subst, arith, ℤ, pos, ◌+ℤ◌, ◌-ℤ◌}
 use Rattle.std.proofs.lemmas.Int.{ints}
-use Rattle.history.specs.declared.entry.Entry.{Entry}
-use Rattle.history.specs.declared.fault.Fault.{Fault}
-use Rattle.history.specs.Object.{is_semaphore}
-use Rattle.permit.specs.Deed.{Deed}
-use Rattle.word_lock.specs.Ticket.{LockId}
-use Rattle.monitor.specs.Acquire.{is_timed}
-use Rattle.monitor.specs.Load.{Moves, free_of}
-use Rattle.monitor.specs.Shown.{Shown, IsSound}
-use Rattle.monitor.specs.Stepping.{IsSame}
-use Rattle.monitor.specs.declared.how.How.{How}
-use Rattle.monitor.specs.declared.room.WhenFull.{WhenFull}
-use Rattle.monitor_fronts.specs.Permits.{if_ok}
-use Rattle.monitor_fronts.specs.Returned.{is_done, whether_of}
-use Rattle.monitor_fronts.proofs.Permits.{Acquiring, Left, MayTell, PermitCall, Releasing, Trying, free_if}
-use Rattle.monitor_fronts.proofs.Permits.{permits_left}
+use Rattle.guarded.specs.Below.{Entry, Fault, is_semaphore, Deed, LockId, is_timed, Moves, free_of, Shown, IsSound, IsSame, How, WhenFull, if_ok, is_done, whether_of}
+use Rattle.monitor_fronts.proofs.Permits.{Acquiring, Left, MayTell, PermitCall, Releasing, Trying, free_if, permits_left}
 use Rattle.guarded.specs.declared.asking.PoolCall.{PoolCall}
 use Rattle.guarded.specs.declared.asking.PoolCall.TheVariants as asks
 use Rattle.guarded.specs.declared.shelf.Shelf.{Shelf}
-use Rattle.guarded.specs.Asking.{yes_if_some}
-use Rattle.guarded.specs.Pooling.{Answers}
+use Rattle.guarded.specs.Prelude.{yes_if_some, Answers, IsOfSemaphore, MutexView, mutex_view}
 use Rattle.guarded.specs.inner.Pooling.{asked_by, brought_by, has_after, pool_call}
-use Rattle.guarded.specs.Shelved.{IsOfSemaphore}
-use Rattle.guarded.specs.Stowed.{MutexView, mutex_view}
 
 -- a call of a pool is one of its semaphore
 abbrev pub as_permits : PoolCall → PermitCall

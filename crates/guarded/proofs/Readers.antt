@@ -1,36 +1,17 @@
 -- What the calls of readers leave of a pass's holds.
-use Rattle.std.proofs.Common.{◌≡◌, ℕ, ◌<◌, true}
-use Rattle.std.proofs.Common.{Option, Some, Result, sym, ap, ◌∙◌, subst, arith}
+use Rattle.std.proofs.Common.{◌≡◌, ℕ, ◌<◌, true, Option, Some, Result, sym, ap, ◌∙◌, subst, arith}
 use Rattle.std.specs.Option.{IfSome}
-use Rattle.history.specs.declared.entry.Entry.{Entry}
-use Rattle.history.specs.declared.entry.Mode.{Mode}
-use Rattle.history.specs.declared.entry.Mode.TheVariants.{X, S}
-use Rattle.history.specs.declared.fault.Fault.{Fault}
-use Rattle.history.specs.Counts.{counts, held}
-use Rattle.history.specs.Object.{is_lock}
-use Rattle.history.specs.Start.{opening}
+use Rattle.guarded.specs.Below.{Entry, Mode, X, S, Fault, counts, held, is_lock, opening, Deed, start_at, holds_of, IsLook, Shown, IsSound, IsSame, WhenFull, holds, whether_of}
 use Rattle.history.proofs.GoodFolds.{owned_behind}
-use Rattle.permit.specs.Deed.{Deed}
-use Rattle.monitor.specs.Lawful.{start_at}
-use Rattle.monitor.specs.Load.{holds_of}
-use Rattle.monitor.specs.Observing.{IsLook}
-use Rattle.monitor.specs.Shown.{Shown, IsSound}
-use Rattle.monitor.specs.Stepping.{IsSame}
-use Rattle.monitor.specs.declared.room.WhenFull.{WhenFull}
 use Rattle.monitor.proofs.Loads.{true_holds}
-use Rattle.monitor_fronts.specs.Holding.{holds}
-use Rattle.monitor_fronts.specs.Returned.{whether_of}
 use Rattle.monitor_fronts.proofs.Counting.{of_lock}
 use Rattle.monitor_fronts.proofs.Exactly.{acquire_gains, try_gains}
 use Rattle.monitor_fronts.proofs.MakingRoom.{in_room}
 use Rattle.guarded.specs.declared.asking.Reading.{Reading}
 use Rattle.guarded.specs.declared.asking.Reading.TheVariants as asks
-use Rattle.guarded.specs.Reading.{GainsReads, Saw, Sees, reads}
+use Rattle.guarded.specs.Prelude.{GainsReads, Saw, Sees, reads, IsFull, Slot, Empty, Full, Lent}
 use Rattle.guarded.specs.inner.Reading.{reading_of}
-use Rattle.guarded.specs.Stowed.{IsFull}
 use Rattle.guarded.specs.inner.Stowed.{Lies}
-use Rattle.guarded.specs.declared.slot.Slot.{Slot}
-use Rattle.guarded.specs.declared.slot.Slot.TheVariants.{Empty, Full, Lent}
 
 -- a look leaves a pass's holds
 pub looks_on : (old new : Shown) → IsLook old new → (reads new ≡ reads old) × (holds new ≡ holds old)

@@ -1,23 +1,12 @@
 -- Items move as permits do: what a step with a trade leaves of a pool.
-use Rattle.std.proofs.Common.{◌≡◌, ◌⊎◌, inl, inr, ⊎_elim, ℕ, ◌+◌, ◌-◌, ◌<◌, ◌≤◌, ◌^◌, Bool, true, cond}
-use Rattle.std.proofs.Common.{List, [], ◌∷◌, ◌++◌, length, take, drop, sym, ap, ◌∙◌, arith}
+use Rattle.std.proofs.Common.{◌≡◌, ◌⊎◌, inl, inr, ⊎_elim, ℕ, ◌+◌, ◌-◌, ◌<◌, ◌≤◌, ◌^◌, Bool, true, cond, List, [], ◌∷◌, ◌++◌, length, take, drop, sym, ap, ◌∙◌, arith, FitsSigned, ℤ, pos, ◌+ℤ◌, ◌-ℤ◌, ◌≤ℤ◌, length-append, length-drop, length-take-le}
 use Rattle.std.specs.Int.{w32}
 use Rattle.std.specs.List.{All}
 use Rattle.std.proofs.lemmas.List.Elements.{All-append, All-cons, All-drop, All-head, All-nil, All-same, All-take}
-use Rattle.std.specs.Prelude.{FitsSigned, ℤ, pos, ◌+ℤ◌, ◌-ℤ◌, ◌≤ℤ◌}
 use Rattle.std.proofs.lemmas.Bool.{cases_eq}
 use Rattle.std.proofs.lemmas.Int.{ints}
-use Rattle.std.proofs.lemmas.List.{length-append, length-drop, length-take-le, nil_from_length}
-use Rattle.deciding.specs.Balance.{balance}
-use Rattle.deciding.specs.declared.balance.Balance.{Balance}
-use Rattle.history.specs.declared.entry.Entry.{Entry}
-use Rattle.history.specs.declared.header.Object.{Object}
-use Rattle.history.specs.declared.header.Object.TheVariants.{Semaphore}
-use Rattle.history.specs.declared.header.Policy.{Policy}
-use Rattle.history.specs.Counts.{Counts, counts, free}
-use Rattle.history.specs.Object.{is_semaphore}
-use Rattle.history.specs.Start.{Start}
-use Rattle.monitor.specs.Load.{IsFree, IsTurn, given_by}
+use Rattle.std.proofs.lemmas.List.{nil_from_length}
+use Rattle.guarded.specs.Below.{balance, Balance, Entry, Object, Semaphore, Policy, Counts, counts, free, is_semaphore, Start, IsFree, IsTurn, given_by}
 use Rattle.guarded.specs.Shelved.{Lies}
 
 -- what a trade does to the two lists, by how many permits are free then

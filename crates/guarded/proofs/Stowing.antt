@@ -1,14 +1,9 @@
 -- The value stays with the owner: what a step with a trade leaves.
-use Rattle.std.proofs.Common.{◌≡◌, ◌≢◌, ⊎_elim, ℕ, Option, ◌<◌, eqb, Bool, true, false, cond, refl, sym, ap, ◌∙◌, subst, arith}
-use Rattle.std.proofs.lemmas.Bool.{cases_eq, eqb-true, eq-eqb}
+use Rattle.std.proofs.Common.{◌≡◌, ◌≢◌, ⊎_elim, ℕ, Option, ◌<◌, eqb, Bool, true, false, cond, refl, sym, ap, ◌∙◌, subst, arith, eqb-true, eq-eqb}
+use Rattle.std.proofs.lemmas.Bool.{cases_eq}
 use Rattle.std.specs.Option.{IfSome}
-use Rattle.history.specs.declared.entry.Mode.TheVariants.{X}
-use Rattle.history.specs.Counts.{Counts}
-use Rattle.history.specs.Object.{is_lock}
-use Rattle.monitor.specs.Load.{IsTurn, LetsGo}
-use Rattle.guarded.specs.declared.slot.Slot.{Slot}
-use Rattle.guarded.specs.declared.slot.Slot.TheVariants.{Empty, Full, Lent}
-use Rattle.guarded.specs.Stowed.{IsFull, IsStowed, Kept, Rests}
+use Rattle.guarded.specs.Below.{X, Counts, is_lock, IsTurn, LetsGo}
+use Rattle.guarded.specs.Prelude.{Slot, Empty, Full, Lent, IsFull, IsStowed, Kept, Rests}
 use Rattle.guarded.specs.inner.Stowed.{Carries, Lies, MayLie, crosses, differ, value_in}
 
 some_left : (n : ℕ) → eqb n 0 ≡ false → 0 < n

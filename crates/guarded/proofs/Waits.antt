@@ -1,9 +1,8 @@
 -- Waits one after another.
-use Rattle.std.proofs.Common.{◌≡◌, suc, Bool, true, Result, Ok, refl, subst}
-use Rattle.history.specs.declared.fault.Fault.{Fault}
-use Rattle.monitor.specs.Shown.{Shown}
-use Rattle.guarded.specs.Reading.{Sees}
-use Rattle.guarded.specs.Waiting.{AWait, Owner, Waited, WaitsWhile}
+use Rattle.std.proofs.Common.{◌≡◌, ◌-◌, ◌^◌, ◌≤◌, min, ℕ, suc, Bool, true, Result, Ok, Err, refl, subst, arith}
+use Rattle.std.specs.Result.{IfErr, IfOk}
+use Rattle.guarded.specs.Below.{AreLeft, Deed, Fault, Shown, moment_after, showed}
+use Rattle.guarded.specs.Prelude.{Sees, AWait, HasCome, Owner, TimeWasUp, Waited, WaitsWhile}
 
 -- no wait so far
 pub not_waited : {T I : Type 0} (wait : AWait T I) (at : Owner T I) → Waited wait at at
@@ -25,3 +24,28 @@ waits_there says call {l} {m} {p} {q} old new returned lock parking sees made =
       waits = subst (λ (x : _). call x p old.pass new.pass returned) lock
           (subst (λ (x : _). call m x old.pass new.pass returned) parking made);
     }
+
+-- if no milliseconds are left until a moment, it has come
+pub has_come : (did : Deed → Type 0) (end ms : ℕ) → AreLeft did end ms → ms ≡ 0 → HasCome did end
+has_come did end ms left none = (left.0, left.1, by left.0 left.2)
+  where
+    by : (moment : ℕ) → ms ≡ min (end - moment) (2 ^ 32 - 1) → end ≤ moment
+    by moment is = omega (arith, is, none)
+
+-- the end of so many milliseconds has come, which began when the clock showed a moment
+pub was_up : (did : Deed → Type 0) (begun ms end : ℕ) → did (showed begun) → end ≡ moment_after begun ms →
+    HasCome did end → TimeWasUp did ms
+was_up did begun ms end shown is come =
+    (begun, shown, subst (λ (m : ℕ). HasCome did m) is come)
+
+-- what is so of a result until a moment is so for the milliseconds to it
+module _ (did : Deed → Type 0) (begun ms end : ℕ) (shown : did (showed begun)) (is : end ≡ moment_after begun ms) where
+  pub ok_since : {A E : Type 0} (p : ℕ → A → Type 0) (r : Result A E) → IfOk r (p end) →
+      IfOk r (λ a. (from : ℕ) × did (showed from) × p (moment_after from ms) a)
+  ok_since {A} {E} p (Ok a) so = (begun, shown, subst (λ (m : ℕ). p m a) is so)
+  ok_since p (Err e) so = tt
+
+  pub err_since : {A E : Type 0} (p : ℕ → E → Type 0) (r : Result A E) → IfErr r (p end) →
+      IfErr r (λ e. (from : ℕ) × did (showed from) × p (moment_after from ms) e)
+  err_since p (Ok a) so = tt
+  err_since {A} {E} p (Err e) so = (begun, shown, subst (λ (m : ℕ). p m e) is so)

@@ -1,18 +1,6 @@
 -- What the calls of a lock ask of its monitor, and what they return.
 use Rattle.std.specs.Prelude.{◌≡◌, ℕ, Bool, true, false, Option, Some, None, Result, Ok, Err}
-use Rattle.history.specs.declared.entry.Entry.{Entry}
-use Rattle.history.specs.declared.entry.Mode.TheVariants.{X}
-use Rattle.history.specs.declared.fault.Fault.{Fault}
-use Rattle.history.specs.declared.step.Step.{Step}
-use Rattle.history.specs.declared.step.Step.TheVariants.{Try, Signal, SignalAll}
-use Rattle.monitor.specs.Room.{IsCallIn, IsEnteredIn}
-use Rattle.monitor.specs.Shown.{Shown}
-use Rattle.monitor.specs.Stepping.{IsEntered}
-use Rattle.monitor.specs.declared.how.How.{How}
-use Rattle.monitor.specs.declared.machine.Request.TheVariants.{Acquire, AwaitOn}
-use Rattle.monitor.specs.declared.room.WhenFull.{WhenFull}
-use Rattle.monitor_fronts.specs.Returned.{done_of, whether_of}
-use Rattle.permit.specs.Deed.{Deed}
+use Rattle.guarded.specs.Below.{Entry, X, Fault, Step, Try, Signal, SignalAll, IsCallIn, IsEnteredIn, Shown, IsEntered, How, Acquire, AwaitOn, WhenFull, done_of, whether_of, Deed}
 use Rattle.guarded.specs.Full.{Call}
 
 -- the calls of the monitor

@@ -1,9 +1,6 @@
 -- Calls of a lock or pool, which says what they do if its history is full.
 use Rattle.std.specs.Prelude.{Result}
-use Rattle.history.specs.declared.entry.Entry.{Entry}
-use Rattle.history.specs.declared.fault.Fault.{Fault}
-use Rattle.monitor.specs.Shown.{Shown}
-use Rattle.monitor.specs.declared.room.WhenFull.{WhenFull}
+use Rattle.guarded.specs.Below.{Entry, Fault, Shown, WhenFull}
 
 -- a call's reply, with the pass before and after it, by what the lock does if its history is full
 abbrev pub Call : Type 1

@@ -1,10 +1,6 @@
 -- What is known of a pass that has the lock, or has it not.
 use Rattle.std.specs.Prelude.{◌≡◌, ◌<◌, ◌≤◌, ℕ, Bool, true, false, Result, Ok, Err}
-use Rattle.history.specs.declared.fault.Fault.{Fault}
-use Rattle.monitor.specs.Calling.{CanCall, Called}
-use Rattle.monitor.specs.Shown.{Shown}
-use Rattle.monitor.specs.declared.room.WhenFull.{WhenFull}
-use Rattle.monitor_fronts.specs.Holding.{holds}
+use Rattle.guarded.specs.Below.{Fault, CanCall, Called, Shown, WhenFull, holds}
 use Rattle.guarded.specs.declared.try_lock.TryLockFault.{TryLockFault}
 use Rattle.guarded.specs.declared.try_lock.TryLockFault.TheVariants.{Missed, Failed}
 use Rattle.guarded.specs.Asking.{CallReturns}

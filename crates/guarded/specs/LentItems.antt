@@ -1,10 +1,6 @@
 -- What a pool does that lends an item to a closure.
 use Rattle.std.specs.Prelude.{◌≡◌, true, Result, Ok, Err}
-use Rattle.history.specs.declared.fault.Fault.{Fault}
-use Rattle.monitor.specs.Shown.{Shown}
-use Rattle.monitor.specs.declared.how.How.TheVariants.{Interruptible}
-use Rattle.monitor.specs.declared.room.WhenFull.{WhenFull}
-use Rattle.permit.specs.Deed.{Deed}
+use Rattle.guarded.specs.Below.{Fault, Shown, Interruptible, WhenFull, Deed}
 use Rattle.guarded.specs.declared.items.ItemFault.{ItemFault}
 use Rattle.guarded.specs.declared.items.ItemFault.TheVariants.{NotAcquired, NotReleased}
 use Rattle.guarded.specs.Asking.{CallReturns}

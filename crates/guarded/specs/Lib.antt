@@ -1,3 +1,5 @@
+pub mod Prelude
+pub mod Below
 pub mod Stowed
 pub mod Guarding
 pub mod Full

@@ -1,18 +1,6 @@
 -- What the calls of a pool ask of its monitor, and what becomes of the items.
 use Rattle.std.specs.Prelude.{◌≡◌, ◌⊎◌, ℕ, List, length, Bool, true, false, Result, Ok, Err}
-use Rattle.history.specs.declared.entry.Entry.{Entry}
-use Rattle.history.specs.declared.entry.Mode.TheVariants.{S}
-use Rattle.history.specs.declared.fault.Fault.{Fault}
-use Rattle.history.specs.declared.fault.Fault.TheVariants.{OutOfMemory}
-use Rattle.history.specs.declared.step.Step.TheVariants.{Drain, Give, Try}
-use Rattle.monitor.specs.Acquire.{is_timed}
-use Rattle.monitor.specs.Room.{IsCallIn, IsEnteredIn}
-use Rattle.monitor.specs.Shown.{Shown}
-use Rattle.monitor.specs.declared.how.How.{How}
-use Rattle.monitor.specs.declared.machine.Request.TheVariants.{Acquire}
-use Rattle.monitor.specs.declared.room.WhenFull.{WhenFull}
-use Rattle.monitor_fronts.specs.Returned.{number_of}
-use Rattle.permit.specs.Deed.{Deed}
+use Rattle.guarded.specs.Below.{Entry, S, Fault, OutOfMemory, Drain, Give, Try, is_timed, IsCallIn, IsEnteredIn, Shown, How, Acquire, WhenFull, number_of, Deed}
 use Rattle.guarded.specs.declared.asking.PoolCall.{PoolCall}
 use Rattle.guarded.specs.declared.asking.PoolCall.TheVariants as asks
 use Rattle.guarded.specs.Asking.{CallReturns}

@@ -1,20 +1,6 @@
 -- What readers of a lock that guards a value ask of its monitor.
 use Rattle.std.specs.Prelude.{◌≡◌, ◌+◌, ℕ, Bool, Result, Some}
-use Rattle.history.specs.declared.entry.Entry.{Entry}
-use Rattle.history.specs.declared.entry.Mode.TheVariants.{S}
-use Rattle.history.specs.Counts.{counts}
-use Rattle.history.specs.declared.fault.Fault.{Fault}
-use Rattle.history.specs.declared.step.Step.TheVariants.{Give, Try}
-use Rattle.monitor.specs.Lawful.{start_at}
-use Rattle.monitor.specs.Load.{holds_of}
-use Rattle.monitor.specs.Room.{IsCallIn, IsEnteredIn}
-use Rattle.monitor.specs.Shown.{Shown}
-use Rattle.monitor.specs.Stepping.{IsEntered}
-use Rattle.monitor.specs.declared.how.How.{How}
-use Rattle.monitor.specs.declared.machine.Request.TheVariants.{Acquire}
-use Rattle.monitor_fronts.specs.Holding.{gained, holds}
-use Rattle.monitor_fronts.specs.Returned.{done_of}
-use Rattle.permit.specs.Deed.{Deed}
+use Rattle.guarded.specs.Below.{Entry, S, counts, Fault, Give, Try, start_at, holds_of, IsCallIn, IsEnteredIn, Shown, IsEntered, How, Acquire, gained, holds, done_of, Deed}
 use Rattle.guarded.specs.declared.slot.Slot.{Slot}
 use Rattle.guarded.specs.declared.slot.Slot.TheVariants.{Full}
 use Rattle.guarded.specs.Full.{Call}

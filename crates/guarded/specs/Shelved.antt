@@ -1,10 +1,6 @@
 -- Where the items of a pool are: as many lie there as permits are free.
-use Rattle.std.specs.Prelude.{◌≡◌, true, List, length, pos}
-use Rattle.std.proofs.Common.{◌∙◌, ap, sym}
-use Rattle.history.specs.Counts.{Counts}
-use Rattle.history.specs.Object.{is_semaphore}
-use Rattle.frame.specs.Hooks.{AreAlike}
-use Rattle.word_lock.specs.Ticket.{LockId}
+use Rattle.std.proofs.Common.{◌≡◌, true, List, length, pos, ◌∙◌, ap, sym}
+use Rattle.guarded.specs.Below.{Counts, is_semaphore, AreAlike, LockId}
 
 -- what holds whenever the pool is free
 pub record Lies {T : Type 0} (items : List T) (k : Counts) : Type 0 where

@@ -1,12 +1,6 @@
 -- Where the value of a guarded lock is: under the lock, or with the one owner.
-use Rattle.std.specs.Prelude.{◌≡◌, ◌<◌, ℕ, true, Option, Some, None}
-use Rattle.std.proofs.Common.{◌∙◌, sym, subst}
-use Rattle.history.specs.declared.entry.Mode.TheVariants.{X}
-use Rattle.history.specs.Counts.{Counts}
-use Rattle.history.specs.Object.{is_lock}
-use Rattle.frame.specs.Hooks.{AreAlike}
-use Rattle.word_lock.specs.Ticket.{LockId}
-use Rattle.monitor.specs.declared.room.WhenFull.{WhenFull}
+use Rattle.std.proofs.Common.{◌≡◌, ◌<◌, ℕ, true, Option, Some, None, ◌∙◌, sym, subst}
+use Rattle.guarded.specs.Below.{X, Counts, is_lock, AreAlike, LockId, WhenFull}
 use Rattle.guarded.specs.declared.slot.Slot.{Slot}
 use Rattle.guarded.specs.declared.slot.Slot.TheVariants.{Empty, Full, Lent}
 

@@ -1,11 +1,6 @@
 -- Waits that a predicate ends.
-use Rattle.std.specs.Prelude.{◌≡◌, ◌≤◌, ◌<◌, ◌-◌, ◌^◌, min, ℕ, suc, zero, Bool, true, Result, Ok, Err}
-use Rattle.history.specs.declared.fault.Fault.{Fault}
-use Rattle.monitor.specs.Acquire.{moment_after}
-use Rattle.monitor.specs.Shown.{Shown}
-use Rattle.monitor.specs.declared.how.How.TheVariants.{Timed}
-use Rattle.monitor.specs.declared.room.WhenFull.{WhenFull}
-use Rattle.permit.specs.Deed.{Deed, showed}
+use Rattle.std.specs.Prelude.{◌≡◌, ◌≤◌, ◌<◌, ℕ, suc, zero, Bool, true, Result, Ok, Err}
+use Rattle.guarded.specs.Below.{AreLeft, Fault, moment_after, Shown, Timed, WhenFull, Deed, showed}
 use Rattle.guarded.specs.declared.slot.Slot.{Slot}
 use Rattle.guarded.specs.Asking.{CallReturns, awaits}
 use Rattle.guarded.specs.Reading.{Sees}
@@ -42,13 +37,15 @@ Waited wait old new = (count : ℕ) × WaitedTimes wait count old new
 abbrev pub WaitFailed : {T I : Type 0} → AWait T I → Owner T I → Owner T I → Fault → Type 0
 WaitFailed {T} {I} wait old new fault = (front : Owner T I) × Waited wait old front × wait front new (Err fault)
 
--- an await that an interrupt ends, with the time that was left until this moment when the clock showed another
+-- an await that an interrupt ends, with the milliseconds that were left until a moment, of which there were some
 abbrev pub AwaitsUntil : (Deed → Type 0) → WhenFull → ℕ → ℕ → Shown → Shown → Result Bool Fault → Type 0
 AwaitsUntil did w condition end old new returned =
-    (moment : ℕ) × did (showed moment) × (moment < end)
-    × CallReturns w (awaits did condition (Timed (min (end - moment) (2 ^ 32 - 1)))) old new returned
+    (ms : ℕ) × AreLeft did end ms × (0 < ms) × CallReturns w (awaits did condition (Timed ms)) old new returned
+
+-- the clock showed this moment, or a later one
+abbrev pub HasCome : (Deed → Type 0) → ℕ → Type 0
+HasCome did end = (ended : ℕ) × did (showed ended) × (end ≤ ended)
 
 -- the clock showed a moment, and then one that comes so many milliseconds after it
 abbrev pub TimeWasUp : (Deed → Type 0) → ℕ → Type 0
-TimeWasUp did ms =
-    (begun : ℕ) × (ended : ℕ) × did (showed begun) × did (showed ended) × (moment_after begun ms ≤ ended)
+TimeWasUp did ms = (begun : ℕ) × did (showed begun) × HasCome did (moment_after begun ms)

@@ -3,6 +3,7 @@ ghost use Rattle.std.specs.Prelude.{◌≡◌, ◌<◌, ◌^◌, ◌∷◌, [], 
 ghost use Rattle.monitor.specs.Calling.{CanCall, Called};
 ghost use Rattle.monitor.specs.declared.how.How.TheVariants.{Interruptible, Plain, Timed};
 ghost use Rattle.guarded.specs.Asking.{CallReturns, yes_if_some};
+ghost use Rattle.monitor_fronts.specs.FrontCalls.{LastsUntil};
 ghost use Rattle.monitor_fronts.specs.Holding.{with_yes};
 ghost use Rattle.monitor_fronts.specs.Permits.{DrainsFree};
 ghost use Rattle.guarded.specs.Pooling.{DrainReturns, IsReleased, drains, fetches, gives_back, how_many};
@@ -15,7 +16,7 @@ use crate::shelf::Shelf;
 use history::fault::Fault;
 use history::step::Step;
 use monitor::{How, Pass};
-use monitor_fronts::{number, whether};
+use monitor_fronts::{milliseconds_left, number, whether};
 use permit::Parking;
 use std::alloc::Global;
 use std::collections::LinkedList;
@@ -103,6 +104,27 @@ impl<T: Drop, I: Keeps<T>> Pool<T, I> {
             (yes_if_some result) }
     {
         self.take(rt, parking, pass, PoolCall::Acquire(n, How::Timed(ms)))
+    }
+
+    /// [`try_acquire_for`](Pool::try_acquire_for) until a moment on the clock of the parking, which
+    /// `parking.now(rt)` shows. If that moment has come, the call doesn't wait.
+    pub fn try_acquire_until<P: Parking, R: Wait + Clock>(
+        &self,
+        rt: &R,
+        parking: &P,
+        pass: &mut Pass,
+        n: u32,
+        moment: u64,
+    ) -> Result<Option<LinkedList<T>>, Fault>
+        requires can { CanCall self.now.lock (P.seats parking.now) pass.old }
+        ensures called { Called pass.old pass.new }
+        ensures items { IfOk result (λ got. IfSome got (λ items. length items ≡ n)) }
+        ensures kept { IfOk result (λ got. IfSome got (λ items. All I.invariant items)) }
+        ensures returned { LastsUntil (P.did parking.now) moment (λ how. CallReturns self.now.when_full
+            (fetches (P.did parking.now) n how) pass.old pass.new (yes_if_some result)) }
+    {
+        let ms = milliseconds_left(rt, parking, moment);
+        self.try_acquire_for(rt, parking, pass, n, ms)
     }
 
     /// Takes all items that the pool has now, perhaps none. It overtakes waiters, under each policy. This is
@@ -237,6 +259,24 @@ impl<T: Drop, I: Keeps<T>> Pool<T, I> {
             Ok(None) => Ok(None),
             Err(fault) => Err(fault),
         }
+    }
+
+    /// [`try_acquire_until`](Pool::try_acquire_until) of one item.
+    pub fn try_acquire_one_until<P: Parking, R: Wait + Clock>(
+        &self,
+        rt: &R,
+        parking: &P,
+        pass: &mut Pass,
+        moment: u64,
+    ) -> Result<Option<T>, Fault>
+        requires can { CanCall self.now.lock (P.seats parking.now) pass.old }
+        ensures called { Called pass.old pass.new }
+        ensures kept { IfOk result (λ got. IfSome got (λ item. I.invariant item)) }
+        ensures returned { LastsUntil (P.did parking.now) moment (λ how. CallReturns self.now.when_full
+            (fetches (P.did parking.now) 1 how) pass.old pass.new (yes_if_some result)) }
+    {
+        let ms = milliseconds_left(rt, parking, moment);
+        self.try_acquire_one_for(rt, parking, pass, ms)
     }
 
     /// [`release`](Pool::release) of one item. It takes memory for the item's node first: `OutOfMemory` if

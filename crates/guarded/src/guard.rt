@@ -1,5 +1,5 @@
 //! The owner's side of a lock that guards a value.
-ghost use Rattle.std.specs.Prelude.{◌≡◌, ◌+◌, ◌-◌, ◌^◌, ◌<◌, IfErr, IfOk, Ok, true, false, min, not};
+ghost use Rattle.std.specs.Prelude.{◌≡◌, ◌+◌, ◌<◌, IfErr, IfOk, Ok, true, false, not};
 ghost use Rattle.std.specs.Borrow.{sem};
 ghost use Rattle.std.specs.Fn.{FnReturnsAt};
 ghost use Rattle.history.specs.declared.entry.Mode.TheVariants.{X};
@@ -8,12 +8,13 @@ ghost use Rattle.monitor.specs.Calling.{Called};
 ghost use Rattle.monitor.specs.Acquire.{moment_after};
 ghost use Rattle.monitor.specs.Stepping.{IsSame};
 ghost use Rattle.monitor.specs.declared.how.How.TheVariants.{Plain, Interruptible, Timed};
+ghost use Rattle.monitor_fronts.specs.FrontCalls.{LastsUntil};
 ghost use Rattle.monitor_fronts.specs.Holding.{gained, holds};
 ghost use Rattle.guarded.specs.Asking.{IsRecorded, CallReturns, CallReturnsDone, acquires, awaits, signals};
 ghost use Rattle.guarded.specs.Guarding.{Guards};
 ghost use Rattle.guarded.specs.Reading.{Sees};
 ghost use Rattle.guarded.specs.Stowed.{IsFull, Kept};
-ghost use Rattle.guarded.specs.Waiting.{AwaitsUntil, TimeWasUp, WaitFailed, Waited, WaitsWhile, owner};
+ghost use Rattle.guarded.specs.Waiting.{AwaitsUntil, HasCome, TimeWasUp, WaitFailed, Waited, WaitsWhile, owner};
 ghost use Rattle.permit.specs.Deed.{showed};
 ghost use Rattle.guarded.specs.declared.slot.Slot.TheVariants.{Full};
 
@@ -24,7 +25,7 @@ use crate::slot::Slot;
 use frame::hooks::Hooks;
 use history::fault::Fault;
 use monitor::{How, Pass};
-use monitor_fronts::{done, whether};
+use monitor_fronts::{done, milliseconds_left, whether};
 use permit::Parking;
 use reentrant::lock::LockHooks;
 use std::sync::Wait;
@@ -35,14 +36,6 @@ fn moment_after(moment: u64, milliseconds: u32) -> u64
     ensures { result ≡ moment_after moment milliseconds }
 {
     moment.saturating_add(u64::from(milliseconds))
-}
-
-// The milliseconds from a moment to the end, or as many as a wait may last.
-fn milliseconds_until(end: u64, moment: u64) -> u32
-    requires { moment < end }
-    ensures { result ≡ min (end - moment) (2 ^ 32 - 1) }
-{
-    (end - moment).min(u64::from(u32::MAX)) as u32
 }
 
 /// The value of a lock, with its owner. Dropping it unlocks the lock, so a `?` may leave a section. That can't
@@ -152,6 +145,25 @@ impl<'a, T: Drop, P: Parking, R: Wait + Clock, I: Keeps<T>, H: Hooks + Drop> Gua
         )
     }
 
+    /// [`wait_for`](Guard::wait_for) until a moment on the clock of the parking, which `parking.now(rt)`
+    /// shows. Java's `Condition.awaitUntil` takes a date instead.
+    pub fn wait_until(&mut self, condition: u8, moment: u64) -> Result<bool, Fault>
+        requires guards { Guards self.old.lock.now (P.seats self.old.parking.now) self.old.pass.now self.old.slot }
+        requires kept { Kept I.invariant self.old.slot }
+        ensures same_reference { self.new.pass.ghost_name ≡ self.old.pass.ghost_name }
+        ensures same { IsSame self.old.pass.now self.new.pass.now }
+        ensures same_lock { (self.new.lock.now ≡ self.old.lock.now) × (self.new.parking.now ≡ self.old.parking.now) }
+        ensures guards { Guards self.new.lock.now (P.seats self.new.parking.now) self.new.pass.now self.new.slot }
+        ensures kept { Kept I.invariant self.new.slot }
+        ensures keeps { holds self.new.pass.now ≡ holds self.old.pass.now }
+        ensures awaited { LastsUntil (P.did self.old.parking.now) moment (λ how.
+            CallReturns self.old.lock.now.when_full (awaits (P.did self.old.parking.now) condition how)
+            self.old.pass.now self.new.pass.now result) }
+    {
+        let ms = milliseconds_left(self.rt, self.parking, moment);
+        self.wait_for(condition, ms)
+    }
+
     /// [`wait`](Guard::wait), but an interrupt doesn't end it, and stays pending. This is
     /// `Condition.awaitUninterruptibly()`.
     pub fn wait_uninterruptibly(&mut self, condition: u8) -> Result<bool, Fault>
@@ -242,16 +254,46 @@ impl<'a, T: Drop, P: Parking, R: Wait + Clock, I: Keeps<T>, H: Hooks + Drop> Gua
             (owner self.old.pass.now self.old.slot) (owner self.new.pass.now self.new.slot) fault) }
     {
         let begun = self.parking.now(self.rt);
-        let end = moment_after(begun, ms);
+        self.wait_while_until(condition, moment_after(begun, ms), predicate)
+    }
+
+    /// [`wait_while_for`](Guard::wait_while_for) until a moment on the clock of the parking, which
+    /// `parking.now(rt)` shows.
+    pub fn wait_while_until<F: Fn(&T) -> bool>(
+        &mut self,
+        condition: u8,
+        moment: u64,
+        predicate: F,
+    ) -> Result<bool, Fault>
+        requires guards { Guards self.old.lock.now (P.seats self.old.parking.now) self.old.pass.now self.old.slot }
+        requires kept { Kept I.invariant self.old.slot }
+        requires callable { F.IsAlwaysCallable predicate }
+        ensures same_reference { self.new.pass.ghost_name ≡ self.old.pass.ghost_name }
+        ensures same { IsSame self.old.pass.now self.new.pass.now }
+        ensures same_lock { (self.new.lock.now ≡ self.old.lock.now) × (self.new.parking.now ≡ self.old.parking.now) }
+        ensures guards { Guards self.new.lock.now (P.seats self.new.parking.now) self.new.pass.now self.new.slot }
+        ensures kept { Kept I.invariant self.new.slot }
+        ensures keeps { holds self.new.pass.now ≡ holds self.old.pass.now }
+        ensures over { IfOk result (λ is_over. Sees (FnReturnsAt F.Fn predicate) self.new.slot (not is_over)) }
+        ensures in_time { result ≡ Ok false → HasCome (P.did self.old.parking.now) moment }
+        ensures waited { IfOk result (λ _. Waited
+            (WaitsWhile (FnReturnsAt F.Fn predicate) (AwaitsUntil (P.did self.old.parking.now)
+            self.old.lock.now.when_full condition moment))
+            (owner self.old.pass.now self.old.slot) (owner self.new.pass.now self.new.slot)) }
+        ensures failed { IfErr result (λ fault. WaitFailed
+            (WaitsWhile (FnReturnsAt F.Fn predicate) (AwaitsUntil (P.did self.old.parking.now)
+            self.old.lock.now.when_full condition moment))
+            (owner self.old.pass.now self.old.slot) (owner self.new.pass.now self.new.slot) fault) }
+    {
         for _ in self.rt.forever() {
             if !predicate(self.value()) {
                 return Ok(true);
             }
-            let moment = self.parking.now(self.rt);
-            if end <= moment {
+            let left = milliseconds_left(self.rt, self.parking, moment);
+            if left == 0 {
                 return Ok(false);
             }
-            self.wait_for(condition, milliseconds_until(end, moment))?;
+            self.wait_for(condition, left)?;
         }
         unreachable!()
     }

@@ -39,7 +39,8 @@
 //!   returns `HistoryFull` only if a history without entries has no room, and `TrimFull` only if more than
 //!   1000000000000000 entries would be folded.
 //!
-//! That `Refuse` folds nothing, and that `Trim` folds only if there was no room, is in the code and in no contract.
+//! That `Refuse` folds nothing, that `Trim` folds only if there was no room, and that it folds and makes its
+//! step in one turn, is in the code and in no contract: the contracts would allow a fold in a turn before.
 //!
 //! An `unlock` always has room and memory: both were reserved when the hold was recorded. The same holds for
 //! `unread` and [`downgrade`](Guard::downgrade). A `release` of items may lack them, and then returns the

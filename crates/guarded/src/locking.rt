@@ -3,6 +3,7 @@ ghost use Rattle.std.specs.Prelude.{◌≡◌, IfOk};
 ghost use Rattle.std.specs.Borrow.{sem, RestsIfErr};
 ghost use Rattle.monitor.specs.contracts.pass.Pass.{the_row};
 ghost use Rattle.monitor.specs.declared.how.How.TheVariants.{Plain, Interruptible, Timed};
+ghost use Rattle.monitor_fronts.specs.FrontCalls.{LastsUntil};
 ghost use Rattle.monitor_fronts.specs.Holding.{holds, with_yes};
 ghost use Rattle.guarded.specs.Asking.{acquires, tries};
 ghost use Rattle.guarded.specs.Guarding.{CanLock, Guards, Locked, NotLocked, yes_unless_missed};
@@ -16,6 +17,7 @@ use crate::try_lock::TryLockFault;
 use frame::hooks::Hooks;
 use history::fault::Fault;
 use monitor::{How, Pass};
+use monitor_fronts::milliseconds_left;
 use permit::Parking;
 use std::sync::Wait;
 use std::time::Clock;
@@ -145,5 +147,31 @@ impl<T: Drop, I: Keeps<T>, H: Hooks + Drop> Mutex<T, I, H> {
             rt,
             parking,
         })
+    }
+
+    /// [`try_lock_for`](Mutex::try_lock_for) until a moment on the clock of the parking, which
+    /// `parking.now(rt)` shows. If that moment has come, the call doesn't wait.
+    pub fn try_lock_until<'a, P: Parking, R: Wait + Clock>(
+        pass: &'a mut Pass,
+        lock: &'a Mutex<T, I, H>,
+        rt: &'a R,
+        parking: &'a P,
+        moment: u64,
+    ) -> Result<Guard<'a, T, P, R, I, H>, TryLockFault>
+        requires can { CanLock lock.now (P.seats parking.now) pass.old }
+        ensures* not_locked { sem 𝓛 (RestsIfErr the_row pass.entry (λ guard. guard.pass.ghost_name) result
+            (λ last. LastsUntil (P.did parking.now) moment
+            (λ how. NotLocked lock.now.when_full (acquires (P.did parking.now) how)
+            pass.old (yes_unless_missed result) last))) }
+        ensures same_reference { IfOk result (λ guard. guard.pass.ghost_name ≡ pass.entry.ghost_name) }
+        ensures guards { IfOk result (λ guard.
+            Guards guard.lock.now (P.seats guard.parking.now) guard.pass.now guard.slot) }
+        ensures locked { IfOk result (λ guard. LastsUntil (P.did parking.now) moment
+            (λ how. Locked lock.now.when_full (acquires (P.did parking.now) how)
+            pass.old guard.slot guard.pass.now)) }
+        ensures kept { IfOk result (λ guard. Kept I.invariant guard.slot) }
+    {
+        let ms = milliseconds_left(rt, parking, moment);
+        Mutex::try_lock_for(pass, lock, rt, parking, ms)
     }
 }

@@ -23,6 +23,7 @@ ghost use Rattle.monitor.specs.Observing.{IsLook};
 ghost use Rattle.monitor.specs.Shown.{opening_passes};
 ghost use Rattle.monitor.specs.Stepping.{IsSame};
 ghost use Rattle.monitor.specs.declared.room.WhenFull.TheVariants.{Trim};
+ghost use Rattle.monitor_fronts.specs.FrontCalls.{LastsUntil};
 ghost use Rattle.monitor_fronts.specs.Holding.{gained, holds, with_yes};
 ghost use Rattle.guarded.specs.Asking.{IsRecorded, CallReturns, acquires, tries};
 ghost use Rattle.guarded.specs.Guarding.{CanLock, Guards, Locked, NotLocked, yes_unless_missed};
@@ -40,6 +41,7 @@ use crate::view::View;
 use history::fault::Fault;
 use history::header::Policy;
 use monitor::{CloseFault, Closed, How, Monitor, Pass, WhenFull};
+use monitor_fronts::milliseconds_left;
 use permit::Parking;
 use read_write::hooks::RwHooks;
 use std::alloc::Global;
@@ -363,6 +365,31 @@ impl<T: Drop, I: Keeps<T>> RwMutex<T, I> {
     {
         Mutex::try_lock_for(pass, &lock.mutex, rt, parking, ms)
     }
+
+    /// [`try_write_for`](RwMutex::try_write_for) until a moment on the clock of the parking, which
+    /// `parking.now(rt)` shows. If that moment has come, the call doesn't wait.
+    pub fn try_write_until<'a, P: Parking, R: Wait + Clock>(
+        pass: &'a mut Pass,
+        lock: &'a RwMutex<T, I>,
+        rt: &'a R,
+        parking: &'a P,
+        moment: u64,
+    ) -> Result<Guard<'a, T, P, R, I, RwHooks>, TryLockFault>
+        requires can { CanLock lock.now (P.seats parking.now) pass.old }
+        ensures* not_locked { sem 𝓛 (RestsIfErr the_row pass.entry (λ guard. guard.pass.ghost_name) result
+            (λ last. LastsUntil (P.did parking.now) moment
+            (λ how. NotLocked lock.now.when_full (acquires (P.did parking.now) how)
+            pass.old (yes_unless_missed result) last))) }
+        ensures same_reference { IfOk result (λ guard. guard.pass.ghost_name ≡ pass.entry.ghost_name) }
+        ensures guards { IfOk result (λ guard.
+            Guards guard.lock.now (P.seats guard.parking.now) guard.pass.now guard.slot) }
+        ensures locked { IfOk result (λ guard. LastsUntil (P.did parking.now) moment
+            (λ how. Locked lock.now.when_full (acquires (P.did parking.now) how)
+            pass.old guard.slot guard.pass.now)) }
+        ensures kept { IfOk result (λ guard. Kept I.invariant guard.slot) }
+    {
+        Mutex::try_lock_until(pass, &lock.mutex, rt, parking, moment)
+    }
 }
 
 /// Each of these is called by a pass that doesn't write; it may read already. Afterwards it has one more read
@@ -439,6 +466,25 @@ impl<T: Drop, I: Keeps<T>> RwMutex<T, I> {
     {
         self.mutex
             .try_read_by(rt, parking, pass, Reading::Acquire(How::Timed(ms)))
+    }
+
+    /// [`try_read_for`](RwMutex::try_read_for) until a moment on the clock of the parking, which
+    /// `parking.now(rt)` shows. If that moment has come, the call doesn't wait.
+    pub fn try_read_until<P: Parking, R: Wait + Clock>(
+        &self,
+        rt: &R,
+        parking: &P,
+        pass: &mut Pass,
+        moment: u64,
+    ) -> Result<(), TryLockFault>
+        requires can { CanLock self.now (P.seats parking.now) pass.old }
+        ensures called { Called pass.old pass.new }
+        ensures returned { LastsUntil (P.did parking.now) moment (λ how. CallReturns self.now.when_full
+            (reads_by (P.did parking.now) how) pass.old pass.new (yes_unless_missed result)) }
+        ensures gains { GainsReads pass.old (yes_unless_missed result) pass.new }
+    {
+        let ms = milliseconds_left(rt, parking, moment);
+        self.try_read_for(rt, parking, pass, ms)
     }
 }
 

@@ -1,41 +1,14 @@
 -- Two starts, each with entries behind it, of which the definitions say the same: they say the same of
 -- whatever comes next. Free permits count for a semaphore alone, and a last sleep for one who sleeps or comes
 -- back.
-use Rattle.std.proofs.Common.{◌≡◌, ℕ, zero, suc, ◌+◌, ◌-◌, ◌==◌, Bool, true, false, ◌&&◌, ◌||◌, not, cond, eqb, List, [], ◌∷◌, ◌++◌, map, take, length, Option, Some, None, Result, Ok, Err, refl, ap, ◌∙◌, sym, subst, ⊎_elim, arith}
+use Rattle.std.proofs.Common.{◌≡◌, ℕ, zero, suc, ◌+◌, ◌-◌, ◌==◌, Bool, true, false, ◌&&◌, ◌||◌, not, cond, eqb, List, [], ◌∷◌, ◌++◌, map, take, length, Option, Some, None, Result, Ok, Err, refl, ap, ◌∙◌, sym, subst, ⊎_elim, arith, ℤ, pos, ◌-ℤ◌, ◌+ℤ◌, int_le, int_lt, eq-eqb}
 use Rattle.std.specs.List.{filter, AllByRecursion}
-use Rattle.std.specs.Prelude.{ℤ, pos, ◌-ℤ◌, ◌+ℤ◌, int_le, int_lt}
-use Rattle.std.proofs.lemmas.Bool.{eq-eqb, or_right, not-false}
-use Rattle.history.specs.declared.limits.TheConstants.{MOST_AMOUNT}
-use Rattle.history.specs.declared.arrival.Arrival.{Arrival}
+use Rattle.std.proofs.lemmas.Bool.{or_right, not-false}
+use Rattle.history.specs.Prelude.{MOST_AMOUNT, Arrival, Entry, Mode, X, S, Word, Fault, Header, Object, Lock, ReadWrite, Semaphore, Latch, Step, back_from, lapse_from, could, held_back, is_seat, limit, Counts, beyond, count, counted, counted_after, counts, free, free_after, held, holds_after, total, unheld, ends_call, same_mode, is_bad_amount, is_no_condition, is_wrong_mode, calls, arrivals_by, coming_back, first_mode, first_of, line, mode_of, place_of, named, named_by, ready, ready_by, is_lock, is_semaphore, opening_count, is_strict, is_away, Phase, Idle, InLine, Sleeping, phase, phase_by, suits, arrival_owes, holds_owe, owed, sleeper_owes, sleepers_owe, sum_of, has, last_sleep, sleep_after, sleepers, sleepers_after, sleeps_below, Sleep, Start, acquired, at_least_none, at_most_one, awaits, back, entry_for, gave, idle_entry, line_entry, phase_entry, plain, queued_entry, sleeping_entry, signals, tried, tried_fairly, asleep, seats_of, waiting}
 use Rattle.history.specs.declared.entry.End.TheVariants as end
-use Rattle.history.specs.declared.entry.Entry.{Entry}
-use Rattle.history.specs.declared.entry.Mode.{Mode}
-use Rattle.history.specs.declared.entry.Mode.TheVariants.{X, S}
-use Rattle.history.specs.declared.entry.Word.{Word}
 use Rattle.history.specs.declared.entry.Word.TheVariants as word
-use Rattle.history.specs.declared.fault.Fault.{Fault}
 use Rattle.history.specs.declared.fault.Fault.TheVariants as fault
-use Rattle.history.specs.declared.header.Header.{Header}
-use Rattle.history.specs.declared.header.Object.{Object}
-use Rattle.history.specs.declared.header.Object.TheVariants.{Lock, ReadWrite, Semaphore, Latch}
-use Rattle.history.specs.declared.step.Step.{Step}
 use Rattle.history.specs.declared.step.Step.TheVariants as step
-use Rattle.history.specs.Awaiting.{back_from, lapse_from}
-use Rattle.history.specs.Could.{could, held_back, is_seat, limit}
-use Rattle.history.specs.Counts.{Counts, beyond, count, counted, counted_after, counts, free, free_after, held, holds_after, total, unheld}
-use Rattle.history.specs.Entry.{ends_call, same_mode}
-use Rattle.history.specs.Faults.{is_bad_amount, is_no_condition, is_wrong_mode}
-use Rattle.history.specs.Legal.{calls}
-use Rattle.history.specs.Line.{arrivals_by, coming_back, first_mode, first_of, line, mode_of, place_of}
-use Rattle.history.specs.Naming.{named, named_by, ready, ready_by}
-use Rattle.history.specs.Object.{is_lock, is_semaphore, opening_count, is_strict}
-use Rattle.history.specs.Ownership.{is_away}
-use Rattle.history.specs.Phase.{Phase, Idle, InLine, Sleeping, phase, phase_by, suits}
-use Rattle.history.specs.Room.{arrival_owes, holds_owe, owed, sleeper_owes, sleepers_owe, sum_of}
-use Rattle.history.specs.Sleepers.{has, last_sleep, sleep_after, sleepers, sleepers_after, sleeps_below}
-use Rattle.history.specs.Start.{Sleep, Start}
-use Rattle.history.specs.Steps.{acquired, at_least_none, at_most_one, awaits, back, entry_for, gave, idle_entry, line_entry, phase_entry, plain, queued_entry, sleeping_entry, signals, tried, tried_fairly}
-use Rattle.history.specs.Waiting.{asleep, seats_of, waiting}
 use Rattle.history.proofs.Entering.{Known, KnownBy, in_line}
 use Rattle.history.proofs.LineLemmas.{line_after, stays}
 use Rattle.history.proofs.OneWait.{all_come, last_sleep_own, placed, take_has}

@@ -1,10 +1,6 @@
 -- All calls of a history on a good base.
 use Rattle.std.proofs.Common.{◌≡◌, ℕ, ◌+◌, ◌-◌, ◌<◌, ◌^◌, min, Option, Some, None, length, ap, arith}
-use Rattle.history.specs.declared.header.Header.{Header}
-use Rattle.history.specs.Base.{Base, based, opening_base}
-use Rattle.history.specs.Entries.{HistoryView, IsBasedWell, all_calls, calls_before, ended_calls, or_opening, start_on}
-use Rattle.history.specs.Legal.{calls}
-use Rattle.history.specs.Start.{Start}
+use Rattle.history.specs.Prelude.{Header, Base, based, opening_base, HistoryView, IsBasedWell, all_calls, calls_before, ended_calls, or_opening, start_on, calls, Start}
 use Rattle.history.proofs.Lists.{calls-ended, ended_calls_le}
 use Rattle.history.proofs.OpeningBase.{based_opening}
 

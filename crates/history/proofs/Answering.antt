@@ -1,27 +1,10 @@
 -- The history behind a list of steps is legal.
 use Rattle.std.proofs.Common.{◌≡◌, ℕ, Bool, true, false, not, cond, ltb, List, [], ◌∷◌, Option, Some, None, Result, Ok, Err, refl, sym, subst}
 use Rattle.std.proofs.lemmas.Bool.{cond_both}
-use Rattle.history.specs.declared.arrival.Arrival.{Arrival}
+use Rattle.history.specs.Prelude.{Arrival, Entry, X, S, Word, Fault, Answer, Recorded, Step, Look, Expire, Interrupt, Await, Signal, SignalAll, answer, answer_by, results, is_seat, Counts, counts, owner, IsLegal, named, ready, Phase, Idle, InLine, Sleeping, phase, has_room, Start, entry_for, phase_entry, idle_entry, queued_entry, sleeping_entry, plain, awaits, signals, back}
 use Rattle.history.specs.declared.entry.End.TheVariants as end
-use Rattle.history.specs.declared.entry.Entry.{Entry}
-use Rattle.history.specs.declared.entry.Mode.TheVariants.{X, S}
-use Rattle.history.specs.declared.entry.Word.{Word}
 use Rattle.history.specs.declared.entry.Word.TheVariants as word
-use Rattle.history.specs.declared.fault.Fault.{Fault}
 use Rattle.history.specs.declared.fault.Fault.TheVariants as fault
-use Rattle.history.specs.declared.step.Answer.{Answer}
-use Rattle.history.specs.declared.step.Answer.TheVariants.{Recorded}
-use Rattle.history.specs.declared.step.Step.{Step}
-use Rattle.history.specs.declared.step.Step.TheVariants.{Look, Expire, Interrupt, Await, Signal, SignalAll}
-use Rattle.history.specs.Answers.{answer, answer_by, results}
-use Rattle.history.specs.Could.{is_seat}
-use Rattle.history.specs.Counts.{Counts, counts, owner}
-use Rattle.history.specs.Legal.{IsLegal}
-use Rattle.history.specs.Naming.{named, ready}
-use Rattle.history.specs.Phase.{Phase, Idle, InLine, Sleeping, phase}
-use Rattle.history.specs.Room.{has_room}
-use Rattle.history.specs.Start.{Start}
-use Rattle.history.specs.Steps.{entry_for, phase_entry, idle_entry, queued_entry, sleeping_entry, plain, awaits, signals, back}
 use Rattle.history.proofs.Entering.{by_phase}
 
 -- the entry that a step makes is of its own seat

@@ -1,9 +1,7 @@
 -- What is asked for most is told in one piece.
 use Rattle.std.proofs.Common.{◌≡◌, ℕ, List, ◌∷◌, ◌++◌, codes, decimal, sym, arith}
 use Rattle.std.proofs.lemmas.Fmt.{decimal_digit}
-use Rattle.history.specs.declared.entry.Mode.{Mode}
-use Rattle.history.specs.declared.entry.Mode.TheVariants.{X}
-use Rattle.history.specs.EntryWords.{mode_word}
+use Rattle.history.specs.Prelude.{Mode, X, mode_word}
 
 pub asked_once : (name once : List ℕ) (mode : Mode) (n : ℕ) → once ≡ name ++ codes " x 1" → mode ≡ X →
     n ≡ 1 → name ++ 32 ∷ (mode_word mode ++ 32 ∷ decimal n) ≡ once

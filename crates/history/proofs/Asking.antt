@@ -2,18 +2,8 @@
 use Rattle.std.proofs.Common.{◌≡◌, ℕ, ◌≤◌, false, not, ◌&&◌, eqb, ltb, ltb-false, List, [], ◌∷◌, map, take, subst, sym, arith}
 use Rattle.std.specs.List.{AllByRecursion}
 use Rattle.std.proofs.lemmas.Bool.{or_parts}
-use Rattle.history.specs.declared.limits.TheConstants.{MOST_AMOUNT}
-use Rattle.history.specs.declared.arrival.Arrival.{Arrival}
-use Rattle.history.specs.declared.entry.Entry.{Entry}
-use Rattle.history.specs.declared.entry.Word.{Word}
+use Rattle.history.specs.Prelude.{MOST_AMOUNT, Arrival, Entry, Word, Object, is_bad_number, IsLegal, line, arrivals_by, coming_back, is_semaphore, sleepers, Start}
 use Rattle.history.specs.declared.entry.Word.TheVariants as word
-use Rattle.history.specs.declared.header.Object.{Object}
-use Rattle.history.specs.Faults.{is_bad_number}
-use Rattle.history.specs.Legal.{IsLegal}
-use Rattle.history.specs.Line.{line, arrivals_by, coming_back}
-use Rattle.history.specs.Object.{is_semaphore}
-use Rattle.history.specs.Sleepers.{sleepers}
-use Rattle.history.specs.Start.{Start}
 use Rattle.history.proofs.Entering.{KnownBy, known}
 use Rattle.history.proofs.LineLemmas.{line_after, line_at_first, stays}
 use Rattle.history.proofs.Times.{each-append, each-filter}

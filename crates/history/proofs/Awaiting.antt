@@ -1,26 +1,10 @@
 -- One who awaits sleeps on or is on its way back while others' entries come, and what its steps make.
-use Rattle.std.proofs.Common.{◌≡◌, ◌≢◌, ◌⊎◌, inl, inr, ⊎_elim, ℕ, Bool, true, false, ◌||◌, cond, eqb, List, [], ◌∷◌, ◌++◌, map, take, drop, Option, Some, None, Result, Ok, refl, ap, ◌∙◌, sym, subst, arith}
+use Rattle.std.proofs.Common.{◌≡◌, ◌≢◌, ◌⊎◌, inl, inr, ⊎_elim, ℕ, Bool, true, false, ◌||◌, cond, eqb, List, [], ◌∷◌, ◌++◌, map, take, drop, Option, Some, None, Result, Ok, refl, ap, ◌∙◌, sym, subst, arith, eqb-true, eq-eqb, ne_eqb}
 use Rattle.history.proofs.OneWait.{last_sleep_own}
-use Rattle.std.proofs.lemmas.Bool.{cases_eq, eqb-true, eq-eqb, ne_eqb}
-use Rattle.history.specs.declared.arrival.Arrival.{Arrival}
-use Rattle.history.specs.declared.entry.End.{End}
+use Rattle.std.proofs.lemmas.Bool.{cases_eq}
+use Rattle.history.specs.Prelude.{Arrival, End, Entry, Word, Fault, Step, Look, Expire, Interrupt, SleepsAs, ReturnsAs, AwaitsAs, signalled, lapsed, back_from, lapse_from, is_seat, ends_arrival, line, arrivals_by, place_of, coming_back, ready, waits, was_owed, sleepers, sleepers_after, sleep_after, sleeps_below, last_sleep, has, without, Start, Sleep, entry_for, sleeping_entry, lapse}
 use Rattle.history.specs.declared.entry.End.TheVariants as end
-use Rattle.history.specs.declared.entry.Entry.{Entry}
-use Rattle.history.specs.declared.entry.Word.{Word}
 use Rattle.history.specs.declared.entry.Word.TheVariants as word
-use Rattle.history.specs.declared.fault.Fault.{Fault}
-use Rattle.history.specs.declared.step.Step.{Step}
-use Rattle.history.specs.declared.step.Step.TheVariants.{Look, Expire, Interrupt}
-use Rattle.history.specs.Awaiting.{SleepsAs, ReturnsAs, AwaitsAs, signalled, lapsed, back_from, lapse_from}
-use Rattle.history.specs.Could.{is_seat}
-use Rattle.history.specs.Entry.{ends_arrival}
-use Rattle.history.specs.Line.{line, arrivals_by, place_of, coming_back}
-use Rattle.history.specs.Naming.{ready}
-use Rattle.history.specs.Phase.{waits}
-use Rattle.history.specs.Room.{was_owed}
-use Rattle.history.specs.Sleepers.{sleepers, sleepers_after, sleep_after, sleeps_below, last_sleep, has, without}
-use Rattle.history.specs.Start.{Start, Sleep}
-use Rattle.history.specs.Steps.{entry_for, sleeping_entry, lapse}
 use Rattle.history.proofs.Entering.{KnownBy, known}
 use Rattle.history.proofs.SleepLemmas.{last_sleep_other, sleepers_here, sleepers_other, sleeps_there, idle_parts}
 use Rattle.history.proofs.Staying.{stays_in_line, arrives_by, arrives_itself}

@@ -1,19 +1,8 @@
 -- Who is away was away before, or has just gone to sleep: its last sleep is the one of which its entries say.
-use Rattle.std.proofs.Common.{◌≡◌, ◌⊎◌, inl, inr, ⊎_elim, ℕ, ◌<◌, Bool, true, false, cond, eqb, eqb-true, List, [], ◌∷◌, ◌++◌, take, Option, Some, None, refl, ap, ◌∙◌, sym, subst, arith}
+use Rattle.std.proofs.Common.{◌≡◌, ◌⊎◌, inl, inr, ⊎_elim, ℕ, ◌<◌, Bool, true, false, cond, eqb, eqb-true, List, [], ◌∷◌, ◌++◌, take, Option, Some, None, refl, ap, ◌∙◌, sym, subst, arith, eq-eqb}
 use Rattle.std.specs.List.{AllByRecursion}
-use Rattle.std.proofs.lemmas.Bool.{eq-eqb}
-use Rattle.history.specs.declared.arrival.Arrival.{Arrival}
-use Rattle.history.specs.declared.entry.Entry.{Entry}
-use Rattle.history.specs.declared.entry.Word.{Word}
+use Rattle.history.specs.Prelude.{Arrival, Entry, Word, IsLegal, arrivals_by, line, place_of, is_away, phase, phase_by, entries_of, has, last_sleep, sleep_after, sleepers, sleeps_below, Start, StandOnce}
 use Rattle.history.specs.declared.entry.Word.TheVariants as word
-use Rattle.history.specs.Legal.{IsLegal}
-use Rattle.history.specs.Line.{arrivals_by, line, place_of}
-use Rattle.history.specs.Ownership.{is_away}
-use Rattle.history.specs.Phase.{phase, phase_by}
-use Rattle.history.specs.Point.{entries_of}
-use Rattle.history.specs.Sleepers.{has, last_sleep, sleep_after, sleepers, sleeps_below}
-use Rattle.history.specs.Start.{Start}
-use Rattle.history.specs.Waiting.{StandOnce}
 use Rattle.history.proofs.Entering.{Known, KnownBy, known}
 use Rattle.history.proofs.LineLemmas.{line_after}
 use Rattle.history.proofs.OneWait.{Waits, acts, all_come, line_stays, placed, take_has, waits_from}

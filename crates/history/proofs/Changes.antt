@@ -2,17 +2,7 @@
 use Rattle.std.proofs.Common.{◌≡◌, ℕ, ◌-◌, Bool, true, false, ◌&&◌, cond, eqb, List, [], ◌∷◌, ◌++◌, refl, ap, ◌∙◌, ℤ}
 use mathlib.Core.Path.{fun_ext}
 use Rattle.std.specs.List.{filter}
-use Rattle.history.specs.declared.entry.Entry.{Entry}
-use Rattle.history.specs.declared.arrival.Arrival.{Arrival}
-use Rattle.history.specs.declared.entry.Mode.{Mode}
-use Rattle.history.specs.declared.entry.Word.{Word}
-use Rattle.history.specs.declared.entry.Word.TheVariants.{Queued, Missed, Left, Refused}
-use Rattle.history.specs.Start.{Start}
-use Rattle.history.specs.declared.header.Object.{Object}
-use Rattle.history.specs.Entry.{ends_arrival, same_mode}
-use Rattle.history.specs.Counts.{counts, held, holds_after, free, free_after, count, counted, counted_after}
-use Rattle.history.specs.Object.{opening_count}
-use Rattle.history.specs.Line.{line, arrivals_by}
+use Rattle.history.specs.Prelude.{Entry, Arrival, Mode, Word, Queued, Missed, Left, Refused, Start, Object, ends_arrival, same_mode, counts, held, holds_after, free, free_after, count, counted, counted_after, opening_count, line, arrivals_by}
 use Rattle.history.proofs.LineLemmas.{line_after, stays}
 
 -- the words that change no number

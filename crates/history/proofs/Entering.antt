@@ -1,30 +1,11 @@
 -- What is known of an entry of a legal history by its word.
-use Rattle.std.proofs.Common.{◌≡◌, ◌⊎◌, inl, inr, ℕ, Bool, true, false, not, cond, ltb, List, Option, Some, None, Result, Ok, Err, refl, ap, subst, ◌<◌, ◌≤◌, length, arith}
+use Rattle.std.proofs.Common.{◌≡◌, ◌⊎◌, inl, inr, ℕ, Bool, true, false, not, cond, ltb, List, Option, Some, None, Result, Ok, Err, refl, ap, subst, ◌<◌, ◌≤◌, length, arith, eqb-true, ltb-false, leb-false}
 use Rattle.std.proofs.lemmas.Option.{same_Some}
-use Rattle.std.proofs.lemmas.Bool.{cond_both, eqb-true, ltb-false, leb-false, or_parts, not-false}
-use Rattle.history.specs.declared.arrival.Arrival.{Arrival}
+use Rattle.std.proofs.lemmas.Bool.{cond_both, or_parts, not-false}
+use Rattle.history.specs.Prelude.{Arrival, Entry, Fault, Mode, X, S, Word, Object, Lock, ReadWrite, Semaphore, Latch, Step, Acquire, Try, TryFair, EntryInterrupt, Give, Look, Expire, Interrupt, Await, Signal, SignalAll, Drain, could, limit, held_back, is_seat, try_held_back, Counts, counts, owner, held, free, is_wrong_mode, is_no_condition, is_bad_amount, lacks_mode, is_bad_number, line, first_mode, place_of, ready, is_lock, is_latch, is_semaphore, Phase, Idle, InLine, Sleeping, phase, phase_by, suits, sleepers, Start, entry_for, phase_entry, idle_entry, queued_entry, sleeping_entry, plain, ended, back, lapse, gave, awaits, signals, at_most_one, at_least_none}
 use Rattle.history.specs.declared.entry.End.TheVariants as end
-use Rattle.history.specs.declared.entry.Entry.{Entry}
-use Rattle.history.specs.declared.fault.Fault.{Fault}
 use Rattle.history.specs.declared.fault.Fault.TheVariants as fault
-use Rattle.history.specs.declared.entry.Mode.{Mode}
-use Rattle.history.specs.declared.entry.Mode.TheVariants.{X, S}
-use Rattle.history.specs.declared.entry.Word.{Word}
 use Rattle.history.specs.declared.entry.Word.TheVariants as word
-use Rattle.history.specs.declared.header.Object.{Object}
-use Rattle.history.specs.declared.header.Object.TheVariants.{Lock, ReadWrite, Semaphore, Latch}
-use Rattle.history.specs.declared.step.Step.{Step}
-use Rattle.history.specs.declared.step.Step.TheVariants.{Acquire, Try, TryFair, EntryInterrupt, Give, Look, Expire, Interrupt, Await, Signal, SignalAll, Drain}
-use Rattle.history.specs.Could.{could, limit, held_back, is_seat, try_held_back}
-use Rattle.history.specs.Counts.{Counts, counts, owner, held, free}
-use Rattle.history.specs.Faults.{is_wrong_mode, is_no_condition, is_bad_amount, lacks_mode, is_bad_number}
-use Rattle.history.specs.Line.{line, first_mode, place_of}
-use Rattle.history.specs.Naming.{ready}
-use Rattle.history.specs.Object.{is_lock, is_latch, is_semaphore}
-use Rattle.history.specs.Phase.{Phase, Idle, InLine, Sleeping, phase, phase_by, suits}
-use Rattle.history.specs.Sleepers.{sleepers}
-use Rattle.history.specs.Start.{Start}
-use Rattle.history.specs.Steps.{entry_for, phase_entry, idle_entry, queued_entry, sleeping_entry, plain, ended, back, lapse, gave, awaits, signals, at_most_one, at_least_none}
 
 -- the tests that come first let the step through
 passed : {A : Type 0} (b : Bool) (f : Fault) (r : Result A Fault) (x : A) → cond b (Err f) r ≡ Ok x →

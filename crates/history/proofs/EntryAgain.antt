@@ -1,30 +1,10 @@
 -- What an entry's words spell is read again.
-use Rattle.std.proofs.Common.{◌≡◌, ◌≢◌, ℕ, ◌^◌, ◌<◌, ◌≤◌, true, [], ◌∷◌, Some, refl, sym, ap, ◌∙◌, arith, decimal}
-use Rattle.std.specs.Prelude.{codes}
-use Rattle.history.specs.declared.limits.TheConstants.{MOST_AMOUNT}
-use Rattle.history.specs.declared.entry.Entry.{Entry}
-use Rattle.history.specs.declared.entry.End.{End}
+use Rattle.std.proofs.Common.{◌≡◌, ◌≢◌, ℕ, ◌^◌, ◌<◌, ◌≤◌, true, [], ◌∷◌, Some, refl, sym, ap, ◌∙◌, arith, decimal, codes}
+use Rattle.history.specs.Prelude.{MOST_AMOUNT, Entry, End, Mode, X, S, Word, Fault, fault_name, IsRecorded, line_of, words_of, mode_word, end_word, spelt, entry_words, CameBack, HasWords, IsWritten, given_up_at, come_back_at, recorded_at, asked_at, condition_at, sleepers_at, left_at, refused_at, lapse_at, back_at, shared_at, named_entry_at, entry_at, Words}
 use Rattle.history.specs.declared.entry.End.TheVariants as end
-use Rattle.history.specs.declared.entry.Mode.{Mode}
-use Rattle.history.specs.declared.entry.Mode.TheVariants.{X, S}
-use Rattle.history.specs.declared.entry.Word.{Word}
 use Rattle.history.specs.declared.entry.Word.TheVariants as word
-use Rattle.history.specs.declared.fault.Fault.{Fault}
 use Rattle.history.specs.declared.fault.Fault.TheVariants as fault
-use Rattle.history.specs.Fault.{fault_name, IsRecorded}
-use Rattle.history.specs.Text.{line_of, words_of}
-use Rattle.history.specs.EntryWords.{
-  mode_word,
-  end_word,
-  spelt,
-  entry_words,
-  GaveUp,
-  CameBack,
-  HasWords,
-  IsWritten,
-}
-use Rattle.history.specs.EntryReading.{given_up_at, come_back_at, recorded_at, asked_at, condition_at, sleepers_at, left_at, refused_at, lapse_at, back_at, shared_at, named_entry_at, entry_at}
-use Rattle.history.specs.Reading.{Words}
+use Rattle.history.specs.EntryWords.{GaveUp}
 use Rattle.history.proofs.Numbers.{number_at_again}
 use Rattle.history.proofs.Plain.{is_plain, ArePlain, words_again, decimal_plain}
 

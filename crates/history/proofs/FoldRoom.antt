@@ -1,21 +1,10 @@
 -- An entry that can be folded finds its places in the base.
-use Rattle.std.proofs.Common.{◌≡◌, ◌≢◌, ⊎_elim, ℕ, zero, suc, ◌+◌, ◌<◌, ◌≤◌, ◌^◌, [], ◌∷◌, ◌++◌, length, refl, ap, subst, ◌∙◌, arith}
+use Rattle.std.proofs.Common.{◌≡◌, ◌≢◌, ⊎_elim, ℕ, zero, suc, ◌+◌, ◌<◌, ◌≤◌, ◌^◌, [], ◌∷◌, ◌++◌, length, refl, ap, subst, ◌∙◌, arith, length-append}
 use Rattle.std.proofs.lemmas.Bool.{cases_eq}
-use Rattle.std.proofs.lemmas.List.{length-append, length-map}
-use Rattle.history.specs.declared.limits.TheConstants.{MOST_FOLDED}
-use Rattle.history.specs.declared.base.SeatBase.{SeatBase}
-use Rattle.history.specs.declared.entry.Entry.{Entry}
+use Rattle.std.proofs.lemmas.List.{length-map}
+use Rattle.history.specs.Prelude.{MOST_FOLDED, SeatBase, Entry, Base, based, folded, seat_of, sleepers_of, standing_after, IsGood, IsModest, IsInRange, line, next_base, seat_then, CanFold, sleepers, Start, asleep}
 use Rattle.history.specs.declared.entry.Word.TheVariants as word
-use Rattle.history.specs.Base.{Base, based, folded, seat_of, sleepers_of, standing_after}
 use Rattle.history.specs.inner.BasePlaces.{HasPlaces}
-use Rattle.history.specs.GoodBase.{IsGood, IsModest}
-use Rattle.history.specs.Header.{IsInRange}
-use Rattle.history.specs.Line.{line}
-use Rattle.history.specs.NextBase.{next_base, seat_then}
-use Rattle.history.specs.Point.{CanFold}
-use Rattle.history.specs.Sleepers.{sleepers}
-use Rattle.history.specs.Start.{Start}
-use Rattle.history.specs.Waiting.{asleep}
 use Rattle.history.proofs.Entering.{KnownBy, known}
 use Rattle.history.proofs.Folding.{seat_folded}
 use Rattle.history.proofs.GoodBases.{good_waits}

@@ -1,17 +1,9 @@
 -- A fold of many entries, step by step: one entry more, and the entries of one page more.
-use Rattle.std.proofs.Common.{◌≡◌, ℕ, ◌+◌, ◌<◌, ◌≤◌, List, [], ◌∷◌, ◌++◌, length, reverse, get_or, take, drop, refl, ap, subst, sym, ◌∙◌, arith}
-use Rattle.std.proofs.lemmas.List.{append-nil, append_assoc, length-append, reverse-append, take-append-drop, take_more}
+use Rattle.std.proofs.Common.{◌≡◌, ℕ, ◌+◌, ◌<◌, ◌≤◌, List, [], ◌∷◌, ◌++◌, length, reverse, get_or, take, drop, refl, ap, subst, sym, ◌∙◌, arith, append-nil, append_assoc, length-append, take-append-drop, IsSomeAnd, Option, None, Some}
+use Rattle.std.proofs.lemmas.List.{reverse-append, take_more}
 use Rattle.std.specs.Option.{option_map}
-use Rattle.std.specs.Prelude.{IsSomeAnd, Option, None, Some}
-use Rattle.history.specs.declared.limits.TheConstants.{MOST_FOLDED}
-use Rattle.history.specs.declared.entry.Entry.{Entry}
-use Rattle.history.specs.declared.header.Header.{Header}
-use Rattle.history.specs.Base.{Base, based, folded, opening_base}
+use Rattle.history.specs.Prelude.{MOST_FOLDED, Entry, Header, Base, based, folded, opening_base, MayFold, IsInRange, AreSeated, next_base}
 use Rattle.history.specs.inner.BasePlaces.{HasPlaces}
-use Rattle.history.specs.Fold.{MayFold}
-use Rattle.history.specs.Header.{IsInRange}
-use Rattle.history.specs.Legal.{AreSeated}
-use Rattle.history.specs.NextBase.{next_base}
 use Rattle.history.specs.inner.Paged.{in_pages}
 use Rattle.history.proofs.FoldRoom.{fold_places}
 use Rattle.history.proofs.Folding.{folds_on, legal_goes_on}

@@ -1,31 +1,11 @@
 -- A base and entries behind it, folded, says what they said.
-use Rattle.std.proofs.Common.{◌≡◌, ◌≢◌, ⊎_elim, ℕ, zero, suc, ◌+◌, ◌-◌, ◌<◌, ◌≤◌, Bool, true, false, ◌&&◌, ◌||◌, cond, eqb, List, [], ◌∷◌, ◌++◌, map, length, get_or, replicate, Option, Some, None, refl, ap, ◌∙◌, sym, arith}
+use Rattle.std.proofs.Common.{◌≡◌, ◌≢◌, ⊎_elim, ℕ, zero, suc, ◌+◌, ◌-◌, ◌<◌, ◌≤◌, Bool, true, false, ◌&&◌, ◌||◌, cond, eqb, List, [], ◌∷◌, ◌++◌, map, length, get_or, replicate, Option, Some, None, refl, ap, ◌∙◌, sym, arith, ◌↔◌, ℤ, pos, ◌+ℤ◌, ◌-ℤ◌, eqb-true, eq-eqb, ne_eqb, length-append, ext_get_or}
 use Rattle.std.specs.List.{AllByRecursion}
-use Rattle.std.specs.Prelude.{◌↔◌, ℤ, pos, ◌+ℤ◌, ◌-ℤ◌}
-use Rattle.std.proofs.lemmas.Bool.{cases_eq, eqb-true, eq-eqb, ne_eqb, or_right}
+use Rattle.std.proofs.lemmas.Bool.{cases_eq, or_right}
 use Rattle.std.proofs.lemmas.Int.{ints}
-use Rattle.std.proofs.lemmas.List.{length-append, length-replicate, ext_get_or, get_or-replicate, get_or_append_left, get_or_at, get_or_past}
-use Rattle.history.specs.declared.arrival.Arrival.{Arrival}
-use Rattle.history.specs.declared.base.SeatBase.{SeatBase}
-use Rattle.history.specs.declared.base.Sleeper.{Sleeper}
-use Rattle.history.specs.declared.base.LinePlace.{LinePlace}
+use Rattle.std.proofs.lemmas.List.{length-replicate, get_or-replicate, get_or_append_left, get_or_at, get_or_past}
+use Rattle.history.specs.Prelude.{Arrival, SeatBase, Sleeper, LinePlace, Entry, Mode, X, S, Object, Lock, ReadWrite, Semaphore, Latch, Base, based, calls_of, each_below, either, folded, holds_of, nothing, or_awake, seat_after, seat_of, sleep_below, sleep_in_line, sleep_on, sleeper_after, sleepers_of, standing_after, stands_from, IsConserved, permits_held, counted, free, held, total, unheld, ends_call, AreCounted, IsGood, StandsWell, AreSeated, IsLegal, calls, line, created, is_semaphore, opening_count, has, last_sleep, sleepers, Sleep, awake, seats_of, times}
 use Rattle.history.specs.declared.entry.End.TheVariants as end
-use Rattle.history.specs.declared.entry.Entry.{Entry}
-use Rattle.history.specs.declared.entry.Mode.{Mode}
-use Rattle.history.specs.declared.entry.Mode.TheVariants.{X, S}
-use Rattle.history.specs.declared.header.Object.{Object}
-use Rattle.history.specs.declared.header.Object.TheVariants.{Lock, ReadWrite, Semaphore, Latch}
-use Rattle.history.specs.Base.{Base, based, calls_of, each_below, either, folded, holds_of, nothing, or_awake, seat_after, seat_of, sleep_below, sleep_in_line, sleep_on, sleeper_after, sleepers_of, standing_after, stands_from}
-use Rattle.history.specs.Conservation.{IsConserved, permits_held}
-use Rattle.history.specs.Counts.{counted, free, held, total, unheld}
-use Rattle.history.specs.Entry.{ends_call}
-use Rattle.history.specs.GoodBase.{AreCounted, IsGood, StandsWell}
-use Rattle.history.specs.Legal.{AreSeated, IsLegal, calls}
-use Rattle.history.specs.Line.{line}
-use Rattle.history.specs.Object.{created, is_semaphore, opening_count}
-use Rattle.history.specs.Sleepers.{has, last_sleep, sleepers}
-use Rattle.history.specs.Start.{Sleep, awake}
-use Rattle.history.specs.Waiting.{seats_of, times}
 use Rattle.history.proofs.Alike.{Alike, ReturnAlike, alike_next, entry_alike}
 use Rattle.history.proofs.Entering.{known}
 use Rattle.history.proofs.GoodBases.{good_waits, sleep_of, slept_there, waits_once}

@@ -1,23 +1,9 @@
 -- What a good base says of who waits.
-use Rattle.std.proofs.Common.{◌≡◌, ◌≢◌, ⊎_elim, ℕ, zero, suc, ◌+◌, ◌<◌, ◌≤◌, Bool, true, false, ◌&&◌, ◌||◌, cond, eqb, List, [], ◌∷◌, map, Some, None, refl, ap, ◌∙◌, sym, subst, arith}
+use Rattle.std.proofs.Common.{◌≡◌, ◌≢◌, ⊎_elim, ℕ, zero, suc, ◌+◌, ◌<◌, ◌≤◌, Bool, true, false, ◌&&◌, ◌||◌, cond, eqb, List, [], ◌∷◌, map, Some, None, refl, ap, ◌∙◌, sym, subst, arith, eqb-true, eq-eqb}
 use Rattle.std.specs.List.{AllByRecursion}
-use Rattle.std.proofs.lemmas.Bool.{cases_eq, eqb-true, eq-eqb, or_right}
-use Rattle.history.specs.declared.arrival.Arrival.{Arrival}
-use Rattle.history.specs.declared.base.Sleeper.{Sleeper}
-use Rattle.history.specs.declared.base.LinePlace.{LinePlace}
+use Rattle.std.proofs.lemmas.Bool.{cases_eq, or_right}
+use Rattle.history.specs.Prelude.{Arrival, Sleeper, LinePlace, X, Object, Lock, ReadWrite, Semaphore, Latch, Base, based, either, or_awake, sleep_below, sleep_in_line, sleep_on, sleepers_of, held, total, AreHeld, GaveUp, IsGood, SleepsWell, StandsWell, line, is_lock, IsOwned, most_exclusive, has, last_sleep, sleepers, Sleep, seats_of, times}
 use Rattle.history.specs.declared.entry.End.TheVariants as end
-use Rattle.history.specs.declared.entry.Mode.TheVariants.{X}
-use Rattle.history.specs.declared.header.Object.{Object}
-use Rattle.history.specs.declared.header.Object.TheVariants.{Lock, ReadWrite, Semaphore, Latch}
-use Rattle.history.specs.Base.{Base, based, either, or_awake, sleep_below, sleep_in_line, sleep_on, sleepers_of}
-use Rattle.history.specs.Counts.{held, total}
-use Rattle.history.specs.GoodBase.{AreHeld, GaveUp, IsGood, SleepsWell, StandsWell}
-use Rattle.history.specs.Line.{line}
-use Rattle.history.specs.Object.{is_lock}
-use Rattle.history.specs.Ownership.{IsOwned, most_exclusive}
-use Rattle.history.specs.Sleepers.{has, last_sleep, sleepers}
-use Rattle.history.specs.Start.{Sleep}
-use Rattle.history.specs.Waiting.{seats_of, times}
 use Rattle.history.proofs.LineLemmas.{line_at_first}
 use Rattle.history.proofs.OneWait.{Saved, SavedIfBack, Sleeps, Waits}
 use Rattle.history.proofs.SleepLemmas.{times-waiting}

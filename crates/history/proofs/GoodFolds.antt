@@ -1,38 +1,12 @@
 -- The fold of legal entries on a good base is a good base.
-use Rattle.std.proofs.Common.{◌≡◌, ◌≢◌, inl, inr, ⊎_elim, ℕ, ◌+◌, ◌*◌, ◌<◌, ◌≤◌, Bool, true, false, ◌&&◌, ◌||◌, cond, eqb, List, [], ◌∷◌, map, take, length, Some, Ok, refl, ap, ◌∙◌, sym, subst, arith}
+use Rattle.std.proofs.Common.{◌≡◌, ◌≢◌, inl, inr, ⊎_elim, ℕ, ◌+◌, ◌*◌, ◌<◌, ◌≤◌, Bool, true, false, ◌&&◌, ◌||◌, cond, eqb, List, [], ◌∷◌, map, take, length, Some, Ok, refl, ap, ◌∙◌, sym, subst, arith, ℤ, pos, ◌≤ℤ◌, FitsSigned, eq-eqb}
 use Rattle.std.specs.List.{AllByRecursion}
-use Rattle.std.specs.Prelude.{ℤ, pos, ◌≤ℤ◌, FitsSigned}
 use Rattle.std.specs.Int.{w32}
-use Rattle.std.proofs.lemmas.Bool.{eq-eqb, or_right}
+use Rattle.std.proofs.lemmas.Bool.{or_right}
 use Rattle.std.proofs.lemmas.Int.{ints}
 use Rattle.std.proofs.lemmas.List.{get_or_past}
-use Rattle.history.specs.declared.limits.TheConstants.{MOST_AMOUNT, MOST_FOLDED}
-use Rattle.history.specs.declared.arrival.Arrival.{Arrival}
-use Rattle.history.specs.declared.base.Sleeper.{Sleeper}
-use Rattle.history.specs.declared.base.LinePlace.{LinePlace}
-use Rattle.history.specs.declared.entry.Entry.{Entry}
-use Rattle.history.specs.declared.entry.Mode.{Mode}
-use Rattle.history.specs.declared.entry.Mode.TheVariants.{X, S}
-use Rattle.history.specs.declared.entry.Word.{Word}
+use Rattle.history.specs.Prelude.{MOST_AMOUNT, MOST_FOLDED, Arrival, Sleeper, LinePlace, Entry, Mode, X, S, Word, Object, Lock, ReadWrite, Semaphore, Latch, Step, Base, based, each_below, folded, seat_after, sleeper_after, sleepers_of, standing_after, stands_from, count, free, held, holds_after, total, unheld, same_mode, is_bad_number, lacks_mode, AreCounted, AreHeld, ArePermits, GaveUp, IsGood, IsModest, SleepsWell, StandsWell, IsInRange, AreSeated, IsLegal, calls, arrivals_by, coming_back, line, created, is_latch, is_lock, is_semaphore, opening_count, IsOwned, most_exclusive, most_shared, CanFold, has, last_sleep, sleepers, Sleep, Start, awake, entry_for, times}
 use Rattle.history.specs.declared.entry.Word.TheVariants as word
-use Rattle.history.specs.declared.header.Object.{Object}
-use Rattle.history.specs.declared.header.Object.TheVariants.{Lock, ReadWrite, Semaphore, Latch}
-use Rattle.history.specs.declared.step.Step.{Step}
-use Rattle.history.specs.Base.{Base, based, each_below, folded, seat_after, sleeper_after, sleepers_of, standing_after, stands_from}
-use Rattle.history.specs.Counts.{count, free, held, holds_after, total, unheld}
-use Rattle.history.specs.Entry.{same_mode}
-use Rattle.history.specs.Faults.{is_bad_number, lacks_mode}
-use Rattle.history.specs.GoodBase.{AreCounted, AreHeld, ArePermits, GaveUp, IsGood, IsModest, SleepsWell, StandsWell}
-use Rattle.history.specs.Header.{IsInRange}
-use Rattle.history.specs.Legal.{AreSeated, IsLegal, calls}
-use Rattle.history.specs.Line.{arrivals_by, coming_back, line}
-use Rattle.history.specs.Object.{created, is_latch, is_lock, is_semaphore, opening_count}
-use Rattle.history.specs.Ownership.{IsOwned, most_exclusive, most_shared}
-use Rattle.history.specs.Point.{CanFold}
-use Rattle.history.specs.Sleepers.{has, last_sleep, sleepers}
-use Rattle.history.specs.Start.{Sleep, Start, awake}
-use Rattle.history.specs.Steps.{entry_for}
-use Rattle.history.specs.Waiting.{times}
 use Rattle.history.proofs.Alike.{Alike, waiting_alike}
 use Rattle.history.proofs.Entering.{Known, KnownBy, known}
 use Rattle.history.proofs.Folding.{fold_alike, get_or-each, length-each, none_beyond}

@@ -1,14 +1,6 @@
 -- Whoever has an exclusive hold is idle: it neither stands in line nor sleeps.
 use Rattle.std.proofs.Common.{◌≡◌, ℕ, ◌<◌, Bool, true, false, List, Option, Some, None, refl, ap, ◌∙◌, sym, arith}
-use Rattle.history.specs.declared.arrival.Arrival.{Arrival}
-use Rattle.history.specs.declared.entry.Entry.{Entry}
-use Rattle.history.specs.declared.entry.Mode.TheVariants.{X}
-use Rattle.history.specs.Base.{Base, based}
-use Rattle.history.specs.Counts.{held}
-use Rattle.history.specs.Line.{line, place_of}
-use Rattle.history.specs.Phase.{Idle, phase, phase_by}
-use Rattle.history.specs.Point.{CanFold}
-use Rattle.history.specs.Sleepers.{sleeps_below}
+use Rattle.history.specs.Prelude.{Arrival, Entry, X, Base, based, held, line, place_of, Idle, phase, phase_by, CanFold, sleeps_below}
 use Rattle.history.proofs.GoodBases.{good_waits}
 use Rattle.history.proofs.GoodFolds.{Queues, queues}
 use Rattle.history.proofs.OneWait.{SavedIfBack, Waits, placed, waits_from}

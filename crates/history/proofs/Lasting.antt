@@ -1,33 +1,11 @@
 -- One who waits still does while no call of its seat ends and its last sleep stays, also where the history is
 -- folded in between.
-use Rattle.std.proofs.Common.{◌≡◌, ◌≢◌, ◌⊎◌, inl, inr, ⊎_elim, ℕ, ◌+◌, ◌<◌, Bool, true, false, ◌==◌, cond, eqb, eqb-true, List, [], ◌∷◌, ◌++◌, Option, Some, None, Result, Ok, refl, ap, ◌∙◌, sym, subst, arith}
+use Rattle.std.proofs.Common.{◌≡◌, ◌≢◌, ◌⊎◌, inl, inr, ⊎_elim, ℕ, ◌+◌, ◌<◌, Bool, true, false, ◌==◌, cond, eqb, eqb-true, List, [], ◌∷◌, ◌++◌, Option, Some, None, Result, Ok, refl, ap, ◌∙◌, sym, subst, arith, eq-eqb, append_assoc}
 use Rattle.std.specs.List.{AllByRecursion}
-use Rattle.std.proofs.lemmas.Bool.{eq-eqb}
 use Rattle.std.proofs.lemmas.List.Elements.{filter-append}
-use Rattle.std.proofs.lemmas.List.{append_assoc}
-use Rattle.history.specs.declared.arrival.Arrival.{Arrival}
-use Rattle.history.specs.declared.entry.End.{End}
+use Rattle.history.specs.Prelude.{Arrival, End, Entry, Word, Fault, Header, Point, Step, Expire, Interrupt, AwaitsAs, ReturnsAs, SleepsAs, lapse_from, lapsed, based, folded, seat_of, ended_calls, ends_arrival, ends_call, IsLegal, coming_back, line, place_of, is_away, phase, phase_by, suits, waits, Agrees, CanFold, ComesBefore, entries_of, has, last_sleep, sleeps_below, Sleep, Start, opening, entry_for}
 use Rattle.history.specs.declared.entry.End.TheVariants as end
-use Rattle.history.specs.declared.entry.Entry.{Entry}
-use Rattle.history.specs.declared.entry.Word.{Word}
 use Rattle.history.specs.declared.entry.Word.TheVariants as word
-use Rattle.history.specs.declared.fault.Fault.{Fault}
-use Rattle.history.specs.declared.header.Header.{Header}
-use Rattle.history.specs.declared.point.Point.{Point}
-use Rattle.history.specs.declared.step.Step.{Step}
-use Rattle.history.specs.declared.step.Step.TheVariants.{Expire, Interrupt}
-use Rattle.history.specs.Awaiting.{AwaitsAs, ReturnsAs, SleepsAs, lapse_from, lapsed}
-use Rattle.history.specs.Base.{based, folded, seat_of}
-use Rattle.history.specs.Entries.{ended_calls}
-use Rattle.history.specs.Entry.{ends_arrival, ends_call}
-use Rattle.history.specs.Legal.{IsLegal}
-use Rattle.history.specs.Line.{coming_back, line, place_of}
-use Rattle.history.specs.Ownership.{is_away}
-use Rattle.history.specs.Phase.{phase, phase_by, suits, waits}
-use Rattle.history.specs.Point.{Agrees, CanFold, ComesBefore, entries_of}
-use Rattle.history.specs.Sleepers.{has, last_sleep, sleeps_below}
-use Rattle.history.specs.Start.{Sleep, Start, opening}
-use Rattle.history.specs.Steps.{entry_for}
 use Rattle.history.proofs.Alike.{Alike, ReturnAlike, away_alike, on}
 use Rattle.history.proofs.Awaiting.{
   AwaitMakes,

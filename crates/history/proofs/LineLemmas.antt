@@ -1,17 +1,11 @@
 -- What an entry makes of the line.
-use Rattle.std.proofs.Common.{◌≡◌, ℕ, ◌+◌, ◌≤◌, Bool, true, false, not, ◌&&◌, cond, eqb, leb, List, [], ◌∷◌, ◌++◌, length, map, Option, Some, None, refl, ap, ◌∙◌, sym, subst, arith}
+use Rattle.std.proofs.Common.{◌≡◌, ℕ, ◌+◌, ◌≤◌, Bool, true, false, not, ◌&&◌, cond, eqb, leb, List, [], ◌∷◌, ◌++◌, length, map, Option, Some, None, refl, ap, ◌∙◌, sym, subst, arith, le-leb}
 use Rattle.std.proofs.Math.Bool.{and-true}
 use Rattle.std.specs.List.{filter, AllByRecursion}
 use Rattle.std.proofs.lemmas.List.Elements.{filter-append}
 use Rattle.std.proofs.lemmas.List.{map-append}
-use Rattle.std.proofs.lemmas.Bool.{le-leb, lt-leb}
-use Rattle.history.specs.Start.{Start}
-use Rattle.history.specs.declared.entry.Entry.{Entry}
-use Rattle.history.specs.declared.arrival.Arrival.{Arrival}
-use Rattle.history.specs.declared.entry.Word.{Word}
-use Rattle.history.specs.declared.entry.Word.TheVariants.{Granted, Left, Back}
-use Rattle.history.specs.Entry.{ends_arrival}
-use Rattle.history.specs.Line.{Arrived, arrived_at, arrivals, arrivals_by, Ending, ending, first_ending, is_open, stands, line}
+use Rattle.std.proofs.lemmas.Bool.{lt-leb}
+use Rattle.history.specs.Prelude.{Start, Entry, Arrival, Word, Granted, Left, Back, ends_arrival, Arrived, arrived_at, arrivals, arrivals_by, Ending, ending, first_ending, is_open, stands, line}
 
 -- the arrivals of a history came by its entries
 each_below-append : (n : ℕ) (xs ys : List Arrived) → AllByRecursion (λ a. a.place ≤ n) xs →

@@ -1,12 +1,8 @@
 -- Sums over lists and over the first numbers.
-use Rattle.std.proofs.Common.{◌≡◌, ◌≢◌, ⊎_elim, ℕ, zero, suc, ◌+◌, ◌≤◌, Bool, true, false, not, ◌||◌, cond, eqb, List, [], ◌∷◌, ◌++◌, length, map, take, drop, Option, Some, None, refl, ap, sym, arith}
+use Rattle.std.proofs.Common.{◌≡◌, ◌≢◌, ⊎_elim, ℕ, zero, suc, ◌+◌, ◌≤◌, Bool, true, false, not, ◌||◌, cond, eqb, List, [], ◌∷◌, ◌++◌, length, map, take, drop, Option, Some, None, refl, ap, sym, arith, eq-eqb, ne_eqb}
 use Rattle.std.specs.List.{filter}
-use Rattle.std.proofs.lemmas.Bool.{cases_eq, eq-eqb, ne_eqb}
-use Rattle.history.specs.declared.arrival.Arrival.{Arrival}
-use Rattle.history.specs.Line.{place_of}
-use Rattle.history.specs.Room.{sum_of}
-use Rattle.history.specs.Sleepers.{has, without}
-use Rattle.history.specs.Waiting.{times, seats_of}
+use Rattle.std.proofs.lemmas.Bool.{cases_eq}
+use Rattle.history.specs.Prelude.{Arrival, place_of, sum_of, has, without, times, seats_of}
 use Rattle.history.proofs.Times.{never_has, never_placed, once_same}
 
 -- sums over a list

@@ -1,11 +1,7 @@
 -- Lists of entries, the newest first.
 use Rattle.std.proofs.Common.{◌≡◌, ◌+◌, ◌≤◌, Bool, true, false, cond, List, [], ◌∷◌, ◌++◌, length, reverse, refl, ap, ◌∙◌, arith}
 use Rattle.std.proofs.lemmas.List.{reverse-append}
-use Rattle.history.specs.declared.entry.Entry.{Entry}
-use Rattle.history.specs.Entry.{ends_call}
-use Rattle.history.specs.Entries.{ended_calls}
-use Rattle.history.specs.Legal.{calls}
-use Rattle.history.specs.Start.{Start}
+use Rattle.history.specs.Prelude.{Entry, ends_call, ended_calls, calls, Start}
 
 -- one entry more at the end of a list is the first from behind
 pub reverse_push : {X : Type 0} (xs : List X) (x : X) → reverse (xs ++ x ∷ []) ≡ x ∷ reverse xs

@@ -1,38 +1,15 @@
 -- Whoever is first in line and could go was told.
-use Rattle.std.proofs.Common.{◌≡◌, ◌⊎◌, inl, inr, ℕ, ◌<◌, Bool, true, false, ◌&&◌, ◌||◌, not, cond, eqb, ltb, List, [], ◌∷◌, ◌++◌, map, take, length, Option, Some, None, Result, Ok, Err, refl, ap, ◌∙◌, sym, subst, arith}
+use Rattle.std.proofs.Common.{◌≡◌, ◌⊎◌, inl, inr, ℕ, ◌<◌, Bool, true, false, ◌&&◌, ◌||◌, not, cond, eqb, ltb, List, [], ◌∷◌, ◌++◌, map, take, length, Option, Some, None, Result, Ok, Err, refl, ap, ◌∙◌, sym, subst, arith, eq-eqb, ne_eqb, true≢false, append-nil}
 use Rattle.history.proofs.Queueing.{all_apart, signal_apart}
 use Rattle.std.specs.List.{filter}
-use Rattle.std.proofs.lemmas.Bool.{cases_eq, eq-eqb, ne_eqb, and_parts, and_right, true≢false}
-use Rattle.std.proofs.lemmas.List.{append-nil}
-use Rattle.history.specs.declared.arrival.Arrival.{Arrival}
-use Rattle.history.specs.declared.entry.Entry.{Entry}
+use Rattle.std.proofs.lemmas.Bool.{cases_eq, and_parts, and_right}
+use Rattle.history.specs.Prelude.{Arrival, Entry, Mode, X, S, Word, Fault, Header, Object, Answer, Recorded, Step, answer, answer_by, results, could, held_back, is_seat, limit, Counts, counts, owner, ends_arrival, is_bad_amount, is_no_condition, is_wrong_mode, arrivals_by, coming_back, first_mode, first_of, line, mode_of, place_of, named, named_by, ready, Idle, InLine, phase, phase_by, suits, has_room, sleepers, sleeps_below, Start, opening, at_most_one, awaits, entry_for, gave, idle_entry, phase_entry, plain, queued_entry, signals, seats_of, times, AreRight, AreTold, StandInLine, is_lapse, is_placed, marks, marks_after, own_mark, remarked, unmarked}
 use Rattle.history.specs.declared.entry.End.TheVariants as end
-use Rattle.history.specs.declared.entry.Mode.{Mode}
-use Rattle.history.specs.declared.entry.Mode.TheVariants.{X, S}
-use Rattle.history.specs.declared.entry.Word.{Word}
 use Rattle.history.specs.declared.entry.Word.TheVariants as word
-use Rattle.history.specs.declared.fault.Fault.{Fault}
 use Rattle.history.specs.declared.fault.Fault.TheVariants as fault
-use Rattle.history.specs.declared.header.Header.{Header}
-use Rattle.history.specs.declared.header.Object.{Object}
 use Rattle.history.specs.declared.header.Object.TheVariants as object
-use Rattle.history.specs.declared.step.Answer.{Answer}
-use Rattle.history.specs.declared.step.Answer.TheVariants.{Recorded, Sleep}
-use Rattle.history.specs.declared.step.Step.{Step}
+use Rattle.history.specs.declared.step.Answer.TheVariants.{Sleep}
 use Rattle.history.specs.declared.step.Step.TheVariants as step
-use Rattle.history.specs.Answers.{answer, answer_by, results}
-use Rattle.history.specs.Could.{could, held_back, is_seat, limit}
-use Rattle.history.specs.Counts.{Counts, counts, owner}
-use Rattle.history.specs.Entry.{ends_arrival}
-use Rattle.history.specs.Faults.{is_bad_amount, is_no_condition, is_wrong_mode}
-use Rattle.history.specs.Line.{arrivals_by, coming_back, first_mode, first_of, line, mode_of, place_of}
-use Rattle.history.specs.Naming.{named, named_by, ready}
-use Rattle.history.specs.Phase.{Idle, InLine, phase, phase_by, suits}
-use Rattle.history.specs.Room.{has_room}
-use Rattle.history.specs.Sleepers.{sleepers, sleeps_below}
-use Rattle.history.specs.Start.{Start, opening}
-use Rattle.history.specs.Steps.{at_most_one, awaits, entry_for, gave, idle_entry, phase_entry, plain, queued_entry, signals}
-use Rattle.history.specs.Waiting.{seats_of, times}
 use Rattle.history.proofs.Changes.{counts_nothing, counts_same, line_queued}
 use Rattle.history.proofs.Entering.{KnownBy, by_phase, known, seat_is}
 use Rattle.history.proofs.LineLemmas.{line_after, no_arrival, stays}
@@ -42,7 +19,6 @@ use Rattle.history.proofs.Staying.{arrives_itself, stays_in_line, stays_while}
 use Rattle.history.proofs.Times.{once_has, place_once, seats-coming_back, times-take_drop}
 use Rattle.history.proofs.Answering.{entry_seat}
 use Rattle.history.proofs.Alike.{Alike, on, ready_alike}
-use Rattle.history.specs.Marks.{AreRight, AreTold, StandInLine, is_lapse, is_placed, marks, marks_after, own_mark, remarked, unmarked}
 
 -- who is ready stands in line
 first_stands : (q : List Arrival) (a : Arrival) (i : ℕ) → first_of q ≡ Some a → a.seat ≡ i →

@@ -1,31 +1,11 @@
 -- The fold of one entry, part by part.
-use Rattle.std.proofs.Common.{◌≡◌, ◌≢◌, ◌⊎◌, ⊎_elim, inl, inr, ℕ, zero, suc, ◌+◌, ◌-◌, ◌<◌, ◌≤◌, Bool, true, false, not, ◌&&◌, cond, eqb, List, [], ◌∷◌, ◌++◌, map, take, drop, length, get_or, set, Some, refl, ap, ◌∙◌, sym, subst, arith}
+use Rattle.std.proofs.Common.{◌≡◌, ◌≢◌, ◌⊎◌, ⊎_elim, inl, inr, ℕ, zero, suc, ◌+◌, ◌-◌, ◌<◌, ◌≤◌, Bool, true, false, not, ◌&&◌, cond, eqb, List, [], ◌∷◌, ◌++◌, map, take, drop, length, get_or, set, Some, refl, ap, ◌∙◌, sym, subst, arith, eq-eqb, ne_eqb, ext_get_or, get_or-set_other, get_or-set_same, length-set}
 use Rattle.std.proofs.Math.Nat.{add-zero}
 use Rattle.std.specs.List.{filter, AllByRecursion}
-use Rattle.std.proofs.lemmas.Bool.{cases_eq, eq-eqb, ne_eqb}
-use Rattle.std.proofs.lemmas.List.{ext_get_or, get_or-set_other, get_or-set_same, length-set, map-append}
-use Rattle.history.specs.declared.limits.TheConstants.{MOST_FOLDED}
-use Rattle.history.specs.declared.arrival.Arrival.{Arrival}
-use Rattle.history.specs.declared.base.SeatBase.{SeatBase}
-use Rattle.history.specs.declared.base.Sleeper.{Sleeper}
-use Rattle.history.specs.declared.base.LinePlace.{LinePlace}
-use Rattle.history.specs.declared.entry.Entry.{Entry}
-use Rattle.history.specs.declared.entry.Mode.TheVariants.{X, S}
-use Rattle.history.specs.declared.entry.Word.{Word}
+use Rattle.std.proofs.lemmas.Bool.{cases_eq}
+use Rattle.std.proofs.lemmas.List.{map-append}
+use Rattle.history.specs.Prelude.{MOST_FOLDED, Arrival, SeatBase, Sleeper, LinePlace, Entry, X, S, Word, Base, based, each_below, folded, nothing, or_awake, seat_after, seat_of, sleep_on, sleeper_after, sleepers_of, standing_after, stands_from, counted_after, holds_after, unheld, ends_call, same_mode, IsGood, IsModest, IsInRange, AreSeated, IsLegal, arrivals_by, coming_back, line, count_then, joins_line, next_base, seat_then, signalled_on, sleepers_then, stays_there, opening_count, CanFold, has, last_sleep, sleep_after, sleepers, sleepers_after, without, Sleep, awake, times}
 use Rattle.history.specs.declared.entry.Word.TheVariants as word
-use Rattle.history.specs.Base.{Base, based, each_below, folded, nothing, or_awake, seat_after, seat_of, sleep_on, sleeper_after, sleepers_of, standing_after, stands_from}
-use Rattle.history.specs.Counts.{counted_after, holds_after, unheld}
-use Rattle.history.specs.Entry.{ends_call, same_mode}
-use Rattle.history.specs.GoodBase.{IsGood, IsModest}
-use Rattle.history.specs.Header.{IsInRange}
-use Rattle.history.specs.Legal.{AreSeated, IsLegal}
-use Rattle.history.specs.Line.{arrivals_by, coming_back, line}
-use Rattle.history.specs.NextBase.{count_then, joins_line, next_base, seat_then, signalled_on, sleepers_then, stays_there}
-use Rattle.history.specs.Object.{opening_count}
-use Rattle.history.specs.Point.{CanFold}
-use Rattle.history.specs.Sleepers.{has, last_sleep, sleep_after, sleepers, sleepers_after, without}
-use Rattle.history.specs.Start.{Sleep, awake}
-use Rattle.history.specs.Waiting.{times}
 use Rattle.history.proofs.Entering.{Known, KnownBy, known}
 use Rattle.history.proofs.Folding.{SleptAs, all_again, all_slept, few_counted, folds_on, get_or-each, legal_goes_on, length-each}
 use Rattle.history.proofs.GoodBases.{good_waits, sleep_of, slept_there}

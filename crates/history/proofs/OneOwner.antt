@@ -1,26 +1,8 @@
 -- A lock or read-write lock has one owner.
-use Rattle.std.proofs.Common.{◌≡◌, ◌≢◌, ◌⊎◌, inl, inr, ⊎_elim, ℕ, zero, suc, ◌+◌, ◌<◌, ◌≤◌, Bool, true, false, ◌&&◌, cond, eqb, ltb, List, [], ◌∷◌, Option, Some, None, refl, ap, ◌∙◌, sym, subst, arith}
-use Rattle.std.proofs.lemmas.Bool.{cases_eq, cases_Bool, eq-eqb, eqb-true, ltb-true, ltb-false, and_parts}
-use Rattle.history.specs.declared.limits.TheConstants.{MOST_HOLDS, MOST_READ_WRITE_HOLDS}
-use Rattle.history.specs.declared.arrival.Arrival.{Arrival}
-use Rattle.history.specs.declared.entry.Entry.{Entry}
-use Rattle.history.specs.declared.entry.Mode.{Mode}
-use Rattle.history.specs.declared.entry.Mode.TheVariants.{X, S}
-use Rattle.history.specs.declared.entry.Word.{Word}
+use Rattle.std.proofs.Common.{◌≡◌, ◌≢◌, ◌⊎◌, inl, inr, ⊎_elim, ℕ, zero, suc, ◌+◌, ◌<◌, ◌≤◌, Bool, true, false, ◌&&◌, cond, eqb, ltb, List, [], ◌∷◌, Option, Some, None, refl, ap, ◌∙◌, sym, subst, arith, eq-eqb, eqb-true, ltb-true, ltb-false}
+use Rattle.std.proofs.lemmas.Bool.{cases_eq, cases_Bool, and_parts}
+use Rattle.history.specs.Prelude.{MOST_HOLDS, MOST_READ_WRITE_HOLDS, Arrival, Entry, Mode, X, S, Word, Header, Object, Lock, ReadWrite, Semaphore, Latch, could, could_of, is_none_or, is_seat, Counts, counts, held, holds_after, owner, readers, total, same_mode, AreSeated, IsLegal, line, place_of, in_holds, is_lock, IsOwned, IsSaved, is_away, most_exclusive, most_shared, phase, phase_by, last_sleep, sleeps_below, Start, opening}
 use Rattle.history.specs.declared.entry.Word.TheVariants as word
-use Rattle.history.specs.declared.header.Header.{Header}
-use Rattle.history.specs.declared.header.Object.{Object}
-use Rattle.history.specs.declared.header.Object.TheVariants.{Lock, ReadWrite, Semaphore, Latch}
-use Rattle.history.specs.Could.{could, could_of, is_none_or, is_seat}
-use Rattle.history.specs.Counts.{Counts, counts, held, holds_after, owner, readers, total}
-use Rattle.history.specs.Entry.{same_mode}
-use Rattle.history.specs.Legal.{AreSeated, IsLegal}
-use Rattle.history.specs.Line.{line, place_of}
-use Rattle.history.specs.Object.{in_holds, is_lock}
-use Rattle.history.specs.Ownership.{IsOwned, IsSaved, is_away, most_exclusive, most_shared}
-use Rattle.history.specs.Phase.{phase, phase_by}
-use Rattle.history.specs.Sleepers.{last_sleep, sleeps_below}
-use Rattle.history.specs.Start.{Start, opening}
 use Rattle.history.proofs.Entering.{Known, KnownBy, known, seat_is}
 use Rattle.history.proofs.OneWait.{Saved, SavedIfBack, Waits, opening_waits, placed, waits, waits_from}
 use Rattle.history.proofs.Owners.{nobody_holds, owner_holds, ready_could, semaphore_no_lock}

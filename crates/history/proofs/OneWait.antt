@@ -1,34 +1,15 @@
 -- In a legal history a seat waits in one place, and who sleeps or comes back saved its holds.
-use Rattle.std.proofs.Common.{◌≡◌, ◌≢◌, ◌⊎◌, inl, inr, ⊎_elim, ℕ, zero, suc, ◌+◌, ◌<◌, ◌≤◌, Bool, true, false, not, ◌&&◌, ◌||◌, cond, eqb, List, [], ◌∷◌, ◌++◌, map, take, Some, refl, ap, ◌∙◌, sym, subst, arith}
+use Rattle.std.proofs.Common.{◌≡◌, ◌≢◌, ◌⊎◌, inl, inr, ⊎_elim, ℕ, zero, suc, ◌+◌, ◌<◌, ◌≤◌, Bool, true, false, not, ◌&&◌, ◌||◌, cond, eqb, List, [], ◌∷◌, ◌++◌, map, take, Some, refl, ap, ◌∙◌, sym, subst, arith, eqb-true, eq-eqb, ne_eqb}
 use Rattle.std.specs.List.{filter, AllByRecursion}
-use Rattle.std.proofs.lemmas.Bool.{cases_eq, eqb-true, eq-eqb, ne_eqb, and_parts, or_right}
-use Rattle.history.specs.declared.arrival.Arrival.{Arrival}
+use Rattle.std.proofs.lemmas.Bool.{cases_eq, and_parts, or_right}
+use Rattle.history.specs.Prelude.{Arrival, Entry, Mode, X, S, Word, Header, Object, Lock, ReadWrite, Semaphore, Latch, could, counts, held, holds_after, total, ends_arrival, same_mode, IsLegal, line, arrivals_by, place_of, coming_back, is_lock, is_semaphore, in_holds, Idle, Sleeping, phase, sleepers, sleepers_after, sleeps_below, sleep_after, last_sleep, has, without, Start, Sleep, opening, lapse, times, seats_of, asleep, waiting, IsOneWait, most_exclusive}
 use Rattle.history.specs.declared.entry.End.TheVariants as end
-use Rattle.history.specs.declared.entry.Entry.{Entry}
-use Rattle.history.specs.declared.entry.Mode.{Mode}
-use Rattle.history.specs.declared.entry.Mode.TheVariants.{X, S}
-use Rattle.history.specs.declared.entry.Word.{Word}
 use Rattle.history.specs.declared.entry.Word.TheVariants as word
-use Rattle.history.specs.declared.header.Header.{Header}
-use Rattle.history.specs.declared.header.Object.{Object}
-use Rattle.history.specs.declared.header.Object.TheVariants.{Lock, ReadWrite, Semaphore, Latch}
-use Rattle.history.specs.Could.{could}
-use Rattle.history.specs.Counts.{counts, held, holds_after, total}
-use Rattle.history.specs.Entry.{ends_arrival, same_mode}
-use Rattle.history.specs.Legal.{IsLegal}
-use Rattle.history.specs.Line.{line, arrivals_by, place_of, coming_back}
-use Rattle.history.specs.Object.{is_lock, is_semaphore, in_holds}
-use Rattle.history.specs.Phase.{Idle, Sleeping, phase}
-use Rattle.history.specs.Sleepers.{sleepers, sleepers_after, sleeps_below, sleep_after, last_sleep, has, without}
-use Rattle.history.specs.Start.{Start, Sleep, opening}
-use Rattle.history.specs.Steps.{lapse}
-use Rattle.history.specs.Waiting.{times, seats_of, asleep, waiting, IsOneWait}
 use Rattle.history.proofs.Entering.{Known, KnownBy, known}
 use Rattle.history.proofs.LineLemmas.{line_after, stays}
 use Rattle.history.proofs.Owners.{owner_holds, within_limit, ready_could}
 use Rattle.history.proofs.SleepLemmas.{last_sleep_other, held_other, sleepers_here, slept_before, sleeps_at, awake_nowhere, idle_parts, sleeping_parts, times-waiting, times-line_after, total_moved, total_kept, leaves_sleepers}
 use Rattle.history.proofs.Times.{each-append, one_if, once_same, times-append, times-take_drop, times-without_same, times-without_other, has_once, once_has, place_once, place_never, seats-coming_back, total_part}
-use Rattle.history.specs.Ownership.{most_exclusive}
 
 -- What is known of a seat that gave up its holds to sleep, and hasn't come back: it holds nothing, and saved
 -- what it held.

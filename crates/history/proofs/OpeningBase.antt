@@ -1,25 +1,9 @@
 -- The base of an object as it is opened: it is the opening, and it is good.
-use Rattle.std.proofs.Common.{◌≡◌, inr, ⊎_elim, ℕ, zero, suc, ◌-◌, [], map, get_or, None, refl, ap, ◌∙◌, sym, subst, arith}
+use Rattle.std.proofs.Common.{◌≡◌, inr, ⊎_elim, ℕ, zero, suc, ◌-◌, [], map, get_or, None, refl, ap, ◌∙◌, sym, subst, arith, ℤ, pos, ◌+ℤ◌, ◌-ℤ◌, ◌≤ℤ◌}
 use Rattle.std.specs.List.{AllByRecursion}
-use Rattle.std.specs.Prelude.{ℤ, pos, ◌+ℤ◌, ◌-ℤ◌, ◌≤ℤ◌}
 use Rattle.std.proofs.lemmas.Int.{ints}
 use Rattle.std.proofs.lemmas.List.{get_or_past}
-use Rattle.history.specs.declared.limits.TheConstants.{MOST_AMOUNT}
-use Rattle.history.specs.declared.base.SeatBase.{SeatBase}
-use Rattle.history.specs.declared.base.Sleeper.{Sleeper}
-use Rattle.history.specs.declared.entry.Mode.{Mode}
-use Rattle.history.specs.declared.entry.Mode.TheVariants.{X, S}
-use Rattle.history.specs.declared.header.Header.{Header}
-use Rattle.history.specs.declared.header.Object.{Object}
-use Rattle.history.specs.declared.header.Object.TheVariants.{Lock, ReadWrite, Semaphore, Latch}
-use Rattle.history.specs.Base.{based, each_below, either, holds_of, nothing, opening_base, or_awake, seat_of, sleep_below, sleep_on, sleepers_of}
-use Rattle.history.specs.Counts.{free, total}
-use Rattle.history.specs.GoodBase.{AreCounted, AreHeld, IsGood, IsModest, SleepsWell}
-use Rattle.history.specs.Header.{IsInRange}
-use Rattle.history.specs.Object.{created, is_lock, is_semaphore, opening_count}
-use Rattle.history.specs.Ownership.{IsOwned}
-use Rattle.history.specs.Start.{Start, opening}
-use Rattle.history.specs.Waiting.{IsOneWait}
+use Rattle.history.specs.Prelude.{MOST_AMOUNT, SeatBase, Sleeper, Mode, X, S, Header, Object, Lock, ReadWrite, Semaphore, Latch, based, each_below, either, holds_of, nothing, opening_base, or_awake, seat_of, sleep_below, sleep_on, sleepers_of, free, total, AreCounted, AreHeld, IsGood, IsModest, SleepsWell, IsInRange, created, is_lock, is_semaphore, opening_count, IsOwned, Start, opening, IsOneWait}
 use Rattle.history.proofs.Folding.{get_or-each, length-each}
 use Rattle.history.proofs.OneOwner.{cases_below, owned}
 use Rattle.history.proofs.OneWait.{one_wait}

@@ -1,30 +1,10 @@
 -- How the room that stays reserved changes at one entry.
-use Rattle.std.proofs.Common.{◌≡◌, ◌≢◌, ⊎_elim, ℕ, zero, suc, ◌+◌, ◌-◌, ◌<◌, ◌≤◌, Bool, true, false, not, ◌&&◌, cond, eqb, ltb, List, [], ◌∷◌, ◌++◌, length, map, take, Some, refl, ap, ◌∙◌, sym, subst, arith}
+use Rattle.std.proofs.Common.{◌≡◌, ◌≢◌, ⊎_elim, ℕ, zero, suc, ◌+◌, ◌-◌, ◌<◌, ◌≤◌, Bool, true, false, not, ◌&&◌, cond, eqb, ltb, List, [], ◌∷◌, ◌++◌, length, map, take, Some, refl, ap, ◌∙◌, sym, subst, arith, eq-eqb, ne_eqb, ltb-true, append-nil}
 use Rattle.std.proofs.Math.Nat.{add-zero}
 use Rattle.std.specs.List.{filter}
-use Rattle.std.proofs.lemmas.Bool.{cases_Bool, eq-eqb, ne_eqb, ltb-true}
-use Rattle.std.proofs.lemmas.List.{append-nil}
-use Rattle.history.specs.declared.arrival.Arrival.{Arrival}
-use Rattle.history.specs.declared.entry.Entry.{Entry}
-use Rattle.history.specs.declared.entry.Mode.{Mode}
-use Rattle.history.specs.declared.entry.Mode.TheVariants.{X, S}
-use Rattle.history.specs.declared.entry.Word.{Word}
+use Rattle.std.proofs.lemmas.Bool.{cases_Bool}
+use Rattle.history.specs.Prelude.{Arrival, Entry, Mode, X, S, Word, Fault, Header, Object, Lock, ReadWrite, Semaphore, Latch, Counts, counts, held, holds_after, total, same_mode, ends_arrival, line, arrivals_by, coming_back, place_of, is_lock, is_semaphore, in_holds, Sleeping, phase, released_by, releases, reserved_by, reserves, sum_of, holds_owe, arrival_owes, sleeper_owes, sleepers_owe, owed, sleepers, sleepers_after, sleep_after, last_sleep, sleeps_below, has, IsLegal, AreSeated, Start, Sleep, opening, times, seats_of, IsOneWait, gave, at_most_one, back, lapse}
 use Rattle.history.specs.declared.entry.Word.TheVariants as word
-use Rattle.history.specs.declared.fault.Fault.{Fault}
-use Rattle.history.specs.declared.header.Header.{Header}
-use Rattle.history.specs.declared.header.Object.{Object}
-use Rattle.history.specs.declared.header.Object.TheVariants.{Lock, ReadWrite, Semaphore, Latch}
-use Rattle.history.specs.Counts.{Counts, counts, held, holds_after, total}
-use Rattle.history.specs.Entry.{same_mode, ends_arrival}
-use Rattle.history.specs.Line.{line, arrivals_by, coming_back, place_of}
-use Rattle.history.specs.Object.{is_lock, is_semaphore, in_holds}
-use Rattle.history.specs.Phase.{Sleeping, phase}
-use Rattle.history.specs.Room.{released_by, releases, reserved_by, reserves, sum_of, holds_owe, arrival_owes, sleeper_owes, sleepers_owe, owed}
-use Rattle.history.specs.Sleepers.{sleepers, sleepers_after, sleep_after, last_sleep, sleeps_below, has}
-use Rattle.history.specs.Legal.{IsLegal, AreSeated}
-use Rattle.history.specs.Start.{Start, Sleep, opening}
-use Rattle.history.specs.Waiting.{times, seats_of, IsOneWait}
-use Rattle.history.specs.Steps.{gave, at_most_one, back, lapse}
 use Rattle.history.proofs.Changes.{all_stay}
 use Rattle.history.proofs.Entering.{Known, KnownBy, OnCondition, LeavesLine, known}
 use Rattle.history.proofs.LineLemmas.{line_after, stays, no_arrival}

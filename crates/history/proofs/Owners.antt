@@ -1,19 +1,7 @@
 -- Who owns, what it holds, and that nobody takes past the limit.
-use Rattle.std.proofs.Common.{◌≡◌, ⊎_elim, ℕ, zero, suc, ◌+◌, ◌<◌, ◌≤◌, Bool, true, false, ◌&&◌, cond, eqb, ltb, List, [], ◌∷◌, Option, Some, None, refl, ap, ◌∙◌, sym, subst, arith}
-use Rattle.std.proofs.lemmas.Bool.{cases_eq, eq-eqb, ltb-true, ltb-false, and_parts}
-use Rattle.history.specs.declared.limits.TheConstants.{MOST_HOLDS, MOST_READ_WRITE_HOLDS}
-use Rattle.history.specs.declared.arrival.Arrival.{Arrival}
-use Rattle.history.specs.declared.entry.Entry.{Entry}
-use Rattle.history.specs.declared.entry.Mode.TheVariants.{X}
-use Rattle.history.specs.declared.header.Object.{Object}
-use Rattle.history.specs.declared.header.Object.TheVariants.{Lock, ReadWrite, Semaphore, Latch}
-use Rattle.history.specs.Could.{could, could_of, is_seat, is_none_or}
-use Rattle.history.specs.Counts.{Counts, counts, owner, readers, seat_with}
-use Rattle.history.specs.Line.{line, first_of, place_of}
-use Rattle.history.specs.Naming.{ready, ready_by}
-use Rattle.history.specs.Object.{in_holds, is_lock, is_semaphore}
-use Rattle.history.specs.Ownership.{most_exclusive}
-use Rattle.history.specs.Start.{Start}
+use Rattle.std.proofs.Common.{◌≡◌, ⊎_elim, ℕ, zero, suc, ◌+◌, ◌<◌, ◌≤◌, Bool, true, false, ◌&&◌, cond, eqb, ltb, List, [], ◌∷◌, Option, Some, None, refl, ap, ◌∙◌, sym, subst, arith, eq-eqb, ltb-true, ltb-false}
+use Rattle.std.proofs.lemmas.Bool.{cases_eq, and_parts}
+use Rattle.history.specs.Prelude.{MOST_HOLDS, MOST_READ_WRITE_HOLDS, Arrival, Entry, X, Object, Lock, ReadWrite, Semaphore, Latch, could, could_of, is_seat, is_none_or, Counts, counts, owner, readers, seat_with, line, first_of, place_of, ready, ready_by, in_holds, is_lock, is_semaphore, most_exclusive, Start}
 
 -- the seat that has something
 pub seat_with_found : (n : ℕ) (f : ℕ → ℕ) (j : ℕ) → seat_with n f ≡ Some j → (j < n) × (0 < f j)

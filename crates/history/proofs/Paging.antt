@@ -1,16 +1,10 @@
 -- Entries in pages.
-use Rattle.std.proofs.Common.{◌≡◌, inl, inr, ℕ, zero, suc, ◌+◌, ◌*◌, ◌/◌, ◌%◌, ◌<◌, ◌≤◌, ◌^◌, List, [], ◌∷◌, ◌++◌, map, length, get_or, set, take, replicate, Option, Some, None, refl, ap, ◌∙◌, sym, subst, ⊎_elim, arith}
-use Rattle.std.specs.Prelude.{slice_get}
+use Rattle.std.proofs.Common.{◌≡◌, inl, inr, ℕ, zero, suc, ◌+◌, ◌*◌, ◌/◌, ◌%◌, ◌<◌, ◌≤◌, ◌^◌, List, [], ◌∷◌, ◌++◌, length, get_or, set, take, replicate, Option, Some, None, refl, ap, ◌∙◌, sym, subst, ⊎_elim, arith, slice_get, length-append, append_assoc, append-nil, length-set}
 use Rattle.std.proofs.lemmas.Bool.{cases_lt}
-use Rattle.std.proofs.lemmas.List.{length-append, length-map, append_assoc, append-nil, length-set, length-replicate, nil_from_length}
+use Rattle.std.proofs.lemmas.List.{length-replicate, nil_from_length}
 use Rattle.std.proofs.lemmas.Option.{slice_get_past}
-use Rattle.std.proofs.Math.Seq.{take-append_seam}
 use Rattle.history.specs.declared.entry.Entry.{Entry}
-use Rattle.history.specs.inner.Paged.{AreFull, AreKept, in_pages}
-
--- as many pages written over a list as it has
-pub all_written : {X : Type 0} (ys zs : List X) (n : ℕ) → n ≡ length ys → take n (ys ++ zs) ≡ ys
-all_written ys zs n q = ap (λ m. take m (ys ++ zs)) q ∙ take-append_seam ys zs
+use Rattle.history.specs.inner.Paged.{AreFull, AreKept, in_pages, used}
 
 -- the entries of full pages
 pub full_length : (n : ℕ) (pages : List (List Entry)) → AreFull n pages → length (in_pages pages) ≡ 1024 * n
@@ -97,7 +91,7 @@ next_empty (suc n) [] f = absurd f
 next_empty (suc n) (p ∷ ps) f = next_empty n ps f.1
 
 -- pages more, with nothing in them
-empty_pages : (k : ℕ) → AreFull zero (replicate k [])
+pub empty_pages : (k : ℕ) → AreFull zero (replicate k [])
 empty_pages zero = tt
 empty_pages (suc k) = (refl, empty_pages k)
 
@@ -122,19 +116,55 @@ last_empty : (pages : List (List Entry)) (page : List Entry) → AreFull zero (p
 last_empty [] page f = (tt, f.0)
 last_empty (p ∷ ps) page f = let ih = last_empty ps page f.1 in ((f.0, ih.0), ih.1)
 
--- the same pages with nothing in them
-abbrev pub cleared : List (List Entry) → List (List Entry)
-cleared pages = map (λ page. []) pages
+-- pages of which only the first ones count
+pub length-used : (n : ℕ) (pages : List (List Entry)) → length (used n pages) ≡ length pages
+length-used n [] = refl
+length-used zero (p ∷ ps) = ap suc (length-used zero ps)
+length-used (suc n) (p ∷ ps) = ap suc (length-used n ps)
 
-full_cleared : (pages : List (List Entry)) → AreFull zero (cleared pages)
-full_cleared [] = tt
-full_cleared (p ∷ ps) = (refl, full_cleared ps)
+none_used : (pages : List (List Entry)) → AreFull zero (used zero pages)
+none_used [] = tt
+none_used (p ∷ ps) = (refl, none_used ps)
 
-pub none_cleared : (pages : List (List Entry)) → in_pages (cleared pages) ≡ []
-none_cleared pages = none_full (cleared pages) (full_cleared pages)
+pub nothing_used : (pages : List (List Entry)) → in_pages (used zero pages) ≡ []
+nothing_used pages = none_full (used zero pages) (none_used pages)
 
-pub length-cleared : (pages : List (List Entry)) → length (cleared pages) ≡ length pages
-length-cleared pages = length-map pages (λ page. [])
+-- the first of them are all that has entries
+pub in_first : (n : ℕ) (pages : List (List Entry)) → in_pages (take n pages) ≡ in_pages (used n pages)
+in_first zero [] = refl
+in_first (suc n) [] = refl
+in_first zero (p ∷ ps) = sym (nothing_used ps)
+in_first (suc n) (p ∷ ps) = ap (λ rest. p ++ rest) (in_first n ps)
+
+pub at_first : (n : ℕ) (pages : List (List Entry)) (q r : ℕ) →
+    at_place (slice_get (take n pages) q) r ≡ at_place (slice_get (used n pages) q) r
+at_first zero [] q r = refl
+at_first (suc n) [] q r = refl
+at_first zero (p ∷ ps) zero r = refl
+at_first zero (p ∷ ps) (suc q) r = at_first zero ps q r
+at_first (suc n) (p ∷ ps) zero r = refl
+at_first (suc n) (p ∷ ps) (suc q) r = at_first n ps q r
+
+-- one page more counts, in which another is put
+pub used_next : (n : ℕ) (pages : List (List Entry)) (hand : List Entry) → n < length pages →
+    used (suc n) (set pages n hand) ≡ set (used n pages) n hand
+used_next n [] hand l = absurd (omega (arith, l))
+used_next zero (p ∷ ps) hand l = refl
+used_next (suc n) (p ∷ ps) hand l = ap (λ rest. p ∷ rest) (used_next n ps hand (omega (arith, l)))
+
+-- pages more, in which nothing counts
+pub used_more : (n : ℕ) (pages : List (List Entry)) (k : ℕ) → n ≤ length pages →
+    used n (pages ++ replicate k []) ≡ used n pages ++ replicate k []
+used_more zero [] zero l = refl
+used_more zero [] (suc k) l = ap (λ rest. [] ∷ rest) (used_more zero [] k l)
+used_more zero (p ∷ ps) k l = ap (λ rest. [] ∷ rest) (used_more zero ps k (omega arith))
+used_more (suc n) [] k l = absurd (omega (arith, l))
+used_more (suc n) (p ∷ ps) k l = ap (λ rest. p ∷ rest) (used_more n ps k (omega (arith, l)))
+
+-- empty pages count as they are
+pub used_empty : (pages : List (List Entry)) → AreFull zero pages → used zero pages ≡ pages
+used_empty [] f = refl
+used_empty (p ∷ ps) f = λ j. sym f.0 j ∷ used_empty ps f.1 j
 
 -- the pages of a history
 module _ (others : List (List Entry)) (full : ℕ) (hand : List Entry) (room : ℕ)
@@ -263,6 +293,9 @@ module _ (pages others : List (List Entry)) (page : List Entry) (f : AreFull zer
   first_parts : AreFull zero others × (page ≡ [])
   first_parts = last_empty others page (subst (AreFull zero) is f)
 
+  pub parts_empty : AreFull zero others
+  parts_empty = first_parts.0
+
   pub kept_first : 1024 * length pages < 2 ^ 33 → AreKept others 0 page 1024
   kept_first few =
       record {
@@ -276,13 +309,29 @@ module _ (pages others : List (List Entry)) (page : List Entry) (f : AreFull zer
   entries_first = ap (λ p. in_pages others ++ p) first_parts.1 ∙ append-nil (in_pages others)
       ∙ none_full others first_parts.0
 
+-- without a page at hand there is no other
+pub no_other : (full : ℕ) (others : List (List Entry)) (hand : List Entry) (room : ℕ) →
+    AreKept (used full others) full hand room → room ≡ 0 → others ≡ []
+no_other full others hand room kept none =
+    ⊎_elim (λ (q : room ≡ 1024). absurd (omega (arith, q, none)))
+    (λ q. (let l = ap length q.1 in
+    let m = length-used full others in
+    nil_from_length others (omega (arith, l, m)))) kept.page
+
 -- all entries fewer
 pub kept_none : (others : List (List Entry)) (full : ℕ) (hand : List Entry) (room : ℕ) →
-    AreKept others full hand room → AreKept (cleared others) 0 [] room
+    AreKept (used full others) full hand room → AreKept (used 0 others) 0 [] room
 kept_none others full hand room kept =
     record {
-      full_first = full_cleared others;
+      full_first = none_used others;
       fits = omega arith;
-      page = ⊎_elim (λ (q : room ≡ 1024). inl q) (λ none. inr (none.0, ap cleared none.1)) kept.page;
-      few = let l = length-cleared others in let f = kept.few in omega (arith, l, f);
+      page = ⊎_elim (λ (q : room ≡ 1024). inl q) (λ none. inr (none.0, nothing (ap length none.1))) kept.page;
+      few = let l = length-used 0 others in let m = length-used full others in let f = kept.few in
+          omega (arith, l, m, f);
     }
+  where
+    nothing : length (used full others) ≡ 0 → used 0 others ≡ []
+    nothing q =
+        let l = length-used 0 others in
+        let m = length-used full others in
+        nil_from_length (used 0 others) (omega (arith, l, m, q))

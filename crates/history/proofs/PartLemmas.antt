@@ -1,21 +1,10 @@
 -- What an object part spells is read again.
-use Rattle.std.proofs.Common.{◌≡◌, ℕ, suc, ◌^◌, ◌<◌, ◌≤◌, true, List, [], ◌∷◌, length, Some, refl, ap, ◌∙◌, arith, decimal}
-use Rattle.std.specs.Prelude.{ℤ, pos, negsuc, FitsSigned, codes}
+use Rattle.std.proofs.Common.{◌≡◌, ℕ, suc, ◌^◌, ◌<◌, ◌≤◌, true, List, [], ◌∷◌, length, Some, refl, ap, ◌∙◌, arith, decimal, ℤ, pos, negsuc, FitsSigned, codes, le-leb, ne_eqb}
 use Rattle.std.specs.Int.{w32}
 use Rattle.std.specs.Fmt.{signed_decimal}
-use Rattle.std.proofs.lemmas.Bool.{le-leb, ne_eqb}
 use Rattle.std.proofs.lemmas.Fmt.{decimal_nonempty}
-use Rattle.history.specs.declared.limits.TheConstants.{LEAST_CAP, MOST_AMOUNT, MOST_CONDITIONS, MOST_SEATS}
-use Rattle.history.specs.declared.header.Header.{Header}
-use Rattle.history.specs.declared.header.Object.{Object}
-use Rattle.history.specs.declared.header.Object.TheVariants.{Lock, ReadWrite, Semaphore, Latch}
-use Rattle.history.specs.declared.header.Policy.{Policy}
-use Rattle.history.specs.declared.header.Policy.TheVariants.{Fair, NonFair, Strict}
-use Rattle.history.specs.Header.{IsInRange, IsOpening}
-use Rattle.history.specs.Text.{line_of, words_of}
-use Rattle.history.specs.Spelling.{policy_word, object_words, part_words, part_of}
+use Rattle.history.specs.Prelude.{LEAST_CAP, MOST_AMOUNT, MOST_CONDITIONS, MOST_SEATS, Header, Object, Lock, ReadWrite, Semaphore, Latch, Policy, Fair, NonFair, Strict, IsInRange, IsOpening, line_of, words_of, policy_word, object_words, part_words, part_of, Words}
 use Rattle.history.specs.inner.HeaderReading.{policy_at, permits_from, lock_at, semaphore_at, latch_at, header_at}
-use Rattle.history.specs.Reading.{Words}
 use Rattle.history.proofs.Numbers.{number_again, number_at_again, digits_alone}
 use Rattle.history.proofs.Plain.{is_plain, ArePlain, words_again, decimal_plain, signed_plain}
 

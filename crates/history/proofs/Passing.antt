@@ -1,30 +1,12 @@
 -- Nobody in line is passed in a legal history.
-use Rattle.std.proofs.Common.{◌≡◌, ◌⊎◌, inl, inr, ⊎_elim, ℕ, ◌<◌, Bool, true, false, ◌&&◌, cond, eqb, leb, List, [], ◌∷◌, ◌++◌, length, map, Option, Some, None, refl, ap, ◌∙◌, sym, subst, arith}
+use Rattle.std.proofs.Common.{◌≡◌, ◌⊎◌, inl, inr, ⊎_elim, ℕ, ◌<◌, Bool, true, false, ◌&&◌, cond, eqb, leb, List, [], ◌∷◌, ◌++◌, length, map, Option, Some, None, refl, ap, ◌∙◌, sym, subst, arith, eqb-true, eq-eqb, true≢false}
 use Rattle.std.proofs.lemmas.Option.{same_Some}
 use Rattle.std.specs.List.{filter, AllByRecursion}
 use Rattle.std.proofs.lemmas.List.Elements.{filter-append}
 use Rattle.std.proofs.lemmas.List.{map-append}
-use Rattle.std.proofs.lemmas.Bool.{and_parts, eqb-true, eq-eqb, or_left, true≢false}
-use Rattle.history.specs.declared.arrival.Arrival.{Arrival}
-use Rattle.history.specs.declared.entry.Entry.{Entry}
-use Rattle.history.specs.declared.entry.Mode.{Mode}
-use Rattle.history.specs.declared.entry.Word.{Word}
+use Rattle.std.proofs.lemmas.Bool.{and_parts, or_left}
+use Rattle.history.specs.Prelude.{Arrival, Entry, Mode, Word, Header, Object, Lock, ReadWrite, Semaphore, Latch, Policy, Fair, NonFair, Strict, held_back, is_reentrant, line_blocks, counts, ends_arrival, IsLegal, Arrived, arrived_at, arrivals, arrivals_by, Ending, ending, first_ending, is_open, stands, line, first_of, mode_of, first_mode, place_of, ready, is_fair, is_fair_policy, is_strict, is_strict_policy, is_passage, takes_in_turn, EndedBefore, IsInOrder, IsFairOrder, Start, opening, StandOnce}
 use Rattle.history.specs.declared.entry.Word.TheVariants as word
-use Rattle.history.specs.declared.header.Header.{Header}
-use Rattle.history.specs.declared.header.Object.{Object}
-use Rattle.history.specs.declared.header.Object.TheVariants.{Lock, ReadWrite, Semaphore, Latch}
-use Rattle.history.specs.declared.header.Policy.{Policy}
-use Rattle.history.specs.declared.header.Policy.TheVariants.{Fair, NonFair, Strict}
-use Rattle.history.specs.Could.{held_back, is_reentrant, line_blocks}
-use Rattle.history.specs.Counts.{counts}
-use Rattle.history.specs.Entry.{ends_arrival}
-use Rattle.history.specs.Legal.{IsLegal}
-use Rattle.history.specs.Line.{Arrived, arrived_at, arrivals, arrivals_by, Ending, ending, first_ending, is_open, stands, line, first_of, mode_of, first_mode, place_of}
-use Rattle.history.specs.Naming.{ready}
-use Rattle.history.specs.Object.{is_fair, is_fair_policy, is_strict, is_strict_policy}
-use Rattle.history.specs.Order.{is_passage, takes_in_turn, EndedBefore, IsInOrder, IsFairOrder}
-use Rattle.history.specs.Start.{Start, opening}
-use Rattle.history.specs.Waiting.{StandOnce}
 use Rattle.history.proofs.Entering.{Known, KnownBy, known}
 use Rattle.history.proofs.LineLemmas.{ending_past, no_arrival}
 use Rattle.history.proofs.OneWait.{Waits, waits_from, opening_waits}

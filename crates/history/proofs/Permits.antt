@@ -1,30 +1,10 @@
 -- The permits of a semaphore: held and free, they are conserved, and neither number leaves its range.
-use Rattle.std.proofs.Common.{◌≡◌, ◌⊎◌, inl, inr, ⊎_elim, ℕ, suc, ◌+◌, ◌-◌, ◌*◌, ◌<◌, ◌≤◌, Bool, true, false, ◌&&◌, cond, eqb, ltb, List, [], ◌∷◌, length, refl, ap, ◌∙◌, sym, subst, arith}
-use Rattle.std.specs.Prelude.{ℤ, pos, negsuc, ◌+ℤ◌, ◌-ℤ◌, ◌≤ℤ◌, int_le, int_lt, FitsSigned}
+use Rattle.std.proofs.Common.{◌≡◌, ◌⊎◌, inl, inr, ⊎_elim, ℕ, suc, ◌+◌, ◌-◌, ◌*◌, ◌<◌, ◌≤◌, Bool, true, false, ◌&&◌, cond, eqb, ltb, List, [], ◌∷◌, length, refl, ap, ◌∙◌, sym, subst, arith, ℤ, pos, negsuc, ◌+ℤ◌, ◌-ℤ◌, ◌≤ℤ◌, int_le, int_lt, FitsSigned, eq-eqb, ne_eqb}
 use Rattle.std.specs.Int.{w32}
-use Rattle.std.proofs.lemmas.Bool.{eq-eqb, ne_eqb}
 use Rattle.std.proofs.lemmas.Int.{ints}
-use Rattle.history.specs.declared.limits.TheConstants.{MOST_AMOUNT}
-use Rattle.history.specs.declared.entry.Entry.{Entry}
-use Rattle.history.specs.declared.entry.Mode.{Mode}
-use Rattle.history.specs.declared.entry.Mode.TheVariants.{X, S}
-use Rattle.history.specs.declared.entry.Word.{Word}
+use Rattle.history.specs.Prelude.{MOST_AMOUNT, Entry, Mode, X, S, Word, Header, Object, Lock, ReadWrite, Semaphore, Latch, IsConserved, permits_held, could, could_of, Counts, counts, held, holds_after, beyond, free, free_after, unheld, total, same_mode, lacks_mode, IsInRange, IsOpening, IsLegal, AreSeated, line, created, in_holds, is_semaphore, Start, opening, at_least_none, gave}
 use Rattle.history.specs.declared.entry.Word.TheVariants as word
 use Rattle.history.specs.declared.fault.Fault.TheVariants as fault
-use Rattle.history.specs.declared.header.Header.{Header}
-use Rattle.history.specs.declared.header.Object.{Object}
-use Rattle.history.specs.declared.header.Object.TheVariants.{Lock, ReadWrite, Semaphore, Latch}
-use Rattle.history.specs.Conservation.{IsConserved, permits_held}
-use Rattle.history.specs.Could.{could, could_of}
-use Rattle.history.specs.Counts.{Counts, counts, held, holds_after, beyond, free, free_after, unheld, total}
-use Rattle.history.specs.Entry.{same_mode}
-use Rattle.history.specs.Faults.{lacks_mode}
-use Rattle.history.specs.Header.{IsInRange, IsOpening}
-use Rattle.history.specs.Legal.{IsLegal, AreSeated}
-use Rattle.history.specs.Line.{line}
-use Rattle.history.specs.Object.{created, in_holds, is_semaphore}
-use Rattle.history.specs.Start.{Start, opening}
-use Rattle.history.specs.Steps.{at_least_none, gave}
 use Rattle.history.proofs.Asking.{asked_few}
 use Rattle.history.proofs.Entering.{Known, KnownBy, known}
 use Rattle.history.proofs.OneWait.{Waits, SavedIfBack, opening_waits, placed, waits_from}

@@ -1,24 +1,9 @@
 -- The order of what is seen of a history.
-use Rattle.std.proofs.Common.{◌≡◌, ◌≢◌, inl, inr, ⊎_elim, ℕ, ◌+◌, ◌<◌, ◌≤◌, Bool, true, false, ◌&&◌, ◌==◌, cond, eqb, List, [], ◌∷◌, ◌++◌, refl, ap, ◌∙◌, sym, subst, arith}
+use Rattle.std.proofs.Common.{◌≡◌, ◌≢◌, inl, inr, ⊎_elim, ℕ, ◌+◌, ◌<◌, ◌≤◌, Bool, true, false, ◌&&◌, ◌==◌, cond, eqb, List, [], ◌∷◌, ◌++◌, refl, ap, ◌∙◌, sym, subst, arith, eq-eqb, ne_eqb, append_assoc}
 use Rattle.std.specs.List.{AllByRecursion}
-use Rattle.std.proofs.lemmas.Bool.{eq-eqb, ne_eqb}
 use Rattle.std.proofs.lemmas.List.Elements.{filter-append}
-use Rattle.std.proofs.lemmas.List.{append_assoc, get_or_past}
-use Rattle.history.specs.declared.base.SeatBase.{SeatBase}
-use Rattle.history.specs.declared.entry.Entry.{Entry}
-use Rattle.history.specs.declared.entry.Mode.{Mode}
-use Rattle.history.specs.declared.header.Header.{Header}
-use Rattle.history.specs.declared.point.Point.{Point}
-use Rattle.history.specs.Base.{Base, based, calls_of, each_below, folded, nothing, opening_base, seat_after, seat_of}
-use Rattle.history.specs.Counts.{held, holds_after}
-use Rattle.history.specs.Entries.{ended_calls}
-use Rattle.history.specs.Entry.{ends_call, same_mode}
-use Rattle.history.specs.Legal.{AreSeated, IsLegal}
-use Rattle.history.specs.Ownership.{is_away}
-use Rattle.history.specs.Phase.{phase}
-use Rattle.history.specs.Point.{Agrees, CanFold, ComesBefore, FollowsBy, Grows, IsFolded, entries_of}
-use Rattle.history.specs.Sleepers.{last_sleep}
-use Rattle.history.specs.Start.{Start, opening}
+use Rattle.std.proofs.lemmas.List.{get_or_past}
+use Rattle.history.specs.Prelude.{SeatBase, Entry, Mode, Header, Point, Base, based, calls_of, each_below, folded, nothing, opening_base, seat_after, seat_of, held, holds_after, ended_calls, ends_call, same_mode, AreSeated, IsLegal, is_away, phase, Agrees, CanFold, ComesBefore, FollowsBy, Grows, IsFolded, entries_of, last_sleep, Start, opening}
 use Rattle.history.proofs.Alike.{Alike, away_alike, phase_alike}
 use Rattle.history.proofs.Away.{sleep_more}
 use Rattle.history.proofs.Folding.{fold_alike, folds_on, legal_goes_on, length-each, seat_folded}

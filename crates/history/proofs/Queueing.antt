@@ -1,28 +1,11 @@
 -- Who joins the line owns nothing, and asks for what the object has.
-use Rattle.std.proofs.Common.{◌≡◌, ⊎_elim, ℕ, ◌<◌, ◌≤◌, Bool, true, false, not, ◌&&◌, ◌||◌, cond, eqb, ltb, List, Option, Some, None, Ok, refl, ap, ◌∙◌, sym, subst, arith}
-use Rattle.std.specs.Prelude.{ℤ}
-use Rattle.std.proofs.lemmas.Bool.{cases_eq, eq-eqb, lt-ltb}
-use Rattle.history.specs.declared.limits.TheConstants.{MOST_HOLDS, MOST_READ_WRITE_HOLDS}
+use Rattle.std.proofs.Common.{◌≡◌, ⊎_elim, ℕ, ◌<◌, ◌≤◌, Bool, true, false, not, ◌&&◌, ◌||◌, cond, eqb, ltb, List, Option, Some, None, Ok, refl, ap, ◌∙◌, sym, subst, arith, ℤ, eq-eqb, lt-ltb}
+use Rattle.std.proofs.lemmas.Bool.{cases_eq}
+use Rattle.history.specs.Prelude.{MOST_HOLDS, MOST_READ_WRITE_HOLDS, Entry, Mode, X, S, Word, Object, Lock, ReadWrite, Semaphore, Latch, Step, is_none_or, is_seat, line_blocks, count, counts, free, held, owner, readers, is_wrong_mode, lacks_mode, first_mode, is_lock, IsOwned, most_exclusive, most_shared, Idle, phase, Start, acquired, entry_for, idle_entry, phase_entry, plain}
 use Rattle.history.specs.declared.entry.End.TheVariants as end
-use Rattle.history.specs.declared.entry.Entry.{Entry}
-use Rattle.history.specs.declared.entry.Mode.{Mode}
-use Rattle.history.specs.declared.entry.Mode.TheVariants.{X, S}
-use Rattle.history.specs.declared.entry.Word.{Word}
 use Rattle.history.specs.declared.entry.Word.TheVariants as word
 use Rattle.history.specs.declared.fault.Fault.TheVariants as fault
-use Rattle.history.specs.declared.header.Object.{Object}
-use Rattle.history.specs.declared.header.Object.TheVariants.{Lock, ReadWrite, Semaphore, Latch}
-use Rattle.history.specs.declared.step.Step.{Step}
 use Rattle.history.specs.declared.step.Step.TheVariants as step
-use Rattle.history.specs.Could.{is_none_or, is_seat, line_blocks}
-use Rattle.history.specs.Counts.{count, counts, free, held, owner, readers}
-use Rattle.history.specs.Faults.{is_wrong_mode, lacks_mode}
-use Rattle.history.specs.Line.{first_mode}
-use Rattle.history.specs.Object.{is_lock}
-use Rattle.history.specs.Ownership.{IsOwned, most_exclusive, most_shared}
-use Rattle.history.specs.Phase.{Idle, phase}
-use Rattle.history.specs.Start.{Start}
-use Rattle.history.specs.Steps.{acquired, entry_for, idle_entry, phase_entry, plain}
 use Rattle.history.proofs.Alike.{numbers}
 use Rattle.history.proofs.Entering.{GaveWord, admitted, gave_word}
 use Rattle.history.proofs.OneOwner.{none_or_some}

@@ -1,10 +1,8 @@
 -- Readers of a whole line: what is spelt is read again, and nothing else is.
-use Rattle.std.proofs.Common.{◌≡◌, ℕ, List, [], ◌∷◌, ◌++◌, Option, Some, None, sym, ap, ◌∙◌}
+use Rattle.std.proofs.Common.{◌≡◌, ℕ, List, [], ◌∷◌, ◌++◌, Option, Some, None, sym, ap, ◌∙◌, append-nil}
 use Rattle.std.proofs.lemmas.Option.{none-some, same_Some}
-use Rattle.std.proofs.lemmas.List.{append-nil}
 use Rattle.std.proofs.lemmas.List.Splits.{join_with_byte-slice_split}
-use Rattle.history.specs.Text.{line_of, words_of}
-use Rattle.history.specs.Reading.{Words}
+use Rattle.history.specs.Prelude.{line_of, words_of, Words}
 
 -- a spelling is read, all of it
 pub unread : {A : Type 0} (read : Words → Option (A × Words)) (line spelling : List ℕ) (x : A) →

@@ -1,20 +1,7 @@
 -- Room: what was owed has it, and what is answered keeps it.
-use Rattle.std.proofs.Common.{◌≡◌, ℕ, zero, suc, ◌+◌, ◌<◌, ◌≤◌, Bool, true, false, cond, List, [], ◌∷◌, Option, Some, None, Result, Ok, Err, refl, ◌∙◌, arith}
-use Rattle.std.proofs.lemmas.Bool.{le-leb, leb-true, ltb-true}
-use Rattle.history.specs.declared.entry.Entry.{Entry}
-use Rattle.history.specs.declared.entry.Word.{Word}
+use Rattle.std.proofs.Common.{◌≡◌, ℕ, zero, suc, ◌+◌, ◌<◌, ◌≤◌, Bool, true, false, cond, List, [], ◌∷◌, Option, Some, None, Result, Ok, Err, refl, ◌∙◌, arith, le-leb, leb-true, ltb-true}
+use Rattle.history.specs.Prelude.{Entry, Word, Fault, Header, Object, Step, answer, answer_by, recorded, results, total, AreSeated, IsLegal, is_lock, released_by, reserved_by, Fits, has_room, owed, sleepers_owe, was_owed, was_owed_by, Start, opening, entry_for}
 use Rattle.history.specs.declared.entry.Word.TheVariants as word
-use Rattle.history.specs.declared.fault.Fault.{Fault}
-use Rattle.history.specs.declared.header.Header.{Header}
-use Rattle.history.specs.declared.header.Object.{Object}
-use Rattle.history.specs.declared.step.Step.{Step}
-use Rattle.history.specs.Answers.{answer, answer_by, recorded, results}
-use Rattle.history.specs.Counts.{total}
-use Rattle.history.specs.Legal.{AreSeated, IsLegal}
-use Rattle.history.specs.Object.{is_lock}
-use Rattle.history.specs.Room.{released_by, reserved_by, Fits, has_room, owed, sleepers_owe, was_owed, was_owed_by}
-use Rattle.history.specs.Start.{Start, opening}
-use Rattle.history.specs.Steps.{entry_for}
 use Rattle.history.proofs.Entering.{Known, known}
 use Rattle.history.proofs.Sums.{total_nothing, total_same}
 use Rattle.history.proofs.OneWait.{Waits, waits}

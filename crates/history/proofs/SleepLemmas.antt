@@ -1,18 +1,9 @@
 -- What an entry makes of the sleepers, and what it leaves of the other seats.
-use Rattle.std.proofs.Common.{◌≡◌, ◌≢◌, ◌⊎◌, inl, inr, ⊎_elim, ℕ, zero, suc, ◌+◌, ◌<◌, ◌≤◌, Bool, true, false, ◌||◌, cond, eqb, List, [], ◌∷◌, ◌++◌, drop, Option, Some, None, refl, ap, ◌∙◌, sym, subst, arith}
+use Rattle.std.proofs.Common.{◌≡◌, ◌≢◌, ◌⊎◌, inl, inr, ⊎_elim, ℕ, zero, suc, ◌+◌, ◌<◌, ◌≤◌, Bool, true, false, ◌||◌, cond, eqb, List, [], ◌∷◌, ◌++◌, drop, Option, Some, None, refl, ap, ◌∙◌, sym, subst, arith, eq-eqb, ne_eqb}
 use Rattle.std.specs.List.{filter}
-use Rattle.std.proofs.lemmas.Bool.{cases_eq, eq-eqb, ne_eqb, or_cases, or_parts}
-use Rattle.history.specs.declared.arrival.Arrival.{Arrival}
-use Rattle.history.specs.declared.entry.Entry.{Entry}
-use Rattle.history.specs.declared.entry.Mode.{Mode}
-use Rattle.history.specs.declared.entry.Word.{Word}
+use Rattle.std.proofs.lemmas.Bool.{cases_eq, or_cases, or_parts}
+use Rattle.history.specs.Prelude.{Arrival, Entry, Mode, Word, held, total, line, arrivals_by, Idle, Sleeping, phase_by, sleepers, sleepers_after, sleeps_below, last_sleep, has, without, Start, times, seats_of, asleep, waiting}
 use Rattle.history.specs.declared.entry.Word.TheVariants as word
-use Rattle.history.specs.Counts.{held, total}
-use Rattle.history.specs.Line.{line, arrivals_by}
-use Rattle.history.specs.Phase.{Idle, Sleeping, phase_by}
-use Rattle.history.specs.Sleepers.{sleepers, sleepers_after, sleeps_below, last_sleep, has, without}
-use Rattle.history.specs.Start.{Start}
-use Rattle.history.specs.Waiting.{times, seats_of, asleep, waiting}
 use Rattle.history.proofs.LineLemmas.{line_after, stays}
 use Rattle.history.proofs.Sums.{total_change, total_same}
 use Rattle.history.proofs.Times.{times-append, times-take_drop, times-without_same, times-without_other, has_once, has_not, once_has, times-filter, times-line, one_if}

@@ -1,13 +1,6 @@
 -- The numbers of a good base are small.
 use Rattle.std.proofs.Common.{◌≡◌, ℕ, zero, suc, ◌*◌, ◌<◌, ◌≤◌, refl, ap, arith}
-use Rattle.history.specs.declared.limits.TheConstants.{MOST_HOLDS, MOST_BASE_PERMITS}
-use Rattle.history.specs.declared.entry.Mode.TheVariants.{X, S}
-use Rattle.history.specs.declared.header.Object.{Object}
-use Rattle.history.specs.declared.header.Object.TheVariants.{Lock, ReadWrite, Semaphore, Latch}
-use Rattle.history.specs.Base.{Base, seat_of}
-use Rattle.history.specs.Counts.{total}
-use Rattle.history.specs.GoodBase.{AreCounted, AreHeld, IsGood}
-use Rattle.history.specs.Ownership.{most_exclusive, most_shared}
+use Rattle.history.specs.Prelude.{MOST_HOLDS, MOST_BASE_PERMITS, X, S, Object, Lock, ReadWrite, Semaphore, Latch, Base, seat_of, total, AreCounted, AreHeld, IsGood, most_exclusive, most_shared}
 use Rattle.history.proofs.Times.{total_part}
 
 pub few_exclusive : (b : Base) (o : Object) → b.header.object ≡ o → AreHeld o b → (i : ℕ) →

@@ -1,21 +1,7 @@
 -- What is held behind legal entries on a good base, and asked for in its line, is small.
 use Rattle.std.proofs.Common.{◌≡◌, ⊎_elim, ℕ, ◌+◌, ◌*◌, ◌<◌, ◌≤◌, List, [], ◌∷◌, length, map, refl, ap, arith}
 use Rattle.std.specs.List.{AllByRecursion}
-use Rattle.history.specs.declared.limits.TheConstants.{MOST_AMOUNT, MOST_BASE_PERMITS, MOST_HOLDS}
-use Rattle.history.specs.declared.arrival.Arrival.{Arrival}
-use Rattle.history.specs.declared.base.LinePlace.{LinePlace}
-use Rattle.history.specs.declared.entry.Entry.{Entry}
-use Rattle.history.specs.declared.entry.Mode.TheVariants.{X, S}
-use Rattle.history.specs.declared.header.Object.{Object}
-use Rattle.history.specs.declared.header.Object.TheVariants.{Lock, ReadWrite, Semaphore, Latch}
-use Rattle.history.specs.Base.{Base, based}
-use Rattle.history.specs.Counts.{held}
-use Rattle.history.specs.GoodBase.{AreHeld, StandsWell}
-use Rattle.history.specs.Header.{IsInRange}
-use Rattle.history.specs.Line.{line}
-use Rattle.history.specs.Object.{is_latch, is_lock, is_semaphore}
-use Rattle.history.specs.Ownership.{most_shared}
-use Rattle.history.specs.Point.{CanFold}
+use Rattle.history.specs.Prelude.{MOST_AMOUNT, MOST_BASE_PERMITS, MOST_HOLDS, Arrival, LinePlace, Entry, X, S, Object, Lock, ReadWrite, Semaphore, Latch, Base, based, held, AreHeld, StandsWell, IsInRange, line, is_latch, is_lock, is_semaphore, most_shared, CanFold}
 use Rattle.history.proofs.Asking.{AsksFew, asked_few, line_few_on}
 use Rattle.history.proofs.GoodBases.{good_waits}
 use Rattle.history.proofs.GoodFolds.{free_fits_base, latch_holds, owned_behind}

@@ -1,12 +1,8 @@
 -- One in line stays there while others' entries come.
-use Rattle.std.proofs.Common.{◌≡◌, ◌≢◌, ℕ, Bool, true, false, not, ◌&&◌, cond, eqb, List, [], ◌∷◌, ◌++◌, Some, None, refl, ap, ◌∙◌}
+use Rattle.std.proofs.Common.{◌≡◌, ◌≢◌, ℕ, Bool, true, false, not, ◌&&◌, cond, eqb, List, [], ◌∷◌, ◌++◌, Some, None, refl, ap, ◌∙◌, eqb-true, ne_eqb}
 use Rattle.std.specs.List.{filter}
-use Rattle.std.proofs.lemmas.Bool.{eqb-true, ne_eqb, and_right}
-use Rattle.history.specs.declared.arrival.Arrival.{Arrival}
-use Rattle.history.specs.declared.entry.Entry.{Entry}
-use Rattle.history.specs.Entry.{ends_arrival}
-use Rattle.history.specs.Line.{line, arrivals_by, place_of}
-use Rattle.history.specs.Start.{Start}
+use Rattle.std.proofs.lemmas.Bool.{and_right}
+use Rattle.history.specs.Prelude.{Arrival, Entry, ends_arrival, line, arrivals_by, place_of, Start}
 use Rattle.history.proofs.LineLemmas.{line_after, stays}
 
 -- a place in a part of a line, and in a line with more behind it

@@ -1,8 +1,7 @@
 -- What an entry makes of the numbers.
-use Rattle.std.proofs.Common.{◌≡◌, ◌≢◌, ⊎_elim, ℕ, zero, suc, ◌+◌, ◌<◌, true, ltb, Some, None, refl, ap, arith}
-use Rattle.std.proofs.lemmas.Bool.{cases_eq, lt-ltb}
-use Rattle.history.specs.Counts.{total}
-use Rattle.history.specs.Counts.{seat_with}
+use Rattle.std.proofs.Common.{◌≡◌, ◌≢◌, ⊎_elim, ℕ, zero, suc, ◌+◌, ◌<◌, true, ltb, Some, None, refl, ap, arith, lt-ltb}
+use Rattle.std.proofs.lemmas.Bool.{cases_eq}
+use Rattle.history.specs.Counts.{total, seat_with}
 
 -- the seat that has something, where one has or none
 pub seat_with_none : (n : ℕ) (f : ℕ → ℕ) → ((i : ℕ) → f i ≡ 0) → seat_with n f ≡ None

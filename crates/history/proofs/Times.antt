@@ -1,13 +1,9 @@
 -- How often a seat stands in a list.
-use Rattle.std.proofs.Common.{◌≡◌, ◌≢◌, ⊎_elim, ℕ, zero, suc, ◌+◌, ◌<◌, ◌≤◌, Bool, true, false, not, cond, eqb, List, [], ◌∷◌, ◌++◌, length, map, take, drop, Option, Some, None, refl, ap, ◌∙◌, sym, arith}
+use Rattle.std.proofs.Common.{◌≡◌, ◌≢◌, ⊎_elim, ℕ, zero, suc, ◌+◌, ◌<◌, ◌≤◌, Bool, true, false, not, cond, eqb, List, [], ◌∷◌, ◌++◌, length, map, take, drop, Option, Some, None, refl, ap, ◌∙◌, sym, arith, eq-eqb, ne_eqb, eqb-true, take-append-drop}
 use Rattle.std.specs.List.{filter, AllByRecursion}
-use Rattle.std.proofs.lemmas.Bool.{cases_eq, eq-eqb, ne_eqb, eqb-true, or_parts, or_cases}
-use Rattle.std.proofs.lemmas.List.{take-append-drop, map-append}
-use Rattle.history.specs.declared.arrival.Arrival.{Arrival}
-use Rattle.history.specs.Counts.{total}
-use Rattle.history.specs.Line.{place_of, coming_back}
-use Rattle.history.specs.Sleepers.{without, has}
-use Rattle.history.specs.Waiting.{times, seats_of}
+use Rattle.std.proofs.lemmas.Bool.{cases_eq, or_parts, or_cases}
+use Rattle.std.proofs.lemmas.List.{map-append}
+use Rattle.history.specs.Prelude.{Arrival, total, place_of, coming_back, without, has, times, seats_of}
 use Rattle.history.proofs.Sums.{total_change, total_nothing}
 
 -- one where a test says so, and else none

@@ -1,19 +1,10 @@
 -- What one wait says of the line, of the sleepers, and of their number.
-use Rattle.std.proofs.Common.{◌≡◌, ℕ, zero, suc, ◌+◌, ◌<◌, ◌≤◌, Bool, true, false, ◌||◌, eqb, List, [], ◌∷◌, map, take, length, Option, Some, None, refl, ap, ◌∙◌, sym, subst, arith}
+use Rattle.std.proofs.Common.{◌≡◌, ℕ, zero, suc, ◌+◌, ◌<◌, ◌≤◌, Bool, true, false, ◌||◌, eqb, List, [], ◌∷◌, map, take, length, Option, Some, None, refl, ap, ◌∙◌, sym, subst, arith, eq-eqb, length-append}
 use Rattle.std.specs.List.{AllByRecursion}
-use Rattle.std.proofs.lemmas.Bool.{eq-eqb, or_right}
-use Rattle.std.proofs.lemmas.List.{length-append, length-map}
-use Rattle.history.specs.declared.arrival.Arrival.{Arrival}
-use Rattle.history.specs.declared.entry.Entry.{Entry}
-use Rattle.history.specs.declared.entry.Word.{Word}
+use Rattle.std.proofs.lemmas.Bool.{or_right}
+use Rattle.std.proofs.lemmas.List.{length-map}
+use Rattle.history.specs.Prelude.{Arrival, Entry, Word, Header, IsLegal, AreSeated, line, arrivals_by, place_of, coming_back, Idle, phase, sleepers, sleeps_below, last_sleep, has, Start, opening, times, seats_of, asleep, waiting, IsOneWait, StandOnce}
 use Rattle.history.specs.declared.entry.Word.TheVariants as word
-use Rattle.history.specs.declared.header.Header.{Header}
-use Rattle.history.specs.Legal.{IsLegal, AreSeated}
-use Rattle.history.specs.Line.{line, arrivals_by, place_of, coming_back}
-use Rattle.history.specs.Phase.{Idle, phase}
-use Rattle.history.specs.Sleepers.{sleepers, sleeps_below, last_sleep, has}
-use Rattle.history.specs.Start.{Start, opening}
-use Rattle.history.specs.Waiting.{times, seats_of, asleep, waiting, IsOneWait, StandOnce}
 use Rattle.history.proofs.Entering.{Known, KnownBy, known}
 use Rattle.history.proofs.LineLemmas.{line_after, stays}
 use Rattle.history.proofs.OneWait.{ComesBack, SavedIfBack, Waits, waits, placed, idle_waits_nowhere}

@@ -1,8 +1,7 @@
 -- Numbers of 128 bits: what is read has the one spelling, and no number is spelt by what isn't read.
-use Rattle.std.proofs.Common.{Bool, true, false, cond, ltb, ◌&&◌, Option, Some, None, bytes_eq, ◌≡◌, ℕ, ◌+◌, ◌^◌, ◌<◌, ◌≤◌, ◌%◌, List, [], ◌∷◌, decimal, refl, sym, ◌∙◌, arith}
-use Rattle.std.specs.Prelude.{IfSome, IfNone}
+use Rattle.std.proofs.Common.{Bool, true, false, cond, ltb, ◌&&◌, Option, Some, None, bytes_eq, ◌≡◌, ℕ, ◌+◌, ◌^◌, ◌<◌, ◌≤◌, ◌%◌, List, [], ◌∷◌, decimal, refl, sym, ◌∙◌, arith, IfSome, IfNone, lt-ltb, le-leb, ltb-true}
 use Rattle.std.specs.Str.Parse.{digits_value}
-use Rattle.std.proofs.lemmas.Bool.{lt-ltb, le-leb, ltb-true, and_parts}
+use Rattle.std.proofs.lemmas.Bool.{and_parts}
 use Rattle.std.proofs.lemmas.Fmt.{decimal_is_IsNumeral_wide, decimal_by_steps_wide}
 use Rattle.std.proofs.lemmas.List.Folds.{list_all-append}
 use Rattle.std.proofs.lemmas.Slice.Eq.{bytes_eq-Decides}

@@ -1,6 +1,5 @@
 -- Bytes that are written by several calls.
-use Rattle.std.proofs.Common.{◌≡◌, ℕ, List, ◌++◌, append_assoc, ◌∙◌, Ok, Err}
-use Rattle.std.specs.Prelude.{Result, OnOk, is_ok, if◌then◌else◌}
+use Rattle.std.proofs.Common.{◌≡◌, ℕ, List, ◌++◌, append_assoc, ◌∙◌, Ok, Err, Result, OnOk, is_ok, if◌then◌else◌}
 use Rattle.std.proofs.lemmas.Result.{on_ok_weaker}
 
 -- a piece is put, or nothing

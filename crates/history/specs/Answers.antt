@@ -1,11 +1,6 @@
 -- The answer to a step and the history after it, and the same for a list of steps.
 use Rattle.std.specs.Prelude.{ℕ, if◌then◌else◌, List, [], ◌∷◌, Option, Some, None, Result, Ok, Err}
-use Rattle.history.specs.declared.entry.Entry.{Entry}
-use Rattle.history.specs.declared.fault.Fault.{Fault}
-use Rattle.history.specs.declared.fault.Fault.TheVariants.{HistoryFull}
-use Rattle.history.specs.declared.step.Answer.{Answer}
-use Rattle.history.specs.declared.step.Answer.TheVariants.{Recorded, Sleep}
-use Rattle.history.specs.declared.step.Step.{Step}
+use Rattle.history.specs.Types.{Entry, Fault, HistoryFull, Answer, Recorded, Sleep, Step}
 use Rattle.history.specs.Naming.{named}
 use Rattle.history.specs.Room.{has_room}
 use Rattle.history.specs.Start.{Start}

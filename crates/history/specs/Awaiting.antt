@@ -1,9 +1,7 @@
 -- A seat within an await: it waits on its condition, or in the queue on its way back.
 use Rattle.std.specs.Prelude.{◌≡◌, ◌⊎◌, ℕ, ◌<◌, true, List, Some, None}
-use Rattle.history.specs.declared.entry.End.{End}
+use Rattle.history.specs.Types.{End, Entry, X}
 use Rattle.history.specs.declared.entry.End.TheVariants as end
-use Rattle.history.specs.declared.entry.Entry.{Entry}
-use Rattle.history.specs.declared.entry.Mode.TheVariants.{X}
 use Rattle.history.specs.declared.entry.Word.TheVariants as word
 use Rattle.history.specs.Line.{line, place_of, coming_back}
 use Rattle.history.specs.Sleepers.{sleepers, last_sleep, has}

@@ -3,15 +3,11 @@
 -- A history may begin with a base in place of its first entries. The base has all that the definitions ask of
 -- these entries.
 use Rattle.std.specs.Prelude.{ℕ, zero, suc, ◌+◌, ◌-◌, ◌==◌, ◌&&◌, if◌then◌else◌, List, [], ◌∷◌, ◌++◌, map, length, get_or, Option, Some, None, pos, ◌+ℤ◌, ◌-ℤ◌}
-use Rattle.history.specs.declared.arrival.Arrival.{Arrival}
+use Rattle.history.specs.Types.{Arrival, Entry, Mode, X, S, Header}
 use Rattle.history.specs.declared.base.SeatBase.{SeatBase}
 use Rattle.history.specs.declared.base.Sleeper.{Sleeper}
 use Rattle.history.specs.declared.base.LinePlace.{LinePlace}
 use Rattle.history.specs.declared.entry.End.TheVariants as end
-use Rattle.history.specs.declared.entry.Entry.{Entry}
-use Rattle.history.specs.declared.entry.Mode.{Mode}
-use Rattle.history.specs.declared.entry.Mode.TheVariants.{X, S}
-use Rattle.history.specs.declared.header.Header.{Header}
 use Rattle.history.specs.Counts.{count, held, total, unheld}
 use Rattle.history.specs.Entry.{ends_call}
 use Rattle.history.specs.Line.{line}

@@ -1,9 +1,6 @@
 -- How each kind of entry changes the numbers that decide what can be acquired.
 use Rattle.std.specs.Prelude.{ℕ, ◌+◌, ◌-◌, ◌==◌, ◌&&◌, if◌then◌else◌, pos, ◌+ℤ◌, ◌-ℤ◌}
-use Rattle.history.specs.declared.entry.Mode.{Mode}
-use Rattle.history.specs.declared.entry.Mode.TheVariants.{X, S}
-use Rattle.history.specs.declared.header.Object.{Object}
-use Rattle.history.specs.declared.header.Object.TheVariants.{Latch}
+use Rattle.history.specs.Types.{Mode, X, S, Object, Latch}
 use Rattle.history.specs.Counts.{Counts}
 use Rattle.history.specs.Entry.{same_mode}
 use Rattle.history.specs.Object.{in_holds}

@@ -1,7 +1,6 @@
 -- The permits of a semaphore are conserved: only counted releases make new ones.
 use Rattle.std.specs.Prelude.{◌≡◌, ℕ, List, pos, ◌+ℤ◌}
-use Rattle.history.specs.declared.entry.Entry.{Entry}
-use Rattle.history.specs.declared.entry.Mode.TheVariants.{S}
+use Rattle.history.specs.Types.{Entry, S}
 use Rattle.history.specs.Counts.{free, held, total, unheld}
 use Rattle.history.specs.Object.{created}
 use Rattle.history.specs.Start.{Start}

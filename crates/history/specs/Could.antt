@@ -1,10 +1,6 @@
 -- What a seat could acquire, when it is at its limit, and when the queue holds it back.
 use Rattle.std.specs.Prelude.{ℕ, ◌==◌, nat_lt, Bool, true, false, ◌&&◌, ◌||◌, not, if◌then◌else◌, Option, Some, None, pos, ◌-ℤ◌, int_le}
-use Rattle.history.specs.declared.limits.TheConstants.{MOST_HOLDS, MOST_READ_WRITE_HOLDS}
-use Rattle.history.specs.declared.entry.Mode.{Mode}
-use Rattle.history.specs.declared.entry.Mode.TheVariants.{X, S}
-use Rattle.history.specs.declared.header.Object.{Object}
-use Rattle.history.specs.declared.header.Object.TheVariants.{Lock, ReadWrite, Semaphore, Latch}
+use Rattle.history.specs.Types.{MOST_HOLDS, MOST_READ_WRITE_HOLDS, Mode, X, S, Object, Lock, ReadWrite, Semaphore, Latch}
 use Rattle.history.specs.Counts.{Counts, owner, readers}
 use Rattle.history.specs.Entry.{is_exclusive}
 use Rattle.history.specs.Object.{is_fair_policy, is_strict}

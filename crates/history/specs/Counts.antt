@@ -3,12 +3,7 @@
 -- A history is the list of its entries, the newest first: `e ∷ h` is the entry e after the history h. The
 -- number of e, counted from 0, is the length of h.
 use Rattle.std.specs.Prelude.{ℕ, zero, suc, ◌+◌, ◌-◌, ◌==◌, nat_lt, ◌&&◌, if◌then◌else◌, List, [], ◌∷◌, Option, Some, None, ℤ, pos, ◌+ℤ◌, ◌-ℤ◌}
-use Rattle.history.specs.declared.entry.Entry.{Entry}
-use Rattle.history.specs.declared.entry.Mode.{Mode}
-use Rattle.history.specs.declared.entry.Mode.TheVariants.{X, S}
-use Rattle.history.specs.declared.entry.Word.{Word}
-use Rattle.history.specs.declared.entry.Word.TheVariants.{Got, TryGot, Granted, Gave, Await, Back, Counted, Drained}
-use Rattle.history.specs.declared.header.Object.{Object}
+use Rattle.history.specs.Types.{Entry, Mode, X, S, Word, Got, TryGot, Granted, Gave, Await, Back, Counted, Drained, Object}
 use Rattle.history.specs.Entry.{same_mode}
 use Rattle.history.specs.Object.{in_holds, is_semaphore, opening_count}
 use Rattle.history.specs.Start.{Start}

@@ -1,7 +1,6 @@
 -- A history's list, as its callers see it.
 use Rattle.std.specs.Prelude.{◌≡◌, ℕ, ◌+◌, if◌then◌else◌, List, [], ◌∷◌, Option, Some, None}
-use Rattle.history.specs.declared.entry.Entry.{Entry}
-use Rattle.history.specs.declared.header.Header.{Header}
+use Rattle.history.specs.Types.{Entry, Header}
 use Rattle.history.specs.Base.{Base, based, opening_base}
 use Rattle.history.specs.Entry.{ends_call}
 use Rattle.history.specs.GoodBase.{IsGood}

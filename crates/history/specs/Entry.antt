@@ -1,9 +1,6 @@
 -- Tests on the words and modes of an entry.
 use Rattle.std.specs.Prelude.{Bool, true, false}
-use Rattle.history.specs.declared.entry.Mode.{Mode}
-use Rattle.history.specs.declared.entry.Mode.TheVariants.{X, S}
-use Rattle.history.specs.declared.entry.Word.{Word}
-use Rattle.history.specs.declared.entry.Word.TheVariants.{Queued, Granted, Left, Await, Lapse, Back}
+use Rattle.history.specs.Types.{Mode, X, S, Word, Queued, Granted, Left, Await, Lapse, Back}
 
 abbrev pub is_exclusive : Mode → Bool
 is_exclusive X = true

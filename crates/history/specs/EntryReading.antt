@@ -1,15 +1,9 @@
 -- What the readers of an entry return: what they read, and the words that are left.
 use Rattle.std.specs.Prelude.{ℕ, List, [], ◌∷◌, Option, None, Some, codes, bytes_eq, if◌then◌else◌}
-use Rattle.history.specs.declared.limits.TheConstants.{LAST_CONDITION, MOST_AMOUNT}
+use Rattle.history.specs.Types.{LAST_CONDITION, MOST_AMOUNT, Entry, End, Mode, X, S, Word, Fault}
 use Rattle.history.specs.Reading.{Words, ◌>>=◌, keyword_at, number_at, mode_at}
-use Rattle.history.specs.declared.entry.Entry.{Entry}
-use Rattle.history.specs.declared.entry.End.{End}
 use Rattle.history.specs.declared.entry.End.TheVariants as end
-use Rattle.history.specs.declared.entry.Mode.{Mode}
-use Rattle.history.specs.declared.entry.Mode.TheVariants.{X, S}
-use Rattle.history.specs.declared.entry.Word.{Word}
 use Rattle.history.specs.declared.entry.Word.TheVariants as word
-use Rattle.history.specs.declared.fault.Fault.{Fault}
 use Rattle.history.specs.declared.fault.Fault.TheVariants as fault
 
 -- how an acquire gave up

@@ -1,7 +1,6 @@
 -- The number and the name of each fault, and which are recorded.
 use Rattle.std.specs.Prelude.{ℕ, ◌≤◌, List, codes}
-use Rattle.history.specs.declared.fault.Fault.{Fault}
-use Rattle.history.specs.declared.fault.Fault.TheVariants.{NotOwner, TooManyHolds, TooManyPermits, Interrupted, HoldsRead, OutOfPhase, NoSuchCondition, BadAmount, WrongMode, HistoryFull, OutOfMemory, TrimFull}
+use Rattle.history.specs.Types.{Fault, NotOwner, TooManyHolds, TooManyPermits, Interrupted, HoldsRead, OutOfPhase, NoSuchCondition, BadAmount, WrongMode, HistoryFull, OutOfMemory, TrimFull}
 
 abbrev pub fault_number : Fault → ℕ
 fault_number NotOwner = 1

@@ -1,13 +1,8 @@
 -- The steps that fail and aren't recorded, in whatever state: the object lacks the mode, the step or the
 -- condition, or doesn't count in such an amount.
 use Rattle.std.specs.Prelude.{ℕ, ◌==◌, nat_lt, nat_le, Bool, false, ◌&&◌, ◌||◌, not}
-use Rattle.history.specs.declared.limits.TheConstants.{MOST_AMOUNT}
-use Rattle.history.specs.declared.entry.Mode.{Mode}
-use Rattle.history.specs.declared.header.Header.{Header}
-use Rattle.history.specs.declared.header.Object.{Object}
-use Rattle.history.specs.declared.header.Object.TheVariants.{Lock, ReadWrite, Semaphore, Latch}
-use Rattle.history.specs.declared.step.Step.{Step}
-use Rattle.history.specs.declared.step.Step.TheVariants.{Acquire, Try, TryFair, EntryInterrupt, Give, Await, Signal, SignalAll, Drain}
+use Rattle.history.specs.Types.{MOST_AMOUNT, Mode, Header, Object, Lock, ReadWrite, Semaphore, Latch, Step, Acquire, Try, TryFair, EntryInterrupt, Give, Drain}
+use Rattle.history.specs.declared.step.Step.TheVariants.{Await, Signal, SignalAll}
 use Rattle.history.specs.Entry.{is_exclusive}
 use Rattle.history.specs.Object.{is_lock, is_semaphore, is_latch}
 

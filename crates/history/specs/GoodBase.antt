@@ -1,15 +1,10 @@
 -- The rules of a base: which numbers and lists some history can have left.
 use Rattle.std.specs.Prelude.{◌≡◌, ◌≢◌, ◌⊎◌, ◌<◌, ◌≤◌, ◌*◌, ℕ, true, false, [], length, ℤ, pos, ◌≤ℤ◌}
 use Rattle.std.specs.List.{AllByRecursion}
-use Rattle.history.specs.declared.limits.TheConstants.{MOST_AMOUNT, MOST_FOLDED, MOST_BASE_PERMITS}
+use Rattle.history.specs.Types.{MOST_AMOUNT, MOST_FOLDED, MOST_BASE_PERMITS, Mode, X, S, Header, Object, Lock, ReadWrite, Semaphore, Latch}
 use Rattle.history.specs.declared.base.Sleeper.{Sleeper}
 use Rattle.history.specs.declared.base.LinePlace.{LinePlace}
 use Rattle.history.specs.declared.entry.End.TheVariants as end
-use Rattle.history.specs.declared.entry.Mode.{Mode}
-use Rattle.history.specs.declared.entry.Mode.TheVariants.{X, S}
-use Rattle.history.specs.declared.header.Header.{Header}
-use Rattle.history.specs.declared.header.Object.{Object}
-use Rattle.history.specs.declared.header.Object.TheVariants.{Lock, ReadWrite, Semaphore, Latch}
 use Rattle.history.specs.Base.{Base, based, opening_base, sleepers_of}
 use Rattle.history.specs.Counts.{free, held}
 use Rattle.history.specs.Faults.{is_bad_number, lacks_mode}

@@ -1,7 +1,6 @@
 -- Which histories are legal, and how many calls ended in one.
 use Rattle.std.specs.Prelude.{◌≡◌, ◌<◌, ℕ, ◌+◌, if◌then◌else◌, List, [], ◌∷◌, Some, Ok}
-use Rattle.history.specs.declared.entry.Entry.{Entry}
-use Rattle.history.specs.declared.step.Step.{Step}
+use Rattle.history.specs.Types.{Entry, Step}
 use Rattle.history.specs.Entry.{ends_call}
 use Rattle.history.specs.Start.{Start}
 use Rattle.history.specs.Steps.{entry_for}

@@ -1,3 +1,5 @@
+pub mod Types
+pub mod Prelude
 pub mod Fault
 pub mod Header
 pub mod Text

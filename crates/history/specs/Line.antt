@@ -1,11 +1,6 @@
 -- The wait queue: who joined it, what ended each wait, and who still waits.
 use Rattle.std.specs.Prelude.{ℕ, ◌==◌, nat_le, Bool, true, false, ◌&&◌, if◌then◌else◌, List, [], ◌∷◌, ◌++◌, map, filter, length, take, Option, Some, None}
-use Rattle.history.specs.declared.arrival.Arrival.{Arrival}
-use Rattle.history.specs.declared.entry.Entry.{Entry}
-use Rattle.history.specs.declared.entry.Mode.{Mode}
-use Rattle.history.specs.declared.entry.Mode.TheVariants.{X}
-use Rattle.history.specs.declared.entry.Word.{Word}
-use Rattle.history.specs.declared.entry.Word.TheVariants.{Queued, Lapse, Signal, SignalAll}
+use Rattle.history.specs.Types.{Arrival, Entry, Mode, X, Word, Queued, Lapse, Signal, SignalAll}
 use Rattle.history.specs.Entry.{ends_arrival}
 use Rattle.history.specs.Sleepers.{sleepers}
 use Rattle.history.specs.Start.{Start}

@@ -1,14 +1,7 @@
 -- Which waiters were told that they could go. The marks are kept apart from the history: a step that returns
 -- Sleep changes them, and makes no entry.
 use Rattle.std.specs.Prelude.{◌≡◌, ℕ, ◌==◌, Bool, true, false, ◌&&◌, ◌||◌, not, if◌then◌else◌, List, [], ◌∷◌, Option, Some, None, Result, Ok, Err}
-use Rattle.history.specs.declared.arrival.Arrival.{Arrival}
-use Rattle.history.specs.declared.entry.Entry.{Entry}
-use Rattle.history.specs.declared.entry.Word.{Word}
-use Rattle.history.specs.declared.entry.Word.TheVariants.{Lapse, Granted, Left, Back}
-use Rattle.history.specs.declared.fault.Fault.{Fault}
-use Rattle.history.specs.declared.step.Answer.{Answer}
-use Rattle.history.specs.declared.step.Answer.TheVariants.{Recorded, Sleep}
-use Rattle.history.specs.declared.step.Step.{Step}
+use Rattle.history.specs.Types.{Arrival, Entry, Word, Lapse, Granted, Left, Back, Fault, Answer, Recorded, Sleep, Step}
 use Rattle.history.specs.Answers.{answer}
 use Rattle.history.specs.Could.{is_seat}
 use Rattle.history.specs.Line.{line, place_of}

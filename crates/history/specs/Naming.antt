@@ -1,7 +1,6 @@
 -- Which waiter an entry names: the head of the queue, if it could go and couldn't before.
 use Rattle.std.specs.Prelude.{ℕ, ◌==◌, ◌&&◌, not, if◌then◌else◌, List, ◌∷◌, Option, Some, None}
-use Rattle.history.specs.declared.arrival.Arrival.{Arrival}
-use Rattle.history.specs.declared.entry.Entry.{Entry}
+use Rattle.history.specs.Types.{Arrival, Entry}
 use Rattle.history.specs.Could.{could, is_seat}
 use Rattle.history.specs.Counts.{Counts, counts}
 use Rattle.history.specs.Line.{line, first_of}

@@ -5,11 +5,7 @@ use Rattle.history.specs.declared.base.SeatBase.{SeatBase}
 use Rattle.history.specs.declared.base.Sleeper.{Sleeper}
 use Rattle.history.specs.declared.base.LinePlace.{LinePlace}
 use Rattle.history.specs.declared.entry.End.TheVariants as end
-use Rattle.history.specs.declared.entry.Entry.{Entry}
-use Rattle.history.specs.declared.entry.Mode.TheVariants.{X, S}
-use Rattle.history.specs.declared.entry.Word.{Word}
-use Rattle.history.specs.declared.entry.Word.TheVariants.{Queued, Await, Lapse, Signal, SignalAll, Counted}
-use Rattle.history.specs.declared.header.Object.{Object}
+use Rattle.history.specs.Types.{Entry, X, S, Word, Queued, Await, Lapse, Signal, SignalAll, Counted, Object}
 use Rattle.history.specs.Base.{Base, holds_of, or_awake, seat_of, sleep_on, sleepers_of, stands_from}
 use Rattle.history.specs.Counts.{beyond, holds_after}
 use Rattle.history.specs.Entry.{ends_arrival, ends_call, same_mode}

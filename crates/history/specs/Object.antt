@@ -1,9 +1,6 @@
 -- What the four objects have, and the numbers with which they open.
 use Rattle.std.specs.Prelude.{ℕ, Bool, true, false, ℤ, pos}
-use Rattle.history.specs.declared.header.Object.{Object}
-use Rattle.history.specs.declared.header.Object.TheVariants.{Lock, ReadWrite, Semaphore, Latch}
-use Rattle.history.specs.declared.header.Policy.{Policy}
-use Rattle.history.specs.declared.header.Policy.TheVariants.{Fair, NonFair, Strict}
+use Rattle.history.specs.Types.{Object, Lock, ReadWrite, Semaphore, Latch, Policy, Fair, NonFair, Strict}
 
 -- the policies in which no new acquire, timed or untimed, barges
 abbrev pub is_fair_policy : Policy → Bool

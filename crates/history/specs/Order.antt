@@ -1,13 +1,10 @@
 -- No waiter in the queue is overtaken, stated of arrivals and their endings alone.
 use Rattle.std.specs.Prelude.{◌≡◌, ◌<◌, ℕ, Bool, true, false, List, [], ◌∷◌, ◌++◌, length, Some}
 use Rattle.std.specs.List.{AllByRecursion}
-use Rattle.history.specs.declared.entry.Entry.{Entry}
-use Rattle.history.specs.declared.entry.Word.{Word}
-use Rattle.history.specs.declared.entry.Word.TheVariants.{Got, TryGot, Granted, Back}
+use Rattle.history.specs.Types.{Entry, Word, Got, TryGot, Granted, Back, Object}
 use Rattle.history.specs.Could.{is_reentrant}
 use Rattle.history.specs.Counts.{counts}
 use Rattle.history.specs.Line.{Arrived, arrivals, Ending, ending}
-use Rattle.history.specs.declared.header.Object.{Object}
 use Rattle.history.specs.Object.{is_fair, is_strict}
 use Rattle.history.specs.Start.{Start}
 

@@ -1,11 +1,6 @@
 -- A lock or read-write lock has one owner, and nobody else reads at the same time.
 use Rattle.std.specs.Prelude.{◌≡◌, ◌<◌, ◌≤◌, ℕ, Bool, true, false, List}
-use Rattle.history.specs.declared.limits.TheConstants.{MOST_HOLDS, MOST_READ_WRITE_HOLDS}
-use Rattle.history.specs.declared.entry.Entry.{Entry}
-use Rattle.history.specs.declared.entry.Mode.{Mode}
-use Rattle.history.specs.declared.entry.Mode.TheVariants.{X, S}
-use Rattle.history.specs.declared.header.Object.{Object}
-use Rattle.history.specs.declared.header.Object.TheVariants.{Lock, ReadWrite, Semaphore, Latch}
+use Rattle.history.specs.Types.{MOST_HOLDS, MOST_READ_WRITE_HOLDS, Entry, Mode, X, S, Object, Lock, ReadWrite, Semaphore, Latch}
 use Rattle.history.specs.Counts.{held, total}
 use Rattle.history.specs.Phase.{Phase, Idle, InLine, Sleeping}
 use Rattle.history.specs.Sleepers.{last_sleep}

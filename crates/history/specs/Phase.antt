@@ -1,9 +1,6 @@
 -- A seat is idle, in the queue, or asleep on a condition. Each step is for a waiter or for an idle seat.
 use Rattle.std.specs.Prelude.{ℕ, Bool, true, false, not, List, Option, Some, None}
-use Rattle.history.specs.declared.arrival.Arrival.{Arrival}
-use Rattle.history.specs.declared.entry.Entry.{Entry}
-use Rattle.history.specs.declared.step.Step.{Step}
-use Rattle.history.specs.declared.step.Step.TheVariants.{Look, Expire, Interrupt}
+use Rattle.history.specs.Types.{Arrival, Entry, Step, Look, Expire, Interrupt}
 use Rattle.history.specs.Line.{line, place_of}
 use Rattle.history.specs.Sleepers.{sleeps_below}
 use Rattle.history.specs.Start.{Start}

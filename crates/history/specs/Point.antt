@@ -1,7 +1,6 @@
 -- A history that may be folded, as somebody has seen it: a base, and the entries after it.
 use Rattle.std.specs.Prelude.{◌≡◌, ◌⊎◌, ℕ, ◌+◌, ◌==◌, true, List, [], ◌++◌, filter}
-use Rattle.history.specs.declared.entry.Entry.{Entry}
-use Rattle.history.specs.declared.entry.Mode.{Mode}
+use Rattle.history.specs.Types.{Entry, Mode}
 use Rattle.history.specs.declared.point.Point.{Point}
 use Rattle.history.specs.Base.{Base, based, folded, seat_of}
 use Rattle.history.specs.Counts.{held}

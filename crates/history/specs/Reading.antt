@@ -1,8 +1,7 @@
 -- What the readers of words return: what they read, and the words that are left.
 use Rattle.std.specs.Prelude.{ℕ, ◌^◌, List, [], ◌∷◌, Option, None, Some, codes, decimal, bytes_eq, nat_lt, nat_le, ◌&&◌, if◌then◌else◌}
 use Rattle.std.specs.Str.Parse.{digits_value}
-use Rattle.history.specs.declared.entry.Mode.{Mode}
-use Rattle.history.specs.declared.entry.Mode.TheVariants.{X, S}
+use Rattle.history.specs.Types.{Mode, X, S}
 
 abbrev pub Words : Type 0
 Words = List (List ℕ)

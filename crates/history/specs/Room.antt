@@ -1,11 +1,7 @@
 -- For how many entries room stays reserved, and which entries have room.
 use Rattle.std.specs.Prelude.{ℕ, zero, suc, ◌+◌, ◌≤◌, nat_le, nat_lt, Bool, true, false, if◌then◌else◌, List, [], ◌∷◌, length}
-use Rattle.history.specs.declared.arrival.Arrival.{Arrival}
-use Rattle.history.specs.declared.entry.Entry.{Entry}
-use Rattle.history.specs.declared.entry.Mode.TheVariants.{X, S}
-use Rattle.history.specs.declared.entry.Word.{Word}
+use Rattle.history.specs.Types.{Arrival, Entry, X, S, Word, Object}
 use Rattle.history.specs.declared.entry.Word.TheVariants as word
-use Rattle.history.specs.declared.header.Object.{Object}
 use Rattle.history.specs.Counts.{held, total}
 use Rattle.history.specs.Line.{line}
 use Rattle.history.specs.Object.{is_lock}

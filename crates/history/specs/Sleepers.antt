@@ -1,9 +1,7 @@
 -- Who waits on a condition, and what such a waiter gave up.
 use Rattle.std.specs.Prelude.{ℕ, zero, suc, ◌==◌, Bool, false, ◌||◌, not, if◌then◌else◌, List, [], ◌∷◌, ◌++◌, filter, drop}
-use Rattle.history.specs.declared.entry.Entry.{Entry}
+use Rattle.history.specs.Types.{Entry, Word, Await, Lapse, Signal, SignalAll}
 use Rattle.history.specs.declared.entry.End.TheVariants as end
-use Rattle.history.specs.declared.entry.Word.{Word}
-use Rattle.history.specs.declared.entry.Word.TheVariants.{Await, Lapse, Signal, SignalAll}
 use Rattle.history.specs.Start.{Start, Sleep}
 
 -- a list of seats without one seat

@@ -1,11 +1,7 @@
 -- The one spelling of a header's object part.
 use Rattle.std.specs.Prelude.{ℕ, List, [], ◌∷◌, codes, decimal}
 use Rattle.std.specs.Fmt.{signed_decimal}
-use Rattle.history.specs.declared.header.Header.{Header}
-use Rattle.history.specs.declared.header.Object.{Object}
-use Rattle.history.specs.declared.header.Object.TheVariants.{Lock, ReadWrite, Semaphore, Latch}
-use Rattle.history.specs.declared.header.Policy.{Policy}
-use Rattle.history.specs.declared.header.Policy.TheVariants.{Fair, NonFair, Strict}
+use Rattle.history.specs.Types.{Header, Object, Lock, ReadWrite, Semaphore, Latch, Policy, Fair, NonFair, Strict}
 use Rattle.history.specs.Text.{line_of}
 
 abbrev pub policy_word : Policy → List ℕ

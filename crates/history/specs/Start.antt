@@ -3,11 +3,8 @@
 -- Every definition begins with a start, and reads it only in its clause for the empty list. An object as
 -- opened starts with nothing held, nobody waiting and its opening number.
 use Rattle.std.specs.Prelude.{ℕ, List, [], ℤ}
-use Rattle.history.specs.declared.arrival.Arrival.{Arrival}
-use Rattle.history.specs.declared.entry.End.{End}
+use Rattle.history.specs.Types.{Arrival, End, Mode, Header}
 use Rattle.history.specs.declared.entry.End.TheVariants as end
-use Rattle.history.specs.declared.entry.Mode.{Mode}
-use Rattle.history.specs.declared.header.Header.{Header}
 use Rattle.history.specs.Object.{created}
 
 -- What a seat gave up when it last began to wait on a condition, and how it will come back.

@@ -1,20 +1,10 @@
 -- What a step of a seat makes: one entry, sleep, or a fault that isn't recorded.
 use Rattle.std.specs.Prelude.{ℕ, ◌==◌, nat_lt, Bool, true, false, not, if◌then◌else◌, List, length, Option, Some, None, Result, Ok, Err, ℤ, pos, ◌+ℤ◌, int_lt, nat_abs}
-use Rattle.history.specs.declared.limits.TheConstants.{MOST_AMOUNT}
-use Rattle.history.specs.declared.arrival.Arrival.{Arrival}
-use Rattle.history.specs.declared.entry.Entry.{Entry}
-use Rattle.history.specs.declared.entry.End.{End}
+use Rattle.history.specs.Types.{MOST_AMOUNT, Arrival, Entry, End, Mode, X, S, Word, Fault, Object, Lock, ReadWrite, Semaphore, Latch, Step, Acquire, Try, TryFair, EntryInterrupt, Give, Look, Expire, Interrupt, Drain}
 use Rattle.history.specs.declared.entry.End.TheVariants as end
-use Rattle.history.specs.declared.entry.Mode.{Mode}
-use Rattle.history.specs.declared.entry.Mode.TheVariants.{X, S}
-use Rattle.history.specs.declared.entry.Word.{Word}
 use Rattle.history.specs.declared.entry.Word.TheVariants as word
-use Rattle.history.specs.declared.fault.Fault.{Fault}
 use Rattle.history.specs.declared.fault.Fault.TheVariants as fault
-use Rattle.history.specs.declared.header.Object.{Object}
-use Rattle.history.specs.declared.header.Object.TheVariants.{Lock, ReadWrite, Semaphore, Latch}
-use Rattle.history.specs.declared.step.Step.{Step}
-use Rattle.history.specs.declared.step.Step.TheVariants.{Acquire, Try, TryFair, EntryInterrupt, Give, Look, Expire, Interrupt, Await, Signal, SignalAll, Drain}
+use Rattle.history.specs.declared.step.Step.TheVariants.{Await, Signal, SignalAll}
 use Rattle.history.specs.Could.{could, limit, held_back, is_seat, try_held_back}
 use Rattle.history.specs.Counts.{Counts, counts, owner}
 use Rattle.history.specs.Faults.{is_wrong_mode, is_no_condition, is_bad_amount}

@@ -1,7 +1,6 @@
 -- Who waits, in the queue or on a condition, and that a seat waits in one place.
 use Rattle.std.specs.Prelude.{◌≡◌, ℕ, zero, suc, ◌+◌, ◌≤◌, ◌==◌, if◌then◌else◌, List, [], ◌∷◌, ◌++◌, map, None}
-use Rattle.history.specs.declared.arrival.Arrival.{Arrival}
-use Rattle.history.specs.declared.entry.Entry.{Entry}
+use Rattle.history.specs.Types.{Arrival, Entry}
 use Rattle.history.specs.Line.{line, place_of}
 use Rattle.history.specs.Sleepers.{sleepers}
 use Rattle.history.specs.Start.{Start}

@@ -1,6 +1,6 @@
 //! A list of entries that only grows or is folded into a base, with room that stays reserved.
 
-ghost use Rattle.std.specs.Prelude.{◌≡◌, ◌+◌, ◌*◌, ◌^◌, ◌<◌, ◌≤◌, ◌↔◌, ◌⊎◌, max, min, [], ◌∷◌, length, reverse, slice_get, Some, None, IsTrue, IsOk, IsErrOf, OnOk, OnErr, IfOk, IfErr, IsSomeAnd};
+ghost use Rattle.std.specs.Prelude.{◌≡◌, ◌+◌, ◌*◌, ◌^◌, ◌<◌, ◌≤◌, ◌↔◌, ◌⊎◌, max, min, [], ◌∷◌, length, reverse, slice_get, Some, None, IsTrue, IsFalse, IsOk, IsErrOf, OnOk, OnErr, IfOk, IfErr, IsSome, IsSomeAnd};
 ghost use Rattle.std.specs.Option.{option_copied, option_map};
 ghost use Rattle.history.specs.declared.limits.TheConstants.{MOST_FOLDED};
 ghost use Rattle.history.specs.declared.fault.Fault.TheVariants.{HistoryFull, OutOfMemory, TrimFull};
@@ -209,6 +209,38 @@ impl History {
         self.pages.add(entry);
         self.owed = owed;
         self.calls += u64::from(ends_call(entry.word));
+    }
+
+    /// Returns whether the entries may be folded: the history has a base, whose limit would not be passed.
+    pub fn may_fold(&self) -> bool
+        requires { IsSomeAnd self.now.base (λ base. base.entries ≤ MOST_FOLDED) }
+        ensures { IsFalse result ↔ IsSomeAnd self.now.base
+            (λ base. MOST_FOLDED < base.entries + length self.now.entries) }
+    {
+        match &self.base {
+            Some(base) => base.may_fold(self.pages.len()),
+            None => false,
+        }
+    }
+
+    /// Takes the base out. A caller that knows the state after the entries writes it into the base, and
+    /// [begins on](History::begin_on) that: a fold that looks at no entry.
+    pub fn take_base(&mut self) -> Base
+        requires { IsSome self.old.base }
+        ensures base { self.old.base ≡ Some result }
+        ensures taken { self.new ≡ record self.old { base = None } }
+    {
+        self.base.take().unwrap()
+    }
+
+    /// Begins anew on this base, without entries. It allocates nothing. What is reserved and what is owed
+    /// stay.
+    pub fn begin_on(&mut self, base: Base)
+        ensures { self.new ≡ record self.old { base = Some base; entries = [] } }
+    {
+        self.base = Some(base);
+        self.pages.clear();
+        self.calls = 0;
     }
 
     /// Folds all entries into the base, and returns how many there were. It allocates nothing. What is

@@ -1,6 +1,6 @@
 //! A page of a history.
 
-ghost use Rattle.std.specs.Prelude.{◌≡◌, ◌++◌, [], map, slice_get, IfOk, OnOk, OnErr, replicate, vec_capacity};
+ghost use Rattle.std.specs.Prelude.{◌≡◌, ◌++◌, [], slice_get, IfOk, OnOk, OnErr, replicate, vec_capacity};
 
 use crate::entry::Entry;
 use std::alloc::{AllocError, Global};
@@ -66,22 +66,6 @@ impl Page {
         ensures capacity { vec_capacity result ≡ 1024 }
     {
         self.entries
-    }
-
-    /// Removes all entries. Their places stay.
-    pub(crate) fn clear(&mut self)
-        ensures { self.new ≡ [] }
-    {
-        self.entries.clear();
-    }
-}
-
-/// Removes all entries of these pages.
-pub(crate) fn clear_pages(pages: &mut [Page])
-    ensures { pages.new ≡ map (λ page. []) pages.old }
-{
-    for page in pages.iter_mut() {
-        page.clear();
     }
 }
 

@@ -1,11 +1,11 @@
 //! Entries in pages, one of which is at hand.
 
-ghost use Rattle.std.specs.Prelude.{◌≡◌, ◌+◌, ◌*◌, ◌^◌, ◌<◌, ◌≤◌, ◌++◌, max, [], ◌∷◌, length, set, get_or, slice_get, IsFalse, IsOk, IsTrue, OnOk, OnErr, vec_capacity};
+ghost use Rattle.std.specs.Prelude.{◌≡◌, ◌+◌, ◌*◌, ◌^◌, ◌<◌, ◌≤◌, ◌++◌, max, [], ◌∷◌, length, set, take, slice_get, IsFalse, IsOk, IsTrue, OnOk, OnErr, vec_capacity};
 ghost use Rattle.history.specs.Pages.{whole_pages};
-ghost use Rattle.history.specs.inner.Paged.{AreKept, in_pages};
+ghost use Rattle.history.specs.inner.Paged.{AreKept, in_pages, used};
 
 use crate::entry::Entry;
-use crate::page::{PLACES, Page, clear_pages, reserve_pages};
+use crate::page::{PLACES, Page, reserve_pages};
 use std::alloc::{AllocError, Global};
 use std::marker::Model;
 
@@ -15,7 +15,7 @@ use std::marker::Model;
 /// full, the next reserved page takes its place.
 #[derive(Debug, Drop)]
 pub(crate) struct Pages {
-    /// All other pages: first those that are full, then those that are empty.
+    /// All other pages: first those that are full, then those that count as empty.
     others: Vec<Page>,
     /// How many of the other pages are full.
     full: usize,
@@ -29,16 +29,16 @@ pub(crate) struct Pages {
 
 impl Model for Pages {
     ghost use Rattle.std.specs.Prelude.{◌≡◌, ◌+◌, ◌*◌, ◌++◌, length, vec_capacity};
-    ghost use Rattle.history.specs.inner.Paged.{AreKept, PagesView, in_pages};
+    ghost use Rattle.history.specs.inner.Paged.{AreKept, PagesView, in_pages, used};
 
     ghost Value = { PagesView };
 
     ghost view = { λ a. record {
-      entries = in_pages a.others.items ++ a.hand.items;
+      entries = in_pages (used a.full a.others.items) ++ a.hand.items;
       places = a.places;
     } };
 
-    ghost invariant = { λ a. AreKept a.others.items a.full a.hand.items (vec_capacity a.hand)
+    ghost invariant = { λ a. AreKept (used a.full a.others.items) a.full a.hand.items (vec_capacity a.hand)
         × (a.len ≡ 1024 * a.full + length a.hand.items)
         × (a.places ≡ 1024 * length a.others.items + vec_capacity a.hand) };
 }
@@ -82,7 +82,7 @@ impl Pages {
         if place / PLACES == self.full {
             return self.hand.get(place % PLACES).copied();
         }
-        match self.others.get(place / PLACES) {
+        match full_pages(&self.others, self.full).get(place / PLACES) {
             Some(page) => page.get(place % PLACES),
             None => None,
         }
@@ -138,33 +138,35 @@ impl Pages {
         self.len += 1;
     }
 
-    /// Removes all entries. Their places stay.
+    /// Removes all entries. Their places stay. A page is cleared when it is taken, so this takes the same time
+    /// whatever the number of entries.
     pub(crate) fn clear(&mut self)
         ensures { self.new ≡ record self.old { entries = [] } }
     {
-        clear_pages(&mut self.others);
         self.hand.clear();
         self.full = 0;
         self.len = 0;
     }
 
-    /// Returns the other pages, and the entries at hand.
+    /// Returns the full pages, and the entries at hand.
     pub(crate) fn parts(&self) -> (&[Page], &[Entry])
         ensures { self.now.entries ≡ in_pages result.0.now ++ result.1.now }
     {
-        (&self.others, &self.hand)
+        (full_pages(&self.others, self.full), &self.hand)
     }
 }
 
 /// Makes sure that the page at hand has a free place, if any page has one.
 #[inline(always)]
 fn find_place(others: &mut Vec<Page>, full: &mut usize, hand: &mut Vec<Entry>)
-    requires kept { AreKept others.old.items full.old hand.old.items (vec_capacity hand.old) }
-    requires place { length (in_pages others.old.items ++ hand.old.items)
+    requires kept { AreKept (used full.old others.old.items) full.old hand.old.items
+        (vec_capacity hand.old) }
+    requires place { length (in_pages (used full.old others.old.items) ++ hand.old.items)
         < 1024 * length others.old.items + vec_capacity hand.old }
-    ensures kept { AreKept others.new.items full.new hand.new.items (vec_capacity hand.new) }
-    ensures entries { in_pages others.new.items ++ hand.new.items
-        ≡ in_pages others.old.items ++ hand.old.items }
+    ensures kept { AreKept (used full.new others.new.items) full.new hand.new.items
+        (vec_capacity hand.new) }
+    ensures entries { in_pages (used full.new others.new.items) ++ hand.new.items
+        ≡ in_pages (used full.old others.old.items) ++ hand.old.items }
     ensures others { length others.new.items ≡ length others.old.items }
     ensures capacity { vec_capacity hand.new ≡ vec_capacity hand.old }
     ensures place { length hand.new.items < vec_capacity hand.new }
@@ -176,15 +178,24 @@ fn find_place(others: &mut Vec<Page>, full: &mut usize, hand: &mut Vec<Entry>)
     *full += 1;
 }
 
-/// Takes the next page to hand, in place of the full one.
+/// Takes the next page to hand, in place of the full one, and removes what it has.
 #[cold]
 #[inline(never)]
 fn turn_page(others: &mut Vec<Page>, next: usize, hand: &mut Vec<Entry>)
     requires next { next < length others.old.items }
     requires capacity { vec_capacity hand.old ≡ 1024 }
     ensures others { others.new.items ≡ set others.old.items next hand.old.items }
-    ensures hand { hand.new.items ≡ get_or others.old.items next [] }
+    ensures hand { hand.new.items ≡ [] }
     ensures capacity { vec_capacity hand.new ≡ 1024 }
 {
     others[next].exchange(hand);
+    hand.clear();
+}
+
+/// Returns the first `full` pages.
+fn full_pages(others: &[Page], full: usize) -> &[Page]
+    requires { full ≤ length others.now }
+    ensures { result.now ≡ take full others.now }
+{
+    &others[..full]
 }

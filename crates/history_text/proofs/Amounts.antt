@@ -1,33 +1,12 @@
 -- Each entry of a legal history of an object in range has a line of a history text: its amount and its
 -- condition are small.
-use Rattle.std.proofs.Common.{◌≡◌, ⊎_elim, ℕ, zero, suc, ℤ, pos, negsuc, ◌+◌, ◌<◌, ◌≤◌, Bool, true}
-use Rattle.std.proofs.Common.{false, cond, eqb, ltb, List, [], ◌∷◌, length, Some, ap, sym, subst, arith}
-use Rattle.std.specs.Prelude.{FitsSigned}
+use Rattle.std.proofs.Common.{◌≡◌, ⊎_elim, ℕ, zero, suc, ℤ, pos, negsuc, ◌+◌, ◌<◌, ◌≤◌, Bool, true, false, cond, eqb, ltb, List, [], ◌∷◌, length, Some, ap, sym, subst, arith, FitsSigned, length-append}
 use Rattle.std.specs.Int.{w32}
 use Rattle.std.specs.List.{AllByRecursion}
 use Rattle.std.proofs.lemmas.Bool.{cases_eq}
 use Rattle.std.proofs.lemmas.Int.{ints}
-use Rattle.std.proofs.lemmas.List.{length-append}
-use Rattle.history.specs.declared.limits.TheConstants.{LAST_CONDITION, MOST_AMOUNT, MOST_CONDITIONS}
-use Rattle.history.specs.declared.arrival.Arrival.{Arrival}
-use Rattle.history.specs.declared.entry.Entry.{Entry}
-use Rattle.history.specs.declared.entry.Word.{Word}
+use Rattle.history_text.specs.Below.{LAST_CONDITION, MOST_AMOUNT, MOST_CONDITIONS, Arrival, Entry, Word, Header, Object, Lock, ReadWrite, Semaphore, Latch, Base, based, free, IsSpelt, IsWritten, IsBaseOf, IsGood, IsInRange, IsOpening, IsLegal, AreSeated, line, place_of, sleepers, last_sleep, CanFold, Start, at_least_none, at_most_one, asleep, most_exclusive}
 use Rattle.history.specs.declared.entry.Word.TheVariants as word
-use Rattle.history.specs.declared.header.Header.{Header}
-use Rattle.history.specs.declared.header.Object.{Object}
-use Rattle.history.specs.declared.header.Object.TheVariants.{Lock, ReadWrite, Semaphore, Latch}
-use Rattle.history.specs.Base.{Base, based}
-use Rattle.history.specs.Counts.{free}
-use Rattle.history.specs.EntryWords.{IsSpelt, IsWritten}
-use Rattle.history.specs.GoodBase.{IsBaseOf, IsGood}
-use Rattle.history.specs.Header.{IsInRange, IsOpening}
-use Rattle.history.specs.Legal.{IsLegal, AreSeated}
-use Rattle.history.specs.Line.{line, place_of}
-use Rattle.history.specs.Sleepers.{sleepers, last_sleep}
-use Rattle.history.specs.Point.{CanFold}
-use Rattle.history.specs.Start.{Start}
-use Rattle.history.specs.Steps.{at_least_none, at_most_one}
-use Rattle.history.specs.Waiting.{asleep}
 use Rattle.history.proofs.Asking.{asked_few, AsksFew, line_few_on}
 use Rattle.history.proofs.Entering.{KnownBy, known}
 use Rattle.history.proofs.GoodBases.{good_waits}
@@ -38,7 +17,6 @@ use Rattle.history.proofs.SmallHolds.{stand_few}
 use Rattle.history.proofs.WhoWaits.{comes_back, few_wait}
 use Rattle.history_text.specs.EntryLines.{HasLine}
 use Rattle.history_text.proofs.Spelt.{all_spelt_on}
-use Rattle.history.specs.Ownership.{most_exclusive}
 
 -- no more sleep on one condition than on all
 asleep_part : (s : Start) (h : List Entry) (c n : ℕ) → c < n → length (sleepers s h c) ≤ length (asleep n s h)

@@ -1,9 +1,6 @@
 -- Which bases have a text under a header.
 use Rattle.std.proofs.Common.{◌≡◌, ◌≤◌, inl, inr, ⊎_elim, ap, ◌∙◌, sym, subst, arith}
-use Rattle.history.specs.declared.header.Header.{Header}
-use Rattle.history.specs.Base.{Base, opening_base}
-use Rattle.history.specs.GoodBase.{IsGood}
-use Rattle.history.specs.Header.{IsInRange}
+use Rattle.history_text.specs.Below.{Header, Base, opening_base, IsGood, IsInRange}
 use Rattle.history_text.specs.HistoryText.{HasBaseText}
 
 pub opening_text : (h : Header) (b : Base) → b.header ≡ h → b ≡ opening_base b.header → HasBaseText h b

@@ -1,15 +1,9 @@
 -- Lines of a base, taken up one after another.
-use Rattle.std.proofs.Common.{◌≡◌, ℕ, ◌+◌, ◌<◌, Bool, true, false, IsTrue, List, [], ◌∷◌}
-use Rattle.std.proofs.Common.{◌++◌, length, map, get_or, drop, refl, sym, ap, subst, ◌∙◌}
+use Rattle.std.proofs.Common.{◌≡◌, ℕ, ◌+◌, ◌<◌, Bool, true, false, IsTrue, List, [], ◌∷◌, ◌++◌, length, map, get_or, drop, refl, sym, ap, subst, ◌∙◌}
 use Rattle.std.proofs.lemmas.List.{drop_more}
-use Rattle.history.specs.declared.base.Sleeper.{Sleeper}
-use Rattle.history.specs.Base.{Base}
-use Rattle.history_text.specs.declared.base_line.BaseLine.{BaseLine}
-use Rattle.history_text.specs.declared.base_line.BaseLine.TheVariants.{Sleeps, Stands}
-use Rattle.history_text.specs.BaseFollowing.{after_told}
+use Rattle.history_text.specs.Below.{Sleeper, Base}
+use Rattle.history_text.specs.Prelude.{BaseLine, Sleeps, Stands, after_told, base_lines, first_line, seat_lines, sleeper_lines, BaseSums, with_sums, no_sums}
 use Rattle.history_text.specs.inner.BaseFollowing.{AllFollow, HaveFollowed}
-use Rattle.history_text.specs.BaseLines.{base_lines, first_line, seat_lines, sleeper_lines}
-use Rattle.history_text.specs.BaseRules.{BaseSums, with_sums, no_sums}
 use Rattle.history_text.proofs.BaseWhole.{told-append}
 
 -- lines behind lines

@@ -1,29 +1,9 @@
 -- What the line of a base spells is read again, and is no other line.
-use Rattle.std.proofs.Common.{◌≡◌, ⊎_elim, ℕ, ◌+◌, ◌*◌, ◌^◌, ◌<◌, ◌≤◌, Bool, true, false, List, [], ◌∷◌}
-use Rattle.std.proofs.Common.{length, get_or, Some, refl, sym, ap, subst, ◌∙◌, arith, decimal}
-use Rattle.std.specs.Prelude.{codes}
+use Rattle.std.proofs.Common.{◌≡◌, ⊎_elim, ℕ, ◌+◌, ◌*◌, ◌^◌, ◌<◌, ◌≤◌, Bool, true, false, List, [], ◌∷◌, length, get_or, Some, refl, sym, ap, subst, ◌∙◌, arith, decimal, codes, length-append}
 use Rattle.std.specs.List.{AllByRecursion}
 use Rattle.std.proofs.lemmas.Fmt.{length-decimal-le_wide}
-use Rattle.std.proofs.lemmas.List.{length-append}
-use Rattle.history.specs.declared.base.LinePlace.{LinePlace}
-use Rattle.history.specs.declared.base.SeatBase.{SeatBase}
-use Rattle.history.specs.declared.entry.End.{End}
+use Rattle.history_text.specs.Below.{LinePlace, SeatBase, End, Entry, Mode, Header, Object, Lock, ReadWrite, Semaphore, Latch, Base, IsWritten, entry_words, LAST_CONDITION, MOST_AMOUNT, MOST_BASE_PERMITS, MOST_FOLDED, MOST_HOLDS, Asks, GaveUp, Returns, IsInRange, IsOpening, coming_back, opening_count, Words, line_of, words_of}
 use Rattle.history.specs.declared.entry.End.TheVariants as end
-use Rattle.history.specs.declared.entry.Entry.{Entry}
-use Rattle.history.specs.declared.entry.Mode.{Mode}
-use Rattle.history.specs.declared.header.Header.{Header}
-use Rattle.history.specs.declared.header.Object.{Object}
-use Rattle.history.specs.declared.header.Object.TheVariants.{Lock, ReadWrite, Semaphore, Latch}
-use Rattle.history.specs.Base.{Base}
-use Rattle.history.specs.EntryWords.{IsWritten, entry_words}
-use Rattle.history.specs.declared.limits.TheConstants.{LAST_CONDITION, MOST_AMOUNT}
-use Rattle.history.specs.declared.limits.TheConstants.{MOST_BASE_PERMITS, MOST_FOLDED, MOST_HOLDS}
-use Rattle.history.specs.GoodBase.{Asks, GaveUp, Returns}
-use Rattle.history.specs.Header.{IsInRange, IsOpening}
-use Rattle.history.specs.Line.{coming_back}
-use Rattle.history.specs.Object.{opening_count}
-use Rattle.history.specs.Reading.{Words}
-use Rattle.history.specs.Text.{line_of, words_of}
 use Rattle.history.proofs.Asking.{asked_few}
 use Rattle.history.proofs.EntryAgain.{plain_entry, words_again_read}
 use Rattle.history.proofs.Numbers.{digits_alone, number_at_again}
@@ -34,15 +14,8 @@ use Rattle.history.proofs.WideNumbers.{wide_at_again, wide_plain}
 use Rattle.line_text.proofs.Lawful.{Lacks}
 use Rattle.line_text.proofs.Lists.{head_is}
 use Rattle.line_text.proofs.WholeLines.{line_lacks}
-use Rattle.history_text.specs.declared.base_line.BaseLine.{BaseLine}
-use Rattle.history_text.specs.declared.base_line.BaseLine.TheVariants.{Folded, Released, CountedDown}
-use Rattle.history_text.specs.declared.base_line.BaseLine.TheVariants.{Seat, Stands, Sleeps}
+use Rattle.history_text.specs.Prelude.{BaseLine, Folded, Released, CountedDown, Seat, Stands, Sleeps, IsBaseLine, stood_by, base_line, base_words, waiting_by, base_line_at, beside_at, folded_at, has_at, sleeps_at, stands_at, MayFollow, MayHold, BaseSums, HasLine, counts_line, entry_line}
 use Rattle.history_text.specs.declared.base_line.TheConstants.{LAST_SEAT}
-use Rattle.history_text.specs.BaseLineLimits.{IsBaseLine, stood_by}
-use Rattle.history_text.specs.BaseLines.{base_line, base_words, waiting_by}
-use Rattle.history_text.specs.BaseReading.{base_line_at, beside_at, folded_at, has_at, sleeps_at, stands_at}
-use Rattle.history_text.specs.BaseRules.{MayFollow, MayHold, BaseSums}
-use Rattle.history_text.specs.EntryLines.{HasLine, counts_line, entry_line}
 use Rattle.history_text.proofs.Amounts.{few_conditions}
 use Rattle.history_text.proofs.Spelt.{came_back}
 use Rattle.history_text.proofs.EntryLemmas.{counts_line-words, counts_plain, entry_line-words, line_plain}

@@ -1,29 +1,10 @@
 -- The lines of a base are read, one after another.
-use Rattle.std.proofs.Common.{◌≡◌, ℕ, zero, suc, ◌+◌, ◌-◌, ◌≤◌, ◌<◌, Bool, true, false, List, []}
-use Rattle.std.proofs.Common.{◌∷◌, ◌++◌, length, get_or, set, refl, sym, ap, subst, ◌∙◌, arith}
+use Rattle.std.proofs.Common.{◌≡◌, ℕ, zero, suc, ◌+◌, ◌-◌, ◌≤◌, ◌<◌, Bool, true, false, List, [], ◌∷◌, ◌++◌, length, get_or, set, refl, sym, ap, subst, ◌∙◌, arith, length-append}
 use Rattle.std.proofs.lemmas.Bool.{false≢true}
-use Rattle.std.proofs.lemmas.List.{length-append}
-use Rattle.history.specs.declared.base.SeatBase.{SeatBase}
-use Rattle.history.specs.declared.base.Sleeper.{Sleeper}
-use Rattle.history.specs.declared.base.LinePlace.{LinePlace}
-use Rattle.history.specs.declared.header.Header.{Header}
-use Rattle.history.specs.Base.{Base, opening_base, sleepers_of}
-use Rattle.history.specs.Header.{IsInRange}
-use Rattle.history_text.specs.declared.base_line.BaseLine.{BaseLine}
-use Rattle.history_text.specs.declared.base_line.BaseLine.TheVariants.{Folded, Released, CountedDown}
-use Rattle.history_text.specs.declared.base_line.BaseLine.TheVariants.{Seat, Sleeps, Stands}
-use Rattle.history_text.specs.BaseFollowing.{AllRead, after_told, with_lines}
-use Rattle.history_text.specs.BaseLines.{base_lines}
-use Rattle.history_text.specs.declared.base_under_way.TheConstants.{MOST_LINES}
-use Rattle.history_text.specs.BaseRules.{AllSeated, MayFollow, BaseSums, with_sums, no_sums, with_line}
-use Rattle.history_text.specs.BaseTelling.{Follow, base_by, sums_of}
-use Rattle.history_text.specs.BaseText.{calls_sum}
-use Rattle.history_text.specs.BaseUnderWay.{IsUnderWay, lines_by, lines_read}
-use Rattle.history_text.specs.NextLine.{LinesRead}
-use Rattle.history_text.specs.ToldBases.{GoodBeginsSo, GoodHas, IsToldBase}
+use Rattle.history_text.specs.Below.{SeatBase, Sleeper, LinePlace, Header, Base, opening_base, sleepers_of, IsInRange}
+use Rattle.history_text.specs.Prelude.{BaseLine, Folded, Released, CountedDown, Seat, Sleeps, Stands, AllRead, after_told, with_lines, base_lines, MOST_LINES, AllSeated, MayFollow, BaseSums, with_sums, no_sums, with_line, Follow, base_by, sums_of, calls_sum, IsUnderWay, lines_by, lines_read, LinesRead, GoodBeginsSo, GoodHas, IsToldBase}
 use Rattle.history_text.proofs.BaseRetold.{good_follows, good_is_told}
-use Rattle.history_text.proofs.BaseTold.{SoFar, asleep_place, goes_on, header_kept}
-use Rattle.history_text.proofs.BaseTold.{line_place, stands_seated, told_so_far, whole_told}
+use Rattle.history_text.proofs.BaseTold.{SoFar, asleep_place, goes_on, header_kept, line_place, stands_seated, told_so_far, whole_told}
 use Rattle.history_text.proofs.BaseWhole.{base-append, follow-append, some_base, told-append}
 use Rattle.history_text.proofs.HeadWritten.{sum_calls}
 

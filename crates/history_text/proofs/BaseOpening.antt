@@ -1,11 +1,8 @@
 -- The base of an object as it is opened, part by part.
-use Rattle.std.proofs.Common.{◌≡◌, ℕ, List, [], ◌∷◌, All, length, map, refl, ◌∙◌, sym, subst, arith}
+use Rattle.std.proofs.Common.{◌≡◌, ℕ, List, [], ◌∷◌, All, length, map, refl, ◌∙◌, sym, subst, arith, ext_get_or}
 use Rattle.std.specs.List.{AllByRecursion}
-use Rattle.std.proofs.lemmas.List.{ext_get_or}
-use Rattle.std.proofs.lemmas.List.Elements.{All-from_get_or, All-from_recursion}
-use Rattle.std.proofs.lemmas.List.Elements.{All-get_or, All-map, recursion_from_All}
-use Rattle.history.specs.declared.header.Header.{Header}
-use Rattle.history.specs.Base.{Base, each_below, nothing, opening_base}
+use Rattle.std.proofs.lemmas.List.Elements.{All-from_get_or, All-from_recursion, All-get_or, All-map, recursion_from_All}
+use Rattle.history_text.specs.Below.{Header, Base, each_below, nothing, opening_base}
 use Rattle.history.proofs.Folding.{get_or-each, length-each}
 use Rattle.history_text.specs.inner.BaseFollowing.{IsUnused}
 

@@ -1,22 +1,12 @@
 -- The lines of seats and of sleepers, and what one more changes.
-use Rattle.std.proofs.Common.{◌≡◌, ℕ, zero, suc, ◌+◌, ◌<◌, eqb, List, [], ◌∷◌}
-use Rattle.std.proofs.Common.{◌++◌, length, map, get_or, refl, ap, ◌∙◌, sym, arith}
+use Rattle.std.proofs.Common.{◌≡◌, ℕ, zero, suc, ◌+◌, ◌<◌, eqb, List, [], ◌∷◌, ◌++◌, length, map, get_or, refl, ap, ◌∙◌, sym, arith, append-nil, append_assoc, get_or-set_same, get_or-set_other}
 use Rattle.std.specs.List.{AllByRecursion}
 use Rattle.std.proofs.Math.ListN.{set}
-use Rattle.std.proofs.lemmas.List.{append-nil, append_assoc, map-append, get_or-set_same, get_or-set_other}
-use Rattle.history.specs.declared.arrival.Arrival.{Arrival}
-use Rattle.history.specs.declared.base.SeatBase.{SeatBase}
-use Rattle.history.specs.declared.base.Sleeper.{Sleeper}
-use Rattle.history.specs.declared.base.LinePlace.{LinePlace}
-use Rattle.history.specs.declared.header.Object.{Object}
-use Rattle.history.specs.declared.header.Object.TheVariants.{Lock, ReadWrite, Semaphore, Latch}
-use Rattle.history.specs.Base.{Base, nothing}
-use Rattle.history.specs.Counts.{total}
-use Rattle.history.specs.Waiting.{seats_of, times}
+use Rattle.std.proofs.lemmas.List.{map-append}
+use Rattle.history_text.specs.Below.{Arrival, SeatBase, Sleeper, LinePlace, Object, Lock, ReadWrite, Semaphore, Latch, Base, nothing, total, seats_of, times}
 use Rattle.history.proofs.Sums.{total_change}
 use Rattle.history.proofs.Times.{one_if, times-append}
-use Rattle.history_text.specs.declared.base_line.BaseLine.TheVariants.{Seat, Sleeps}
-use Rattle.history_text.specs.BaseLines.{first_line, seat_lines, sleeper_lines}
+use Rattle.history_text.specs.Prelude.{Seat, Sleeps, first_line, seat_lines, sleeper_lines}
 
 pub seat_lines_push : (i : ℕ) (xs : List SeatBase) (x : SeatBase) (n : ℕ) → i + length xs ≡ n →
     seat_lines i (xs ++ x ∷ []) ≡ seat_lines i xs ++ Seat n x ∷ []

@@ -1,20 +1,9 @@
 -- A line of a base that is read may come next, or is bad.
-use Rattle.std.proofs.Common.{◌≡◌, ◌≢◌, ℕ, ◌+◌, ◌≤◌, true, List, [], ◌∷◌, ◌++◌}
-use Rattle.std.proofs.Common.{length, map, Err, sym, ap, subst, ◌∙◌, arith, inl}
+use Rattle.std.proofs.Common.{◌≡◌, ◌≢◌, ℕ, ◌+◌, ◌≤◌, true, List, [], ◌∷◌, ◌++◌, length, map, Err, sym, ap, subst, ◌∙◌, arith, inl}
 use Rattle.std.proofs.lemmas.List.{length-map}
-use Rattle.history.specs.Header.{IsInRange}
-use Rattle.history.specs.Text.{HasNoBreak}
-use Rattle.line_text.specs.declared.fault.TextFault.TheVariants.{BadLine}
-use Rattle.line_text.specs.Reading.{Begins}
+use Rattle.history_text.specs.Below.{IsInRange, HasNoBreak, BadLine, Begins}
 use Rattle.line_text.proofs.OneReading.{lacks, same_lines}
-use Rattle.history_text.specs.declared.base_line.BaseLine.{BaseLine}
-use Rattle.history_text.specs.declared.place.Head.{Head}
-use Rattle.history_text.specs.BaseLineLimits.{IsBaseLine}
-use Rattle.history_text.specs.BaseLines.{base_line}
-use Rattle.history_text.specs.HistoryText.{history_form}
-use Rattle.history_text.specs.NextLine.{IsBaseLineNext, LacksBaseLine, LinesRead}
-use Rattle.history_text.specs.TextLines.{Based, Entered, Line, SomeBeginsSo, line_text}
-use Rattle.history_text.specs.ToldBases.{GoodBeginsSo, GoodHas}
+use Rattle.history_text.specs.Prelude.{BaseLine, Head, IsBaseLine, base_line, history_form, IsBaseLineNext, LacksBaseLine, LinesRead, Based, Entered, Line, SomeBeginsSo, line_text, GoodBeginsSo, GoodHas}
 use Rattle.history_text.proofs.BaseLineLemmas.{base_no_end, base_no_entry, same_base_line}
 use Rattle.history_text.proofs.HistoryItems.{good_whole, next_based, next_entry, same_based}
 use Rattle.history_text.proofs.ShortEntries.{short}

@@ -1,41 +1,17 @@
 -- The lines of a good base follow one another, and tell that base.
-use Rattle.std.proofs.Common.{◌≡◌, ◌≢◌, inl, inr, ⊎_elim, ℕ, zero, suc, ◌+◌, ◌<◌, ◌≤◌}
-use Rattle.std.proofs.Common.{List, [], ◌∷◌, ◌++◌, map, refl, ap, ◌∙◌, sym, subst, arith}
+use Rattle.std.proofs.Common.{◌≡◌, ◌≢◌, inl, inr, ⊎_elim, ℕ, zero, suc, ◌+◌, ◌<◌, ◌≤◌, List, [], ◌∷◌, ◌++◌, map, refl, ap, ◌∙◌, sym, subst, arith, ℤ, pos, neg_ℤ, ◌⊎◌, ◌≤ℤ◌, ◌+ℤ◌, ◌-ℤ◌}
 use Rattle.std.specs.List.{AllByRecursion}
-use Rattle.std.specs.Prelude.{ℤ, pos, neg_ℤ, ◌⊎◌, ◌≤ℤ◌, ◌+ℤ◌, ◌-ℤ◌}
 use lib.IntN.{negsuc}
 use Rattle.std.proofs.lemmas.Bool.{cases_eq, cases_lt}
 use Rattle.std.proofs.lemmas.Int.{ints}
 use Rattle.std.proofs.lemmas.List.{get_or_past, map-append}
-use Rattle.history.specs.declared.limits.TheConstants.{MOST_AMOUNT, MOST_SEATS}
-use Rattle.history.specs.declared.arrival.Arrival.{Arrival}
-use Rattle.history.specs.declared.base.SeatBase.{SeatBase}
-use Rattle.history.specs.declared.base.Sleeper.{Sleeper}
-use Rattle.history.specs.declared.base.LinePlace.{LinePlace}
-use Rattle.history.specs.declared.entry.Mode.TheVariants.{X, S}
-use Rattle.history.specs.declared.header.Header.{Header}
-use Rattle.history.specs.declared.header.Object.{Object}
-use Rattle.history.specs.declared.header.Object.TheVariants.{Lock, ReadWrite, Semaphore, Latch}
-use Rattle.history.specs.Base.{Base, based, nothing, opening_base, seat_of, sleepers_of}
-use Rattle.history.specs.Counts.{free, total}
-use Rattle.history.specs.GoodBase.{AreCounted, AreHeld, IsGood, SleepsWell, StandsWell}
-use Rattle.history.specs.Header.{IsInRange}
-use Rattle.history.specs.Legal.{calls}
-use Rattle.history.specs.Object.{created, is_latch, is_lock, is_semaphore, opening_count}
-use Rattle.history.specs.Ownership.{IsOwned, most_exclusive, most_shared}
-use Rattle.history.specs.Steps.{at_least_none}
-use Rattle.history.specs.Waiting.{seats_of, times}
+use Rattle.history_text.specs.Below.{MOST_AMOUNT, MOST_SEATS, Arrival, SeatBase, Sleeper, LinePlace, X, S, Header, Object, Lock, ReadWrite, Semaphore, Latch, Base, based, nothing, opening_base, seat_of, sleepers_of, free, total, AreCounted, AreHeld, IsGood, SleepsWell, StandsWell, IsInRange, calls, created, is_latch, is_lock, is_semaphore, opening_count, IsOwned, most_exclusive, most_shared, at_least_none, seats_of, times}
 use Rattle.history.proofs.GoodBases.{waits_once}
 use Rattle.history.proofs.OneOwner.{total_less}
 use Rattle.history.proofs.Sums.{total_change, total_nothing, total_same}
 use Rattle.history.proofs.Times.{once_same, times-append, total_part}
-use Rattle.history_text.specs.declared.base_line.BaseLine.{BaseLine}
-use Rattle.history_text.specs.declared.base_line.BaseLine.TheVariants.{Stands, Sleeps}
+use Rattle.history_text.specs.Prelude.{BaseLine, Stands, Sleeps, Follow, base_by, sums_of, IsToldBase, base_lines, first_line, AllSeated, IsFree, IsSeated, MayFollow, MayHold, BaseSums, no_sums}
 use Rattle.history_text.specs.inner.BaseFollowing.{IsCountedFor}
-use Rattle.history_text.specs.BaseTelling.{Follow, base_by, sums_of}
-use Rattle.history_text.specs.ToldBases.{IsToldBase}
-use Rattle.history_text.specs.BaseLines.{base_lines, first_line}
-use Rattle.history_text.specs.BaseRules.{AllSeated, IsFree, IsSeated, MayFollow, MayHold, BaseSums, no_sums}
 use Rattle.history_text.proofs.Lists.{each_at}
 use Rattle.history_text.proofs.BaseTold.{SoFar, gave_moved, pos_kept, stands_moved, waits_of}
 use Rattle.history_text.proofs.BaseWhole.{follow_front}

@@ -1,20 +1,9 @@
 -- The lines of a base are read of a text, one after another.
 use Rattle.std.proofs.Common.{◌≡◌, ℕ, ◌≤◌, true, List, [], ◌∷◌, ◌++◌, length, map, refl, sym, ap, subst, ◌∙◌, arith}
 use Rattle.std.proofs.lemmas.List.{map-append}
-use Rattle.history.specs.Base.{Base}
-use Rattle.history.specs.declared.limits.TheConstants.{MOST_FOLDED}
-use Rattle.history.specs.Text.{ended}
-use Rattle.line_text.specs.Reading.{Begins}
+use Rattle.history_text.specs.Below.{Base, MOST_FOLDED, ended, Begins}
 use Rattle.line_text.proofs.Growing.{broken, one_more}
-use Rattle.history_text.specs.declared.base_line.BaseLine.{BaseLine}
-use Rattle.history_text.specs.declared.place.Head.{Head}
-use Rattle.history_text.specs.declared.place.Place.{Place}
-use Rattle.history_text.specs.BaseLines.{base_line, base_lines}
-use Rattle.history_text.specs.BaseText.{calls_sum}
-use Rattle.history_text.specs.HistoryText.{history_form}
-use Rattle.history_text.specs.NextLine.{AreEntriesRead, LacksBaseLine}
-use Rattle.history_text.specs.TextLines.{Based, Line}
-use Rattle.history_text.specs.ToldBases.{GoodBeginsSo, IsToldBase}
+use Rattle.history_text.specs.Prelude.{BaseLine, Head, Place, base_line, base_lines, calls_sum, history_form, AreEntriesRead, LacksBaseLine, Based, Line, GoodBeginsSo, IsToldBase}
 use Rattle.history_text.proofs.HeadWritten.{sum_few}
 use Rattle.history_text.proofs.HistoryItems.{alone_lines, base_alone, based_item, calls_on, told_some}
 

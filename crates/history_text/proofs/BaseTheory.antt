@@ -1,23 +1,11 @@
 -- The lines of a base and good bases.
 use Rattle.std.proofs.Common.{◌≡◌, ◌≤◌, List, [], ◌∷◌, ap, ◌∙◌, sym, subst, refl, arith}
-use Rattle.history.specs.declared.header.Header.{Header}
-use Rattle.history.specs.Base.{Base, opening_base, seat_of}
-use Rattle.history.specs.declared.header.Object.{Object}
-use Rattle.history.specs.declared.header.Object.TheVariants.{Lock, ReadWrite, Semaphore, Latch}
-use Rattle.history.specs.GoodBase.{IsGood}
-use Rattle.history.specs.Header.{IsInRange}
-use Rattle.history_text.specs.declared.base_line.BaseLine.{BaseLine}
-use Rattle.history_text.specs.declared.base_line.BaseLine.TheVariants.{Folded, Released, CountedDown}
-use Rattle.history_text.specs.declared.base_line.BaseLine.TheVariants.{Seat, Stands, Sleeps}
-use Rattle.history_text.specs.BaseFollowing.{AllRead, after_told, with_lines}
+use Rattle.history_text.specs.Below.{Header, Base, opening_base, seat_of, Object, Lock, ReadWrite, Semaphore, Latch, IsGood, IsInRange}
+use Rattle.history_text.specs.Prelude.{BaseLine, Folded, Released, CountedDown, Seat, Stands, Sleeps, AllRead, after_told, with_lines, base_lines, first_line, AllSeated, MayFollow, BaseSums, with_sums, no_sums, with_line, IsToldBase, base_by}
 use Rattle.history_text.specs.inner.BaseFollowing.{AllFollow, HasShape}
-use Rattle.history_text.specs.BaseLines.{base_lines, first_line}
-use Rattle.history_text.specs.BaseRules.{AllSeated, MayFollow, BaseSums, with_sums, no_sums, with_line}
-use Rattle.history_text.specs.ToldBases.{IsToldBase}
 use Rattle.history_text.proofs.BaseRetold.{good_told}
 use Rattle.history_text.proofs.BaseTold.{gave_moved, header_after, header_kept, stands_moved, whole_told}
 use Rattle.history_text.proofs.BaseWalk.{IsTold, base_told}
-use Rattle.history_text.specs.BaseTelling.{base_by}
 
 -- a good base of some entries, with a header in range
 pub record IsGoodOf (b : Base) : Type 0 where

@@ -1,53 +1,20 @@
 -- What lines of a base that follow one another tell so far: what holds of the numbers and of the base.
-use Rattle.std.proofs.Common.{◌≡◌, ◌≢◌, inl, inr, ⊎_elim, ℕ, zero, suc, ◌+◌, ◌<◌}
-use Rattle.std.proofs.Common.{◌≤◌, Bool, true, false, cond, eqb, ltb, List, [], ◌∷◌, ◌++◌}
-use Rattle.std.proofs.Common.{length, map, get_or, take, refl, ap, ◌∙◌, sym, subst, arith}
+use Rattle.std.proofs.Common.{◌≡◌, ◌≢◌, inl, inr, ⊎_elim, ℕ, zero, suc, ◌+◌, ◌<◌, ◌≤◌, Bool, true, false, cond, eqb, ltb, List, [], ◌∷◌, ◌++◌, length, map, get_or, take, refl, ap, ◌∙◌, sym, subst, arith, ℤ, pos, neg_ℤ, ◌⊎◌, ◌≤ℤ◌, ◌+ℤ◌, ◌-ℤ◌, ltb-true, append-nil, append_assoc, get_or-set_same, get_or-set_other, length-take-le, length-set, take_all}
 use Rattle.std.specs.List.{AllByRecursion}
-use Rattle.std.specs.Prelude.{ℤ, pos, neg_ℤ, ◌⊎◌, ◌≤ℤ◌, ◌+ℤ◌, ◌-ℤ◌}
 use lib.IntN.{negsuc}
 use Rattle.std.proofs.Math.ListN.{set}
-use Rattle.std.proofs.lemmas.Bool.{cases_eq, cases_lt, ltb-true}
+use Rattle.std.proofs.lemmas.Bool.{cases_eq, cases_lt}
 use Rattle.std.proofs.lemmas.Int.{ints}
-use Rattle.std.proofs.lemmas.List.{get_or_past, append-nil, append_assoc, map-append}
-use Rattle.std.proofs.lemmas.List.{get_or-set_same, get_or-set_other, length-map, length-take-le}
-use Rattle.std.proofs.lemmas.List.{length-set, length-replicate, take_all, take_more_set}
-use Rattle.history.specs.declared.arrival.Arrival.{Arrival}
-use Rattle.history.specs.declared.base.SeatBase.{SeatBase}
-use Rattle.history.specs.declared.base.Sleeper.{Sleeper}
-use Rattle.history.specs.declared.base.LinePlace.{LinePlace}
-use Rattle.history.specs.declared.entry.Mode.{Mode}
-use Rattle.history.specs.declared.entry.Mode.TheVariants.{X, S}
-use Rattle.history.specs.declared.header.Header.{Header}
-use Rattle.history.specs.declared.header.Object.{Object}
-use Rattle.history.specs.declared.header.Object.TheVariants.{Lock, ReadWrite, Semaphore, Latch}
-use Rattle.history.specs.Base.{Base, based, each_below, nothing, opening_base, seat_of, sleepers_of}
-use Rattle.history.specs.Counts.{free, held, total}
-use Rattle.history.specs.declared.limits.TheConstants.{MOST_AMOUNT, MOST_BASE_PERMITS, MOST_FOLDED, MOST_SEATS}
-use Rattle.history.specs.GoodBase.{AreCounted, AreHeld, GaveUp, IsGood, SleepsWell, StandsWell}
-use Rattle.history.specs.Header.{IsInRange}
-use Rattle.history.specs.Object.{created, is_latch, is_lock, is_semaphore, opening_count}
-use Rattle.history.specs.Ownership.{IsOwned, most_exclusive, most_shared}
-use Rattle.history.specs.Line.{line}
-use Rattle.history.specs.Steps.{at_least_none}
-use Rattle.history.specs.Waiting.{IsOneWait, seats_of, times}
+use Rattle.std.proofs.lemmas.List.{get_or_past, map-append, length-map, length-replicate, take_more_set}
+use Rattle.history_text.specs.Below.{Arrival, SeatBase, Sleeper, LinePlace, Mode, X, S, Header, Object, Lock, ReadWrite, Semaphore, Latch, Base, based, each_below, nothing, opening_base, seat_of, sleepers_of, free, held, total, MOST_AMOUNT, MOST_BASE_PERMITS, MOST_FOLDED, MOST_SEATS, AreCounted, AreHeld, GaveUp, IsGood, SleepsWell, StandsWell, IsInRange, created, is_latch, is_lock, is_semaphore, opening_count, IsOwned, most_exclusive, most_shared, line, at_least_none, IsOneWait, seats_of, times}
 use Rattle.history.proofs.Folding.{get_or-each, length-each}
 use Rattle.history.proofs.LineLemmas.{line_at_first}
 use Rattle.history.proofs.OpeningBase.{no_seat, nothing_summed, opening_good}
 use Rattle.history.proofs.SleepLemmas.{times-waiting}
 use Rattle.history.proofs.Sums.{total_nothing, total_same}
 use Rattle.history.proofs.Times.{each-append, once_other, once_same, one_if, pigeonhole_less, total_part}
-use Rattle.history_text.specs.declared.base_line.BaseLine.{BaseLine}
-use Rattle.history_text.specs.declared.base_line.BaseLine.TheVariants.{Folded, Released, CountedDown}
-use Rattle.history_text.specs.declared.base_line.BaseLine.TheVariants.{Seat, Stands, Sleeps}
-use Rattle.history_text.specs.BaseFollowing.{AllRead, with_lines, after_told}
-use Rattle.history_text.specs.BaseTelling.{Follow, base_by, sums_of}
-use Rattle.history_text.specs.ToldBases.{IsToldBase}
-use Rattle.history_text.specs.BaseLines.{base_lines, first_line, seat_lines, sleeper_lines}
-use Rattle.history_text.specs.BaseUnderWay.{lines_so_far}
-use Rattle.history_text.specs.BaseRules.{AllSeated, IsFirst, IsFree, IsSeated, MayFollow}
-use Rattle.history_text.specs.BaseRules.{MayHold, BaseSums, with_sums, no_sums, with_line}
-use Rattle.history_text.proofs.BasePlaces.{each_then, first_line_same, no_lines, seat_lines_push}
-use Rattle.history_text.proofs.BasePlaces.{sleeper_lines_push, times_stands, total_put, total_sleeps}
+use Rattle.history_text.specs.Prelude.{BaseLine, Folded, Released, CountedDown, Seat, Stands, Sleeps, AllRead, with_lines, after_told, Follow, base_by, sums_of, IsToldBase, base_lines, first_line, seat_lines, sleeper_lines, lines_so_far, AllSeated, IsFirst, IsFree, IsSeated, MayFollow, MayHold, BaseSums, with_sums, no_sums, with_line}
+use Rattle.history_text.proofs.BasePlaces.{each_then, first_line_same, no_lines, seat_lines_push, sleeper_lines_push, times_stands, total_put, total_sleeps}
 
 -- how often a seat waits
 abbrev pub waits_of : Base → ℕ → ℕ

@@ -1,32 +1,13 @@
 -- The lines of a base, told one by one: what the base so far has of the whole one.
-use Rattle.std.proofs.Common.{◌≡◌, ⊎_elim, ℕ, zero, suc, ◌+◌, ◌<◌, ◌≤◌, true, false, eqb, List, []}
-use Rattle.std.proofs.Common.{◌∷◌, ◌++◌, length, map, get_or, drop, refl, ap, ◌∙◌, sym, subst, arith}
+use Rattle.std.proofs.Common.{◌≡◌, ⊎_elim, ℕ, zero, suc, ◌+◌, ◌<◌, ◌≤◌, true, false, eqb, List, [], ◌∷◌, ◌++◌, length, map, get_or, drop, refl, ap, ◌∙◌, sym, subst, arith, append-nil, append_assoc, ext_get_or, get_or-set_same, get_or-set_other}
 use Rattle.std.proofs.Math.ListN.{set}
 use Rattle.std.proofs.lemmas.Bool.{cases_eq}
-use Rattle.std.proofs.lemmas.List.{append-nil, append_assoc, drop_all, drop_more, ext_get_or}
-use Rattle.std.proofs.lemmas.List.{get_or-replicate, get_or-set_same, get_or-set_other}
-use Rattle.history.specs.declared.limits.TheConstants.{MOST_SEATS}
-use Rattle.history.specs.declared.base.Sleeper.{Sleeper}
-use Rattle.history.specs.declared.base.LinePlace.{LinePlace}
-use Rattle.history.specs.declared.header.Header.{Header}
-use Rattle.history.specs.declared.header.Object.{Object}
-use Rattle.history.specs.declared.header.Object.TheVariants.{Lock, ReadWrite, Semaphore, Latch}
-use Rattle.history.specs.Base.{Base, based, nothing, opening_base, seat_of, sleepers_of}
-use Rattle.history.specs.Counts.{total}
-use Rattle.history.specs.GoodBase.{SleepsWell, StandsWell}
-use Rattle.history.specs.Header.{IsInRange}
-use Rattle.history.specs.Legal.{calls}
-use Rattle.history.specs.Object.{opening_count}
+use Rattle.std.proofs.lemmas.List.{drop_all, drop_more, get_or-replicate}
+use Rattle.history_text.specs.Below.{MOST_SEATS, Sleeper, LinePlace, Header, Object, Lock, ReadWrite, Semaphore, Latch, Base, based, nothing, opening_base, seat_of, sleepers_of, total, SleepsWell, StandsWell, IsInRange, calls, opening_count}
 use Rattle.history.proofs.Times.{once_same, one_if}
-use Rattle.history_text.specs.declared.base_line.BaseLine.{BaseLine}
-use Rattle.history_text.specs.declared.base_line.BaseLine.TheVariants.{Seat, Stands, Sleeps}
-use Rattle.history_text.specs.BaseFollowing.{AllRead, with_lines, after_told}
+use Rattle.history_text.specs.Prelude.{BaseLine, Seat, Stands, Sleeps, AllRead, with_lines, after_told, Follow, base_by, sums_of, base_lines, first_line, seat_lines, sleeper_lines, AllSeated, IsFree, MayFollow, BaseSums, with_sums, no_sums, with_line}
 use Rattle.history_text.specs.inner.BaseFollowing.{IsCountedFor}
-use Rattle.history_text.specs.BaseTelling.{Follow, base_by, sums_of}
-use Rattle.history_text.specs.BaseLines.{base_lines, first_line, seat_lines, sleeper_lines}
-use Rattle.history_text.specs.BaseRules.{AllSeated, IsFree, MayFollow, BaseSums, with_sums, no_sums, with_line}
-use Rattle.history_text.proofs.BaseTold.{SoFar, all_told, begun, goes_on, no_sleepers}
-use Rattle.history_text.proofs.BaseTold.{on_condition, sleeps_more, stands_more, waits_of}
+use Rattle.history_text.proofs.BaseTold.{SoFar, all_told, begun, goes_on, no_sleepers, on_condition, sleeps_more, stands_more, waits_of}
 use Rattle.history_text.proofs.BaseWhole.{base-append, follow-append, told-append}
 
 -- what holds behind one part and another holds behind both

@@ -1,30 +1,11 @@
 -- Whatever lines of a base follow one another, more can follow until all seats are told: so some good base
 -- begins with them.
-use Rattle.std.proofs.Common.{◌≡◌, inl, inr, ⊎_elim, ℕ, zero, suc, ◌+◌, ◌-◌, ◌<◌}
-use Rattle.std.proofs.Common.{◌≤◌, List, [], ◌∷◌, ◌++◌, refl, ap, sym, subst, arith}
-use Rattle.std.specs.Prelude.{neg_ℤ}
+use Rattle.std.proofs.Common.{◌≡◌, inl, inr, ⊎_elim, ℕ, zero, suc, ◌+◌, ◌-◌, ◌<◌, ◌≤◌, List, [], ◌∷◌, ◌++◌, refl, ap, sym, subst, arith, neg_ℤ}
 use Rattle.std.proofs.lemmas.Bool.{cases_lt}
-use Rattle.history.specs.declared.limits.TheConstants.{MOST_AMOUNT}
-use Rattle.history.specs.declared.base.SeatBase.{SeatBase}
-use Rattle.history.specs.declared.header.Header.{Header}
-use Rattle.history.specs.declared.header.Object.{Object}
-use Rattle.history.specs.declared.header.Object.TheVariants.{Lock, ReadWrite, Semaphore, Latch}
-use Rattle.history.specs.Base.{Base, opening_base}
-use Rattle.history.specs.GoodBase.{AreCounted}
-use Rattle.history.specs.Header.{IsInRange, IsOpening}
-use Rattle.history.specs.Object.{is_latch, is_lock, is_semaphore}
-use Rattle.history.specs.Ownership.{most_shared}
-use Rattle.history.specs.Steps.{at_least_none}
-use Rattle.history_text.specs.declared.base_line.BaseLine.{BaseLine}
-use Rattle.history_text.specs.declared.base_line.BaseLine.TheVariants.{Folded, Released, CountedDown, Seat}
-use Rattle.history_text.specs.BaseFollowing.{AllRead, with_lines, after_told}
-use Rattle.history_text.specs.BaseTelling.{Follow, base_by, sums_of}
-use Rattle.history_text.specs.ToldBases.{IsToldBase}
-use Rattle.history_text.specs.BaseLines.{base_lines}
-use Rattle.history_text.specs.BaseRules.{AllSeated, MayFollow, MayHold, BaseSums, with_sums, no_sums, with_line}
+use Rattle.history_text.specs.Below.{MOST_AMOUNT, SeatBase, Header, Object, Lock, ReadWrite, Semaphore, Latch, Base, opening_base, AreCounted, IsInRange, IsOpening, is_latch, is_lock, is_semaphore, most_shared, at_least_none}
+use Rattle.history_text.specs.Prelude.{BaseLine, Folded, Released, CountedDown, Seat, AllRead, with_lines, after_told, Follow, base_by, sums_of, IsToldBase, base_lines, AllSeated, MayFollow, MayHold, BaseSums, with_sums, no_sums, with_line}
 use Rattle.history_text.proofs.Amounts.{free_few}
-use Rattle.history_text.proofs.BaseTold.{HeldSoFar, SoFar, Summed, goes_on, header_after}
-use Rattle.history_text.proofs.BaseTold.{header_kept, told_so_far, whole_told}
+use Rattle.history_text.proofs.BaseTold.{HeldSoFar, SoFar, Summed, goes_on, header_after, header_kept, told_so_far, whole_told}
 
 -- lines behind lines
 pub told-append : (t : BaseSums) (xs ys : List BaseLine) →

@@ -1,15 +1,9 @@
 -- Lines of a base, written or followed one after another.
-use Rattle.std.proofs.Common.{◌≡◌, ℕ, suc, ◌+◌, ◌<◌, List, [], ◌∷◌, ◌++◌, length, map, get_or}
-use Rattle.std.proofs.Common.{drop, take, min, refl, sym, ap, ◌∙◌, ◌≤◌, arith, append_assoc, append-nil}
-use Rattle.std.proofs.lemmas.List.{drop-map, length-take, take-append-le}
+use Rattle.std.proofs.Common.{◌≡◌, ℕ, suc, ◌+◌, ◌<◌, List, [], ◌∷◌, ◌++◌, length, map, get_or, drop, take, min, refl, sym, ap, ◌∙◌, ◌≤◌, arith, append_assoc, append-nil, length-take}
+use Rattle.std.proofs.lemmas.List.{drop-map, take-append-le}
 use Rattle.std.proofs.Math.Seq.{drop-cons}
-use Rattle.history.specs.declared.base.SeatBase.{SeatBase}
-use Rattle.history.specs.declared.base.Sleeper.{Sleeper}
-use Rattle.history.specs.Text.{ended}
-use Rattle.history_text.specs.declared.base_line.BaseLine.{BaseLine}
-use Rattle.history_text.specs.declared.base_line.BaseLine.TheVariants.{Seat, Sleeps}
-use Rattle.history_text.specs.BaseLines.{base_line, seat_lines, sleeper_lines}
-use Rattle.history_text.specs.Pieces.{lines_text}
+use Rattle.history_text.specs.Below.{SeatBase, Sleeper, ended}
+use Rattle.history_text.specs.Prelude.{BaseLine, Seat, Sleeps, base_line, seat_lines, sleeper_lines, lines_text}
 
 -- what was there first stays there if more is written
 pub front_kept : (old out new xs : List ℕ) → take (length old) out ≡ old → new ≡ out ++ xs →

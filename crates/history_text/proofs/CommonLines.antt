@@ -1,14 +1,9 @@
 -- The commonest lines of entries begin a text.
-use Rattle.std.proofs.Common.{◌≡◌, ℕ, List, ◌∷◌, ◌++◌, append_assoc, refl, ap, ◌∙◌, arith}
-use Rattle.std.specs.Prelude.{codes}
-use Rattle.history.specs.declared.entry.End.{End}
+use Rattle.std.proofs.Common.{◌≡◌, ℕ, List, ◌∷◌, ◌++◌, append_assoc, refl, ap, ◌∙◌, arith, codes}
+use Rattle.history_text.specs.Below.{End, Mode, Word, HasWords, IsWritten, ended}
 use Rattle.history.specs.declared.entry.End.TheVariants as end
-use Rattle.history.specs.declared.entry.Mode.{Mode}
-use Rattle.history.specs.declared.entry.Word.{Word}
 use Rattle.history.specs.declared.entry.Word.TheVariants as word
-use Rattle.history.specs.EntryWords.{HasWords, IsWritten}
 use Rattle.history.specs.inner.EntryWords.{IsAsked}
-use Rattle.history.specs.Text.{ended}
 use Rattle.line_text.specs.Once.{AsksOnce}
 use Rattle.line_text.proofs.AskingOnce.{asked_behind}
 use Rattle.history_text.specs.CommonEntry.{once}

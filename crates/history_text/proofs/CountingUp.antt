@@ -1,9 +1,7 @@
 -- A number whose last digit is written anew.
-use Rattle.std.proofs.Common.{◌≡◌, ℕ, ◌+◌, ◌-◌, ◌<◌, ◌≤◌, ◌/◌, ◌%◌, ◌^◌, Bool, true, false, ltb, List, [], ◌∷◌, ◌++◌, length, get_or, set, take, decimal, append_assoc, refl, sym, ap, ◌∙◌, arith}
+use Rattle.std.proofs.Common.{◌≡◌, ℕ, ◌+◌, ◌-◌, ◌<◌, ◌≤◌, ◌/◌, ◌%◌, ◌^◌, Bool, true, false, ltb, List, [], ◌∷◌, ◌++◌, length, get_or, set, take, decimal, append_assoc, refl, sym, ap, ◌∙◌, arith, ltb-false, ltb-true, get_or-take, length-append, length-take-le}
 use Rattle.std.proofs.Math.Seq.{set-append_seam, take-set-lt}
-use Rattle.std.proofs.lemmas.Bool.{ltb-false, ltb-true}
 use Rattle.std.proofs.lemmas.Fmt.{decimal_digit, decimal_step}
-use Rattle.std.proofs.lemmas.List.{get_or-take, length-append, length-take-le}
 
 -- the digits before the last, which stay as long as it is below 9
 record Ends (n : ℕ) : Type 0 where

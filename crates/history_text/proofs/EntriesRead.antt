@@ -1,20 +1,8 @@
 -- Entries are read behind a base, one after another.
-use Rattle.std.proofs.Common.{◌≡◌, ℕ, ◌+◌, ◌<◌, List, [], ◌∷◌, ◌++◌, length}
-use Rattle.std.proofs.Common.{Ok, None, Some, refl, sym, ap, subst, ◌∙◌, arith}
-use Rattle.std.proofs.lemmas.List.{length-append}
-use Rattle.history.specs.declared.entry.Entry.{Entry}
-use Rattle.history.specs.declared.header.Header.{Header}
-use Rattle.history.specs.Base.{Base}
-use Rattle.history.specs.GoodBase.{IsBaseOf}
-use Rattle.history.specs.Text.{ended}
-use Rattle.line_text.specs.Reading.{Begins, IsText}
+use Rattle.std.proofs.Common.{◌≡◌, ℕ, ◌+◌, ◌<◌, List, [], ◌∷◌, ◌++◌, length, Ok, None, Some, refl, sym, ap, subst, ◌∙◌, arith, length-append}
+use Rattle.history_text.specs.Below.{Entry, Header, Base, IsBaseOf, ended, Begins, IsText}
 use Rattle.line_text.proofs.Growing.{broken, one_more}
-use Rattle.history_text.specs.declared.place.Head.{Head}
-use Rattle.history_text.specs.declared.place.Place.{Place}
-use Rattle.history_text.specs.EntryLines.{entry_line}
-use Rattle.history_text.specs.HistoryText.{IsHistoryText, history_form}
-use Rattle.history_text.specs.NextLine.{AreEntriesRead, IsEntryBehind, behind}
-use Rattle.history_text.specs.TextLines.{Entered, Line, calls_told, lines_on, sum_of}
+use Rattle.history_text.specs.Prelude.{Head, Place, entry_line, IsHistoryText, history_form, AreEntriesRead, IsEntryBehind, behind, Entered, Line, calls_told, lines_on, sum_of}
 use Rattle.history_text.proofs.HistoryItems.{ends_on, entry_item, on_push, one_entry, sum-append}
 
 module _ (text : List ℕ) (h : Head) (b : Base) (es : List Entry) (p : Place) (rest : List ℕ)

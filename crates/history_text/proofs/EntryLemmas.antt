@@ -1,24 +1,13 @@
 -- What the line of an entry spells is read again.
-use Rattle.std.proofs.Common.{◌≡◌, ℕ, ◌-◌, ◌^◌, ◌<◌, List, [], ◌∷◌, ◌++◌, Some}
-use Rattle.std.proofs.Common.{refl, sym, ap, ◌∙◌, arith, decimal, append_assoc}
-use Rattle.std.specs.Prelude.{codes}
-use Rattle.std.proofs.lemmas.Bool.{le-leb}
+use Rattle.std.proofs.Common.{◌≡◌, ℕ, ◌-◌, ◌^◌, ◌<◌, List, [], ◌∷◌, ◌++◌, Some, refl, sym, ap, ◌∙◌, arith, decimal, append_assoc, codes, le-leb}
 use Rattle.std.proofs.lemmas.List.Splits.{join_with_byte-slice_split}
-use Rattle.history.specs.declared.entry.Entry.{Entry}
-use Rattle.history.specs.declared.entry.End.{End}
-use Rattle.history.specs.declared.entry.Mode.{Mode}
-use Rattle.history.specs.declared.entry.Word.{Word}
+use Rattle.history_text.specs.Below.{Entry, End, Mode, Word, Header, entry_words, spelt, IsInRange, line_of, words_of}
 use Rattle.history.specs.declared.entry.Word.TheVariants as word
-use Rattle.history.specs.declared.header.Header.{Header}
-use Rattle.history.specs.EntryWords.{entry_words, spelt}
-use Rattle.history.specs.Header.{IsInRange}
-use Rattle.history.specs.Text.{line_of, words_of}
 use Rattle.history.proofs.EntryAgain.{plain_entry, words_again_read}
 use Rattle.history.proofs.Numbers.{number_again}
 use Rattle.history.proofs.Plain.{ArePlain, words_again, decimal_plain}
 use Rattle.history.proofs.Readers.{is_line_of, same_value}
-use Rattle.history_text.specs.EntryLines.{HasLine, entry_line, counts_line}
-use Rattle.history_text.specs.EntryReading.{counts_at, line_at}
+use Rattle.history_text.specs.Prelude.{HasLine, entry_line, counts_line, counts_at, line_at}
 
 -- ---- the words of a line
 

@@ -1,29 +1,10 @@
 -- The first line and the lines of a base are written.
-use Rattle.std.proofs.Common.{◌≡◌, ⊎_elim, ℕ, zero, suc, ◌+◌, ◌≤◌, Bool, List, [], ◌∷◌, ◌++◌, length}
-use Rattle.std.proofs.Common.{get_or, refl, sym, ap, ◌∙◌, arith, append_assoc, append-nil, codes}
+use Rattle.std.proofs.Common.{◌≡◌, ⊎_elim, ℕ, zero, suc, ◌+◌, ◌≤◌, Bool, List, [], ◌∷◌, ◌++◌, length, get_or, refl, sym, ap, ◌∙◌, arith, append_assoc, append-nil, codes}
 use Rattle.std.specs.List.{AllByRecursion}
-use Rattle.history.specs.declared.base.SeatBase.{SeatBase}
-use Rattle.history.specs.declared.header.Header.{Header}
-use Rattle.history.specs.Base.{Base, based, each_below, nothing, opening_base, seat_of}
-use Rattle.history.specs.Counts.{total}
-use Rattle.history.specs.declared.limits.TheConstants.{MOST_FOLDED}
-use Rattle.history.specs.GoodBase.{IsBaseOf, IsGood}
-use Rattle.history.specs.Header.{IsInRange}
-use Rattle.history.specs.Legal.{calls}
-use Rattle.history.specs.Spelling.{part_of}
-use Rattle.history.specs.Start.{Start}
+use Rattle.history_text.specs.Below.{SeatBase, Header, Base, based, each_below, nothing, opening_base, seat_of, total, MOST_FOLDED, IsBaseOf, IsGood, IsInRange, calls, part_of, Start, ended}
 use Rattle.history.proofs.OpeningBase.{based_opening}
-use Rattle.history.specs.Text.{ended}
-use Rattle.history_text.specs.declared.base_line.BaseLine.{BaseLine}
-use Rattle.history_text.specs.declared.base_line.BaseLine.TheVariants.{Folded, Released, CountedDown}
-use Rattle.history_text.specs.declared.base_line.BaseLine.TheVariants.{Seat, Stands, Sleeps}
+use Rattle.history_text.specs.Prelude.{BaseLine, Folded, Released, CountedDown, Seat, Stands, Sleeps, IsBaseLine, base_lines, MayFollow, BaseSums, with_sums, no_sums, IsHeadPut, calls_sum, lines_text, head_line, head_of, lines_told, name_of}
 use Rattle.history_text.specs.inner.BaseFollowing.{AllFollow}
-use Rattle.history_text.specs.BaseLineLimits.{IsBaseLine}
-use Rattle.history_text.specs.BaseLines.{base_lines}
-use Rattle.history_text.specs.BaseRules.{MayFollow, BaseSums, with_sums, no_sums}
-use Rattle.history_text.specs.BaseText.{IsHeadPut, calls_sum}
-use Rattle.history_text.specs.Pieces.{lines_text}
-use Rattle.history_text.specs.HistoryLines.{head_line, head_of, lines_told, name_of}
 use Rattle.history_text.proofs.BaseLineLemmas.{may_follow_spelt}
 use Rattle.history_text.proofs.BaseTheory.{IsGoodOf, good_follows}
 use Rattle.history_text.proofs.HistoryItems.{some_entries, told_some}

@@ -1,18 +1,8 @@
 -- The first line of a text is written where no entry was folded.
-use Rattle.std.proofs.Common.{◌≡◌, ℕ, Bool, false, ltb, List, ◌++◌, Option, Some, None}
-use Rattle.std.proofs.Common.{refl, sym, subst, ⊎_elim, ap, ◌∙◌, arith, append-nil, codes}
-use Rattle.history.specs.declared.header.Header.{Header}
-use Rattle.history.specs.Base.{Base}
-use Rattle.history.specs.Entries.{IsBasedWell, or_opening}
-use Rattle.history.specs.GoodBase.{IsBaseOf, IsGood}
-use Rattle.history.specs.Header.{IsInRange}
-use Rattle.history.specs.Spelling.{part_of}
-use Rattle.history.specs.Text.{ended}
+use Rattle.std.proofs.Common.{◌≡◌, ℕ, Bool, false, ltb, List, ◌++◌, Option, Some, None, refl, sym, subst, ⊎_elim, ap, ◌∙◌, arith, append-nil, codes}
+use Rattle.history_text.specs.Below.{Header, Base, IsBasedWell, or_opening, IsBaseOf, IsGood, IsInRange, part_of, ended}
 use Rattle.history.proofs.OpeningBase.{opening_good}
-use Rattle.history_text.specs.declared.base_line.BaseLine.{BaseLine}
-use Rattle.history_text.specs.BaseText.{IsHeadPut}
-use Rattle.history_text.specs.Pieces.{lines_text}
-use Rattle.history_text.specs.HistoryLines.{head_line, head_of, name_of}
+use Rattle.history_text.specs.Prelude.{BaseLine, IsHeadPut, lines_text, head_line, head_of, name_of}
 use Rattle.history_text.proofs.HeadWritten.{opening_written, sum_few}
 use Rattle.history_text.proofs.HistoryItems.{told_none}
 

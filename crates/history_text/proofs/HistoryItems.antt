@@ -1,33 +1,9 @@
 -- The lines of a history, and which lines may come next.
-use Rattle.std.proofs.Common.{◌≡◌, ◌⊎◌, ⊎_elim, inl, inr, ℕ, zero, suc, ◌+◌, ◌<◌, ◌≤◌}
-use Rattle.std.proofs.Common.{Bool, true, ltb, List, [], ◌∷◌, ◌++◌, length, map, refl}
-use Rattle.std.proofs.Common.{sym, ap, subst, ◌∙◌, arith, append_assoc, append-nil}
+use Rattle.std.proofs.Common.{◌≡◌, ◌⊎◌, ⊎_elim, inl, inr, ℕ, zero, suc, ◌+◌, ◌<◌, ◌≤◌, Bool, true, ltb, List, [], ◌∷◌, ◌++◌, length, map, refl, sym, ap, subst, ◌∙◌, arith, append_assoc, append-nil, lt-ltb, ltb-true, length-append}
 use Rattle.std.specs.List.{AllByRecursion}
-use Rattle.std.proofs.lemmas.Bool.{lt-ltb, ltb-true}
-use Rattle.std.proofs.lemmas.List.{length-append, length-map}
-use Rattle.history.specs.declared.base.SeatBase.{SeatBase}
-use Rattle.history.specs.declared.base.Sleeper.{Sleeper}
-use Rattle.history.specs.declared.base.LinePlace.{LinePlace}
-use Rattle.history.specs.declared.entry.Entry.{Entry}
-use Rattle.history.specs.declared.header.Header.{Header}
-use Rattle.history.specs.declared.header.Object.{Object}
-use Rattle.history.specs.declared.header.Object.TheVariants.{Lock, ReadWrite, Semaphore, Latch}
-use Rattle.history.specs.Base.{Base, opening_base}
-use Rattle.history.specs.Entries.{ended_calls}
-use Rattle.history.specs.declared.limits.TheConstants.{MOST_FOLDED}
-use Rattle.history.specs.GoodBase.{IsBaseOf, IsGood}
-use Rattle.line_text.specs.Form.{AreItems}
-use Rattle.history_text.specs.declared.base_line.BaseLine.{BaseLine}
-use Rattle.history_text.specs.declared.base_line.BaseLine.TheVariants.{Stands, Sleeps}
-use Rattle.history_text.specs.declared.place.Head.{Head}
-use Rattle.history_text.specs.BaseLines.{base_lines, first_line, seat_lines, sleeper_lines}
-use Rattle.history_text.specs.BaseText.{calls_sum}
-use Rattle.history_text.specs.EntryLines.{HasLine, counts_line}
-use Rattle.history_text.specs.HistoryLines.{head_of, lines_told}
-use Rattle.history_text.specs.TextLines.{Based, Entered, IsHistoryOf, Line, SomeBeginsSo, calls_told}
-use Rattle.history_text.specs.TextLines.{end_of, entries_told, lines_on, numbered, sum_of}
-use Rattle.history_text.specs.HistoryText.{history_form}
-use Rattle.history_text.specs.ToldBases.{GoodBeginsSo, GoodHas, IsToldBase}
+use Rattle.std.proofs.lemmas.List.{length-map}
+use Rattle.history_text.specs.Below.{SeatBase, Sleeper, LinePlace, Entry, Header, Object, Lock, ReadWrite, Semaphore, Latch, Base, opening_base, ended_calls, MOST_FOLDED, IsBaseOf, IsGood, AreItems}
+use Rattle.history_text.specs.Prelude.{BaseLine, Stands, Sleeps, Head, base_lines, first_line, seat_lines, sleeper_lines, calls_sum, HasLine, counts_line, head_of, lines_told, Based, Entered, IsHistoryOf, Line, SomeBeginsSo, calls_told, end_of, entries_told, lines_on, numbered, sum_of, history_form, GoodBeginsSo, GoodHas, IsToldBase}
 use Rattle.history_text.proofs.Lists.{each_at, each_front}
 
 -- ---- one line more

@@ -1,29 +1,14 @@
 -- The lines of a history text can be told apart.
-use Rattle.std.proofs.Common.{◌≡◌, ℕ, ◌<◌, ◌^◌, Bool, true, false, List, [], ◌∷◌}
-use Rattle.std.proofs.Common.{◌++◌, refl, sym, ap, subst, ◌∙◌, arith, decimal}
-use Rattle.std.specs.Prelude.{codes}
+use Rattle.std.proofs.Common.{◌≡◌, ℕ, ◌<◌, ◌^◌, Bool, true, false, List, [], ◌∷◌, ◌++◌, refl, sym, ap, subst, ◌∙◌, arith, decimal, codes}
 use Rattle.std.specs.List.{AllByRecursion}
-use Rattle.history.specs.declared.entry.Entry.{Entry}
-use Rattle.history.specs.declared.header.Header.{Header}
-use Rattle.history.specs.EntryWords.{entry_words}
-use Rattle.history.specs.Header.{IsInRange}
-use Rattle.history.specs.Spelling.{part_of}
-use Rattle.history.specs.Text.{words_of, line_of}
+use Rattle.history_text.specs.Below.{Entry, Header, entry_words, IsInRange, part_of, words_of, line_of}
 use Rattle.history.proofs.Lists.{ended_calls_le}
 use Rattle.history.proofs.Numbers.{digits_alone}
 use Rattle.history.proofs.Plain.{words_again}
 use Rattle.line_text.proofs.Lawful.{Lacks, IsLawful}
 use Rattle.line_text.proofs.Lists.{head_is, same_behind}
 use Rattle.line_text.proofs.WholeLines.{line_lacks, header_whole, header_one}
-use Rattle.history_text.specs.declared.base_line.BaseLine.{BaseLine}
-use Rattle.history_text.specs.declared.place.Head.{Head}
-use Rattle.history_text.specs.BaseLineLimits.{IsBaseLine}
-use Rattle.history_text.specs.EntryLines.{HasLine, entry_line, counts_line}
-use Rattle.history_text.specs.HistoryLines.{name_of}
-use Rattle.history_text.specs.TextLines.{Based, Entered, Line, SomeBeginsSo, SomeHas, calls_told}
-use Rattle.history_text.specs.TextLines.{end_of, entries_told, line_text, lines_on, sum_of}
-use Rattle.history_text.specs.HistoryText.{history_form}
-use Rattle.history_text.specs.ToldBases.{GoodBeginsSo}
+use Rattle.history_text.specs.Prelude.{BaseLine, Head, IsBaseLine, HasLine, entry_line, counts_line, name_of, Based, Entered, Line, SomeBeginsSo, SomeHas, calls_told, end_of, entries_told, line_text, lines_on, sum_of, history_form, GoodBeginsSo}
 use Rattle.history_text.proofs.BaseLineLemmas.{base_lacks, base_no_end, base_no_entry, same_base_line}
 use Rattle.history_text.proofs.EntryLemmas.{line_plain, entry_line-words, same_entry, counts_plain, counts_line-words}
 use Rattle.history_text.proofs.HeadWritten.{good_spelt, sums_few}

@@ -1,28 +1,12 @@
 -- A history text has one reading, and what is written of a history that fits is read.
-use Rattle.std.proofs.Common.{◌≡◌, ⊎_elim, ℕ, ◌≤◌, Bool, ltb, if◌then◌else◌, List}
-use Rattle.std.proofs.Common.{reverse, Result, Ok, Err, refl, sym, ap, subst, ◌∙◌}
+use Rattle.std.proofs.Common.{◌≡◌, ⊎_elim, ℕ, ◌≤◌, Bool, ltb, if◌then◌else◌, List, reverse, Result, Ok, Err, refl, sym, ap, subst, ◌∙◌}
 use Rattle.std.specs.List.{AllByRecursion}
 use Rattle.std.proofs.lemmas.List.Elements.{All-from_recursion}
-use Rattle.history.specs.declared.entry.Entry.{Entry}
-use Rattle.history.specs.declared.header.Header.{Header}
-use Rattle.history.specs.Base.{Base, opening_base}
-use Rattle.history.specs.Entries.{HistoryView, base_on}
-use Rattle.history.specs.GoodBase.{IsBaseOf, IsGood}
-use Rattle.history.specs.Header.{IsInRange}
-use Rattle.line_text.specs.declared.fault.TextFault.{TextFault}
-use Rattle.line_text.specs.Reading.{Reading}
+use Rattle.history_text.specs.Below.{Entry, Header, Base, opening_base, HistoryView, base_on, IsBaseOf, IsGood, IsInRange, TextFault, Reading}
 use Rattle.line_text.proofs.OneReading.{one}
-use Rattle.history_text.specs.declared.base_line.BaseLine.{BaseLine}
-use Rattle.history_text.specs.declared.place.Head.{Head}
-use Rattle.history_text.specs.EntryLines.{HasLine}
-use Rattle.history_text.specs.HistoryLines.{head_of, lines_told}
-use Rattle.history_text.specs.HistoryText.{Fits, IsHistoryReading, IsHistoryText, IsRead, history_form}
-use Rattle.history_text.specs.TextLines.{Line, lines_on}
-use Rattle.history_text.specs.ToldBases.{IsToldBase}
+use Rattle.history_text.specs.Prelude.{BaseLine, Head, HasLine, head_of, lines_told, Fits, IsHistoryReading, IsHistoryText, IsRead, history_form, Line, lines_on, IsToldBase, base_by}
 use Rattle.history_text.proofs.BaseRetold.{good_is_told}
-use Rattle.history_text.specs.BaseTelling.{base_by}
-use Rattle.history_text.proofs.HistoryItems.{base_lines_again, base_lines_in, entries_again}
-use Rattle.history_text.proofs.HistoryItems.{entries_of, some_entries, told_some}
+use Rattle.history_text.proofs.HistoryItems.{base_lines_again, base_lines_in, entries_again, entries_of, some_entries, told_some}
 use Rattle.history_text.proofs.HistoryLawful.{lawful}
 
 -- of one header, a base is known by whether it has entries, and by its lines

@@ -1,7 +1,6 @@
 -- What stands in a list of entries.
-use Rattle.std.proofs.Common.{◌≡◌, ℕ, ◌<◌, ◌≤◌, List, length, take, get_or, None, Some, inl, inr, ◌⊎◌, sym, ◌∙◌}
+use Rattle.std.proofs.Common.{◌≡◌, ℕ, ◌<◌, ◌≤◌, List, length, take, get_or, None, Some, inl, inr, ◌⊎◌, sym, ◌∙◌, take_all}
 use Rattle.std.specs.List.{slice_get}
-use Rattle.std.proofs.lemmas.List.{take_all}
 use Rattle.std.proofs.lemmas.Option.{none-some, slice_get_cases}
 use Rattle.history.specs.declared.entry.Entry.{Entry}
 

@@ -1,30 +1,11 @@
 -- An entry that a step makes is of the step's seat, and refuses for a fault that is recorded.
-use Rattle.std.proofs.Common.{◌≡◌, ℕ, Bool, true, false, cond, List, length, Some, None, refl, subst, arith}
+use Rattle.std.proofs.Common.{◌≡◌, ℕ, Bool, true, false, cond, List, length, Some, None, refl, subst, arith, not}
 use Rattle.std.proofs.lemmas.Option.{same_Some}
-use Rattle.history.specs.declared.arrival.Arrival.{Arrival}
-use Rattle.history.specs.declared.entry.End.{End}
+use Rattle.history_text.specs.Below.{Arrival, End, Entry, Mode, X, S, Word, Object, Lock, ReadWrite, Semaphore, Latch, Step, Acquire, Try, TryFair, EntryInterrupt, Give, Look, Expire, Interrupt, Await, Signal, SignalAll, Drain, is_seat, Counts, counts, owner, sleepers, IsRecorded, ready, Phase, Idle, InLine, Sleeping, Start, phase_entry, idle_entry, queued_entry, sleeping_entry, plain, back, lapse, gave, signals, at_most_one}
 use Rattle.history.specs.declared.entry.End.TheVariants as end
-use Rattle.history.specs.declared.entry.Entry.{Entry}
 use Rattle.history.specs.declared.fault.Fault.TheVariants as fault
-use Rattle.history.specs.declared.entry.Mode.{Mode}
-use Rattle.history.specs.declared.entry.Mode.TheVariants.{X, S}
-use Rattle.history.specs.declared.entry.Word.{Word}
 use Rattle.history.specs.declared.entry.Word.TheVariants as word
-use Rattle.history.specs.declared.header.Object.{Object}
-use Rattle.history.specs.declared.header.Object.TheVariants.{Lock, ReadWrite, Semaphore, Latch}
-use Rattle.history.specs.declared.step.Step.{Step}
-use Rattle.history.specs.declared.step.Step.TheVariants.{Acquire, Try, TryFair, EntryInterrupt, Give, Look}
-use Rattle.history.specs.declared.step.Step.TheVariants.{Expire, Interrupt, Await, Signal, SignalAll, Drain}
-use Rattle.history.specs.Could.{is_seat}
-use Rattle.std.specs.Prelude.{not}
-use Rattle.history.specs.Counts.{Counts, counts, owner}
-use Rattle.history.specs.Sleepers.{sleepers}
-use Rattle.history.specs.Fault.{IsRecorded}
-use Rattle.history.specs.Naming.{ready}
-use Rattle.history.specs.Phase.{Phase, Idle, InLine, Sleeping}
-use Rattle.history.specs.Start.{Start}
-use Rattle.history.specs.Steps.{phase_entry, idle_entry, queued_entry, sleeping_entry}
-use Rattle.history.specs.Steps.{plain, ended, back, lapse, gave, signals, at_most_one}
+use Rattle.history.specs.Steps.{ended}
 
 abbrev pub RefusesByRecorded : Word → Type 0
 RefusesByRecorded (word.Refused f) = IsRecorded f

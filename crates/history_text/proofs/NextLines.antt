@@ -1,30 +1,13 @@
 -- What the next line of a history text says, behind its base.
-use Rattle.std.proofs.Common.{◌≡◌, ◌≢◌, ℕ, ◌+◌, ◌<◌, Bool, true, false, eqb, List, [], ◌∷◌, ◌++◌}
-use Rattle.std.proofs.Common.{length, Ok, Err, None, refl, sym, ap, subst, ◌∙◌, arith, inl, inr}
-use Rattle.std.specs.Prelude.{codes}
+use Rattle.std.proofs.Common.{◌≡◌, ◌≢◌, ℕ, ◌+◌, ◌<◌, Bool, true, false, eqb, List, [], ◌∷◌, ◌++◌, length, Ok, Err, None, refl, sym, ap, subst, ◌∙◌, arith, inl, inr, codes}
 use Rattle.std.proofs.lemmas.Bool.{eqb-false}
 use Rattle.std.proofs.lemmas.List.{nil_from_length}
-use Rattle.history.specs.declared.entry.Entry.{Entry}
-use Rattle.history.specs.declared.header.Header.{Header}
-use Rattle.history.specs.Base.{Base}
-use Rattle.history.specs.Header.{IsInRange}
-use Rattle.history.specs.Spelling.{part_of}
-use Rattle.history.specs.Text.{HasNoBreak, ended}
-use Rattle.line_text.specs.declared.fault.TextFault.{TextFault}
-use Rattle.line_text.specs.declared.fault.TextFault.TheVariants.{BadHeader, BadLine, CutShort}
+use Rattle.history_text.specs.Below.{Entry, Header, Base, IsInRange, part_of, HasNoBreak, ended, TextFault, BadHeader, BadLine, CutShort, Begins, IsReading}
 use Rattle.line_text.specs.HeaderLine.{LacksHeader}
-use Rattle.line_text.specs.Reading.{Begins, IsReading}
 use Rattle.line_text.proofs.Growing.{at_end}
 use Rattle.line_text.proofs.OneReading.{lacks, no_line, same_lines}
-use Rattle.history_text.specs.declared.place.Head.{Head}
-use Rattle.history_text.specs.declared.place.Place.{Place}
-use Rattle.history_text.specs.EntryLines.{HasLine, counts_line, entry_line}
-use Rattle.history_text.specs.HistoryLines.{name_of}
-use Rattle.history_text.specs.HistoryText.{history_form}
-use Rattle.history_text.specs.NextLine.{AreEntriesRead, IsEntryBehind}
-use Rattle.history_text.specs.TextLines.{Based, Entered, Line, SomeBeginsSo, end_of, line_text, lines_on}
-use Rattle.history_text.proofs.HistoryItems.{ends_on, entries_again, entries_of, entries_on}
-use Rattle.history_text.proofs.HistoryItems.{length-on, next_based, next_entry, none_behind}
+use Rattle.history_text.specs.Prelude.{Head, Place, HasLine, counts_line, entry_line, name_of, history_form, AreEntriesRead, IsEntryBehind, Based, Entered, Line, SomeBeginsSo, end_of, line_text, lines_on}
+use Rattle.history_text.proofs.HistoryItems.{ends_on, entries_again, entries_of, entries_on, length-on, next_based, next_entry, none_behind}
 use Rattle.history_text.proofs.HistoryLawful.{good_line, numbered_so}
 
 -- ---- the first line

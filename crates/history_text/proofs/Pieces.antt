@@ -1,21 +1,9 @@
 -- What is written of a history is the one text of its lines.
-use Rattle.std.proofs.Common.{◌≡◌, ℕ, ◌+◌, List, [], ◌∷◌, ◌++◌, length, map}
-use Rattle.std.proofs.Common.{reverse, refl, ap, sym, ◌∙◌, arith, append_assoc}
+use Rattle.std.proofs.Common.{◌≡◌, ℕ, ◌+◌, List, [], ◌∷◌, ◌++◌, length, map, reverse, refl, ap, sym, ◌∙◌, arith, append_assoc}
 use Rattle.std.proofs.lemmas.List.{length-reverse}
-use Rattle.history.specs.declared.entry.Entry.{Entry}
-use Rattle.history.specs.Base.{Base, based}
-use Rattle.history.specs.Legal.{calls}
-use Rattle.history.specs.Text.{ended}
+use Rattle.history_text.specs.Below.{Entry, Base, based, calls, ended, lines_of, text_of}
 use Rattle.history.proofs.Lists.{calls-ended, ended_calls-reverse}
-use Rattle.line_text.specs.Form.{lines_of, text_of}
-use Rattle.history_text.specs.declared.base_line.BaseLine.{BaseLine}
-use Rattle.history_text.specs.BaseLines.{base_line}
-use Rattle.history_text.specs.BaseText.{calls_sum}
-use Rattle.history_text.specs.EntryLines.{counts_line, entry_line}
-use Rattle.history_text.specs.HistoryLines.{head_line, head_of, lines_told}
-use Rattle.history_text.specs.HistoryText.{history_form}
-use Rattle.history_text.specs.Pieces.{entry_lines, history_text, lines_text}
-use Rattle.history_text.specs.TextLines.{Based, Line, end_of, lines_on, numbered}
+use Rattle.history_text.specs.Prelude.{BaseLine, base_line, calls_sum, counts_line, entry_line, head_line, head_of, lines_told, history_form, entry_lines, history_text, lines_text, Based, Line, end_of, lines_on, numbered}
 use Rattle.history_text.proofs.HistoryItems.{calls_on, ends_on}
 
 lines_based : (xs : List BaseLine) (ys : List Line) →

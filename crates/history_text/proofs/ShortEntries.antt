@@ -1,38 +1,10 @@
 -- The lines of a history text are short.
-use Rattle.std.proofs.Common.{◌≡◌, ℕ, ◌<◌, ◌≤◌, ◌^◌, Bool, true, false, List}
-use Rattle.std.proofs.Common.{[], ◌∷◌, ◌++◌, length, refl, ap, arith, decimal}
-use Rattle.std.specs.Prelude.{codes}
-use Rattle.history.specs.declared.limits.TheConstants.{LAST_CONDITION, MOST_AMOUNT}
-use Rattle.history.specs.declared.entry.End.{End}
+use Rattle.std.proofs.Common.{◌≡◌, ℕ, ◌<◌, ◌≤◌, ◌^◌, Bool, true, false, List, [], ◌∷◌, ◌++◌, length, refl, ap, arith, decimal, codes, length-append}
+use Rattle.history_text.specs.Below.{LAST_CONDITION, MOST_AMOUNT, End, Entry, Mode, X, Word, Back, Queued, Fault, NotOwner, TooManyHolds, TooManyPermits, Interrupted, HoldsRead, OutOfPhase, NoSuchCondition, BadAmount, WrongMode, HistoryFull, OutOfMemory, TrimFull, Header, LinePlace, IsWritten, end_word, entry_words, spelt, fault_name, IsInRange, ended, part_of, HasShortLines}
 use Rattle.history.specs.declared.entry.End.TheVariants as end
-use Rattle.history.specs.declared.entry.Entry.{Entry}
-use Rattle.history.specs.declared.entry.Mode.{Mode}
-use Rattle.history.specs.declared.entry.Mode.TheVariants.{X}
-use Rattle.history.specs.declared.entry.Word.{Word}
 use Rattle.history.specs.declared.entry.Word.TheVariants as word
-use Rattle.history.specs.declared.entry.Word.TheVariants.{Back, Queued}
-use Rattle.history.specs.declared.fault.Fault.{Fault}
-use Rattle.history.specs.declared.fault.Fault.TheVariants.{NotOwner, TooManyHolds, TooManyPermits}
-use Rattle.history.specs.declared.fault.Fault.TheVariants.{Interrupted, HoldsRead, OutOfPhase}
-use Rattle.history.specs.declared.fault.Fault.TheVariants.{NoSuchCondition, BadAmount, WrongMode}
-use Rattle.history.specs.declared.fault.Fault.TheVariants.{HistoryFull, OutOfMemory, TrimFull}
-use Rattle.history.specs.declared.header.Header.{Header}
-use Rattle.history.specs.declared.base.LinePlace.{LinePlace}
-use Rattle.history.specs.EntryWords.{IsWritten, end_word, entry_words, spelt}
-use Rattle.history.specs.Fault.{fault_name}
-use Rattle.history.specs.Header.{IsInRange}
-use Rattle.history.specs.Text.{ended}
-use Rattle.history.specs.Spelling.{part_of}
-use Rattle.line_text.specs.Short.{HasShortLines}
 use Rattle.line_text.proofs.Lengths.{AreShort, decimal_short, header_short, line_length, mode_short}
-use Rattle.std.proofs.lemmas.List.{length-append}
-use Rattle.history_text.specs.declared.place.Head.{Head}
-use Rattle.history_text.specs.BaseLines.{waiting_by}
-use Rattle.history_text.specs.EntryLines.{HasLine, counts_line, entry_line}
-use Rattle.history_text.specs.HistoryLines.{head_line, name_of}
-use Rattle.history_text.specs.TextLines.{Based, Entered, Line, SomeBeginsSo}
-use Rattle.history_text.specs.TextLines.{calls_told, entries_told, line_text, sum_of}
-use Rattle.history_text.specs.HistoryText.{history_form}
+use Rattle.history_text.specs.Prelude.{Head, waiting_by, HasLine, counts_line, entry_line, head_line, name_of, Based, Entered, Line, SomeBeginsSo, calls_told, entries_told, line_text, sum_of, history_form}
 use Rattle.history_text.proofs.BaseLineLemmas.{base_short}
 use Rattle.history_text.proofs.EntryLemmas.{counts_line-words, entry_line-words}
 use Rattle.history_text.proofs.HistoryLawful.{ended_fit, number_fits, spelt_next}

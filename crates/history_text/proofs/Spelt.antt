@@ -1,29 +1,11 @@
 -- Each entry of a legal history of an object as opened has a spelling.
-use Rattle.std.proofs.Common.{◌≡◌, ◌≢◌, ◌⊎◌, inl, inr, ℕ, true, false, not, eqb}
-use Rattle.std.proofs.Common.{ltb, List, [], ◌∷◌, Some, Ok, refl, ap, sym, subst}
+use Rattle.std.proofs.Common.{◌≡◌, ◌≢◌, ◌⊎◌, inl, inr, ℕ, true, false, not, eqb, ltb, List, [], ◌∷◌, Some, Ok, refl, ap, sym, subst, eqb-true}
 use Rattle.std.specs.List.{AllByRecursion}
-use Rattle.std.proofs.lemmas.Bool.{or_parts, not-false, eqb-true}
-use Rattle.history.specs.declared.limits.TheConstants.{MOST_AMOUNT}
-use Rattle.history.specs.declared.arrival.Arrival.{Arrival}
-use Rattle.history.specs.declared.entry.End.{End}
+use Rattle.std.proofs.lemmas.Bool.{or_parts, not-false}
+use Rattle.history_text.specs.Below.{MOST_AMOUNT, Arrival, End, Entry, Mode, X, S, Word, Object, Lock, ReadWrite, Semaphore, Latch, Step, IsSpelt, HasWords, CameBack, lacks_mode, is_bad_number, line, place_of, IsLegal, is_latch, phase, last_sleep, Start, entry_for}
 use Rattle.history.specs.declared.entry.End.TheVariants as end
-use Rattle.history.specs.declared.entry.Entry.{Entry}
-use Rattle.history.specs.declared.entry.Mode.{Mode}
-use Rattle.history.specs.declared.entry.Mode.TheVariants.{X, S}
-use Rattle.history.specs.declared.entry.Word.{Word}
 use Rattle.history.specs.declared.entry.Word.TheVariants as word
-use Rattle.history.specs.declared.header.Object.{Object}
-use Rattle.history.specs.declared.header.Object.TheVariants.{Lock, ReadWrite, Semaphore, Latch}
-use Rattle.history.specs.declared.step.Step.{Step}
-use Rattle.history.specs.EntryWords.{IsSpelt, HasWords, GaveUp, CameBack}
-use Rattle.history.specs.Faults.{lacks_mode, is_bad_number}
-use Rattle.history.specs.Line.{line, place_of}
-use Rattle.history.specs.Legal.{IsLegal}
-use Rattle.history.specs.Object.{is_latch}
-use Rattle.history.specs.Phase.{phase}
-use Rattle.history.specs.Sleepers.{last_sleep}
-use Rattle.history.specs.Start.{Start}
-use Rattle.history.specs.Steps.{entry_for}
+use Rattle.history.specs.EntryWords.{GaveUp}
 use Rattle.history.proofs.Entering.{KnownBy, known, by_phase}
 use Rattle.history_text.proofs.Made.{IsMadeBy, RefusesByRecorded, made}
 use Rattle.history.proofs.OneWait.{Waits, waits_from}

@@ -1,25 +1,12 @@
 -- A text is read whole: its first line, the lines of its base, and its entries.
-use Rattle.std.proofs.Common.{◌≡◌, ℕ, ◌-◌, false, ltb, ap, None, List, [], ◌++◌}
-use Rattle.std.proofs.Common.{length, drop, take, Result, Ok, Err, subst, sym, ◌∙◌}
+use Rattle.std.proofs.Common.{◌≡◌, ℕ, ◌-◌, false, ltb, ap, None, List, [], ◌++◌, length, drop, take, Result, Ok, Err, subst, sym, ◌∙◌, Option}
 use Rattle.std.proofs.lemmas.Bool.{false≢true}
 use Rattle.std.proofs.lemmas.List.{append_cancel_left}
-use Rattle.std.specs.Prelude.{Option}
 use Rattle.std.specs.Result.{IsErr, IsErrAnd}
-use Rattle.history.specs.declared.header.Header.{Header}
-use Rattle.history.specs.Base.{Base}
-use Rattle.history.specs.Entries.{HistoryView, or_opening}
-use Rattle.history.specs.Text.{ended}
-use Rattle.line_text.specs.declared.fault.ReadFault.{ReadFault}
+use Rattle.history_text.specs.Below.{Header, Base, HistoryView, or_opening, ended, ReadFault, lines_of, Begins}
 use Rattle.line_text.specs.declared.fault.ReadFault.TheVariants.{OutOfMemory, Text}
-use Rattle.line_text.specs.Form.{lines_of}
-use Rattle.line_text.specs.Reading.{Begins}
 use Rattle.line_text.proofs.UnderWay.{left_over}
-use Rattle.history_text.specs.declared.place.Head.{Head}
-use Rattle.history_text.specs.declared.place.Place.{Place}
-use Rattle.history_text.specs.HistoryLines.{head_line}
-use Rattle.history_text.specs.TextLines.{lines_on}
-use Rattle.history_text.specs.HistoryText.{Reads, history_form}
-use Rattle.history_text.specs.NextLine.{AreEntriesRead, IsBaseAhead}
+use Rattle.history_text.specs.Prelude.{Head, Place, head_line, lines_on, Reads, history_form, AreEntriesRead, IsBaseAhead}
 use Rattle.history_text.specs.inner.NextLine.{AreAllRead}
 
 module _ (text ahead : List ℕ) (h : Head) (begun : Begins history_form text h [] ahead) where

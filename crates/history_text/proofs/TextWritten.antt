@@ -1,16 +1,10 @@
 -- A history text is written, one entry after another behind the lines of a base.
-use Rattle.std.proofs.Common.{◌≡◌, ℕ, ◌+◌, List, [], ◌∷◌, ◌++◌, length, take, reverse}
-use Rattle.std.proofs.Common.{Some, sym, ap, ◌∙◌, arith, append_assoc, append-nil}
+use Rattle.std.proofs.Common.{◌≡◌, ℕ, ◌+◌, List, [], ◌∷◌, ◌++◌, length, take, reverse, Some, sym, ap, ◌∙◌, arith, append_assoc, append-nil, length-take}
 use Rattle.std.specs.List.{slice_get}
-use Rattle.std.proofs.lemmas.List.{take_more, length-take}
+use Rattle.std.proofs.lemmas.List.{take_more}
 use Rattle.std.proofs.lemmas.Option.{get_or_from_slice_get, slice_get_within}
-use Rattle.history.specs.declared.entry.Entry.{Entry}
-use Rattle.history.specs.Base.{Base, based}
-use Rattle.history.specs.Legal.{calls}
-use Rattle.history.specs.Text.{ended}
-use Rattle.history_text.specs.EntryLines.{counts_line, entry_line}
-use Rattle.history_text.specs.HistoryLines.{head_line, head_of, lines_told}
-use Rattle.history_text.specs.Pieces.{entry_lines, history_text, lines_text}
+use Rattle.history_text.specs.Below.{Entry, Base, based, calls, ended}
+use Rattle.history_text.specs.Prelude.{counts_line, entry_line, head_line, head_of, lines_told, entry_lines, history_text, lines_text}
 
 -- one more entry
 pub entry_lines-push : (k : ℕ) (xs : List Entry) (x : Entry) →

@@ -1,11 +1,7 @@
 -- Which values the line of a base may have.
 use Rattle.std.specs.Prelude.{◌≡◌, ◌≤◌, Bool, true, false}
-use Rattle.history.specs.declared.base.LinePlace.{LinePlace}
+use Rattle.history_text.specs.Below.{LinePlace, Entry, X, LAST_CONDITION, MOST_AMOUNT, MOST_BASE_PERMITS, MOST_FOLDED, MOST_HOLDS, IsWritten}
 use Rattle.history.specs.declared.entry.End.TheVariants as end
-use Rattle.history.specs.declared.entry.Entry.{Entry}
-use Rattle.history.specs.declared.entry.Mode.TheVariants.{X}
-use Rattle.history.specs.declared.limits.TheConstants.{LAST_CONDITION, MOST_AMOUNT, MOST_BASE_PERMITS, MOST_FOLDED, MOST_HOLDS}
-use Rattle.history.specs.EntryWords.{IsWritten}
 use Rattle.history_text.specs.declared.base_line.BaseLine.{BaseLine}
 use Rattle.history_text.specs.declared.base_line.BaseLine.TheVariants.{Folded, Released, CountedDown, Seat, Stands, Sleeps}
 use Rattle.history_text.specs.declared.base_line.TheConstants.{LAST_SEAT}

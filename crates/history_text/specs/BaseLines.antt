@@ -1,17 +1,7 @@
 -- The lines of a base, in the order in which a history text has them.
 use Rattle.std.specs.Prelude.{ℕ, ◌+◌, Bool, true, false, List, [], ◌∷◌, ◌++◌, map, codes, decimal}
-use Rattle.history.specs.declared.base.SeatBase.{SeatBase}
-use Rattle.history.specs.declared.base.Sleeper.{Sleeper}
-use Rattle.history.specs.declared.base.LinePlace.{LinePlace}
+use Rattle.history_text.specs.Below.{SeatBase, Sleeper, LinePlace, Entry, X, Queued, Back, Object, Lock, ReadWrite, Semaphore, Latch, Base, entry_words, line_of}
 use Rattle.history.specs.declared.entry.End.TheVariants as end
-use Rattle.history.specs.declared.entry.Entry.{Entry}
-use Rattle.history.specs.declared.entry.Mode.TheVariants.{X}
-use Rattle.history.specs.declared.entry.Word.TheVariants.{Queued, Back}
-use Rattle.history.specs.declared.header.Object.{Object}
-use Rattle.history.specs.declared.header.Object.TheVariants.{Lock, ReadWrite, Semaphore, Latch}
-use Rattle.history.specs.Base.{Base}
-use Rattle.history.specs.EntryWords.{entry_words}
-use Rattle.history.specs.Text.{line_of}
 use Rattle.history_text.specs.declared.base_line.BaseLine.{BaseLine}
 use Rattle.history_text.specs.declared.base_line.BaseLine.TheVariants.{Folded, Released, CountedDown, Seat, Stands, Sleeps}
 

@@ -1,12 +1,7 @@
 -- What the readers of base lines return: what they read, and the words that are left.
 use Rattle.std.specs.Prelude.{ℕ, [], ◌∷◌, Option, None, Some, codes, bytes_eq, if◌then◌else◌}
-use Rattle.history.specs.declared.base.LinePlace.{LinePlace}
-use Rattle.history.specs.declared.entry.Entry.{Entry}
-use Rattle.history.specs.declared.entry.Word.{Word}
-use Rattle.history.specs.declared.entry.Word.TheVariants.{Queued, Back}
-use Rattle.history.specs.EntryReading.{entry_at}
-use Rattle.history.specs.declared.limits.TheConstants.{LAST_CONDITION, MOST_AMOUNT, MOST_BASE_PERMITS, MOST_FOLDED, MOST_HOLDS}
-use Rattle.history.specs.Reading.{Words, ◌>>=◌, keyword_at, named_at, number_at, wide_at}
+use Rattle.history_text.specs.Below.{LinePlace, Entry, Word, Queued, Back, entry_at, LAST_CONDITION, MOST_AMOUNT, MOST_BASE_PERMITS, MOST_FOLDED, MOST_HOLDS, Words, keyword_at, named_at, number_at, wide_at}
+use Rattle.history.specs.Reading.{◌>>=◌}
 use Rattle.history_text.specs.declared.base_line.BaseLine.{BaseLine}
 use Rattle.history_text.specs.declared.base_line.BaseLine.TheVariants.{Folded, Released, CountedDown, Seat, Stands, Sleeps}
 use Rattle.history_text.specs.declared.base_line.TheConstants.{LAST_SEAT}

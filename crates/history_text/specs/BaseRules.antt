@@ -1,15 +1,7 @@
 -- Which line of a base may follow those before it.
 use Rattle.std.specs.Prelude.{◌≡◌, ◌⊎◌, ℕ, ◌+◌, ◌<◌, ◌≤◌, Bool, true, false, List, [], ◌∷◌, ◌++◌, get_or, set, neg_ℤ}
 use Rattle.std.proofs.Math.ListN.{replicate}
-use Rattle.history.specs.declared.base.SeatBase.{SeatBase}
-use Rattle.history.specs.declared.header.Header.{Header}
-use Rattle.history.specs.declared.header.Object.{Object}
-use Rattle.history.specs.declared.header.Object.TheVariants.{Lock, ReadWrite, Semaphore, Latch}
-use Rattle.history.specs.Base.{Base, sleepers_of}
-use Rattle.history.specs.declared.limits.TheConstants.{MOST_AMOUNT, MOST_BASE_PERMITS, MOST_FOLDED, MOST_HOLDS, MOST_READ_WRITE_HOLDS, MOST_SEATS}
-use Rattle.history.specs.GoodBase.{SleepsWell, StandsWell}
-use Rattle.history.specs.Object.{is_latch, is_lock, is_semaphore, opening_count}
-use Rattle.history.specs.Steps.{at_least_none}
+use Rattle.history_text.specs.Below.{SeatBase, Header, Object, Lock, ReadWrite, Semaphore, Latch, Base, sleepers_of, MOST_AMOUNT, MOST_BASE_PERMITS, MOST_FOLDED, MOST_HOLDS, MOST_READ_WRITE_HOLDS, MOST_SEATS, SleepsWell, StandsWell, is_latch, is_lock, is_semaphore, opening_count, at_least_none}
 use Rattle.history_text.specs.declared.base_line.BaseLine.{BaseLine}
 use Rattle.history_text.specs.declared.base_line.BaseLine.TheVariants.{Folded, Released, CountedDown, Seat, Stands, Sleeps}
 

@@ -1,7 +1,6 @@
 -- The lines of a base, from its first line on.
 use Rattle.std.specs.Prelude.{List}
-use Rattle.history.specs.declared.header.Header.{Header}
-use Rattle.history.specs.Base.{Base, opening_base}
+use Rattle.history_text.specs.Below.{Header, Base, opening_base}
 use Rattle.history_text.specs.declared.base_line.BaseLine.{BaseLine}
 use Rattle.history_text.specs.BaseFollowing.{AllRead, after_told, with_lines}
 use Rattle.history_text.specs.BaseRules.{BaseSums, no_sums}

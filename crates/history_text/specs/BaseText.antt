@@ -1,9 +1,6 @@
 -- The sums of a base whose text was written.
 use Rattle.std.specs.Prelude.{◌≡◌, ℕ, ◌+◌, ◌≤◌, List, [], ◌∷◌, ◌++◌}
-use Rattle.history.specs.declared.base.SeatBase.{SeatBase}
-use Rattle.history.specs.Base.{Base}
-use Rattle.history.specs.declared.limits.TheConstants.{MOST_FOLDED}
-use Rattle.history.specs.Text.{ended}
+use Rattle.history_text.specs.Below.{SeatBase, Base, MOST_FOLDED, ended}
 use Rattle.history_text.specs.HistoryLines.{head_line, head_of, lines_told}
 use Rattle.history_text.specs.Pieces.{lines_text}
 

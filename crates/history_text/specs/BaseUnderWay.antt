@@ -1,7 +1,6 @@
 -- A base that is read line by line: how the base and the sums determine the lines that were read.
 use Rattle.std.specs.Prelude.{◌≡◌, ℕ, zero, suc, List, [], ◌∷◌, ◌++◌, length, map, take}
-use Rattle.history.specs.Base.{Base}
-use Rattle.history.specs.Header.{IsInRange}
+use Rattle.history_text.specs.Below.{Base, IsInRange}
 use Rattle.history_text.specs.declared.base_line.BaseLine.{BaseLine}
 use Rattle.history_text.specs.declared.base_line.BaseLine.TheVariants.{Stands}
 use Rattle.history_text.specs.BaseLines.{first_line, seat_lines, sleeper_lines}

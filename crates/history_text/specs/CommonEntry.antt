@@ -1,11 +1,6 @@
 -- The most frequent lines of entries: those with amount 1.
 use Rattle.std.specs.Prelude.{◌≡◌, ℕ, ◌<◌, List, ◌++◌, length}
-use Rattle.history.specs.declared.entry.Entry.{Entry}
-use Rattle.history.specs.declared.entry.End.{End}
-use Rattle.history.specs.declared.entry.Mode.{Mode}
-use Rattle.history.specs.declared.entry.Word.{Word}
-use Rattle.history.specs.EntryWords.{IsWritten}
-use Rattle.history.specs.Text.{ended}
+use Rattle.history_text.specs.Below.{Entry, End, Mode, Word, IsWritten, ended}
 use Rattle.history_text.specs.EntryLines.{entry_line}
 
 -- an entry with amount 1 that concerns no condition

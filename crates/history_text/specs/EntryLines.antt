@@ -1,9 +1,6 @@
 -- The lines of a history text.
 use Rattle.std.specs.Prelude.{ℕ, ◌<◌, List, ◌++◌, codes, decimal}
-use Rattle.history.specs.declared.entry.Entry.{Entry}
-use Rattle.history.specs.declared.header.Header.{Header}
-use Rattle.history.specs.EntryWords.{entry_words, IsWritten}
-use Rattle.history.specs.Text.{line_of}
+use Rattle.history_text.specs.Below.{Entry, Header, entry_words, IsWritten, line_of}
 
 -- the number, the seat and the words of an entry
 abbrev pub entry_line : ℕ → Entry → List ℕ

@@ -1,8 +1,7 @@
 -- What the readers of lines return: what they read, and the words that are left.
 use Rattle.std.specs.Prelude.{ℕ, ◌-◌, Option, Some, codes}
-use Rattle.history.specs.declared.entry.Entry.{Entry}
-use Rattle.history.specs.EntryReading.{entry_at}
-use Rattle.history.specs.Reading.{Words, ◌>>=◌, number_at, keyword_at}
+use Rattle.history_text.specs.Below.{Entry, entry_at, Words, number_at, keyword_at}
+use Rattle.history.specs.Reading.{◌>>=◌}
 
 unfoldable pub counts_at : ℕ → ℕ → Words → Option (Unit {0} × Words)
 counts_at entries calls words = do

@@ -1,7 +1,6 @@
 -- The first line of a history text, and the lines of its base.
 use Rattle.std.specs.Prelude.{ℕ, Bool, nat_lt, if◌then◌else◌, List, [], ◌++◌, codes}
-use Rattle.history.specs.Base.{Base}
-use Rattle.history.specs.Spelling.{part_of}
+use Rattle.history_text.specs.Below.{Base, part_of}
 use Rattle.history_text.specs.declared.base_line.BaseLine.{BaseLine}
 use Rattle.history_text.specs.declared.place.Head.{Head}
 use Rattle.history_text.specs.BaseLines.{base_lines}

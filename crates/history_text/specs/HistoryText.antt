@@ -1,15 +1,6 @@
 -- History texts: their form, and what reading one returns.
 use Rattle.std.specs.Prelude.{◌≡◌, ℕ, ◌≤◌, List, [], ◌∷◌, ◌++◌, length, reverse, All, None, Result, Ok, Err}
-use Rattle.history.specs.declared.entry.Entry.{Entry}
-use Rattle.history.specs.declared.header.Header.{Header}
-use Rattle.history.specs.Base.{Base}
-use Rattle.history.specs.Entries.{HistoryView, base_on}
-use Rattle.history.specs.GoodBase.{IsBaseOf}
-use Rattle.history.specs.Header.{IsInRange}
-use Rattle.history.specs.Pages.{whole_pages}
-use Rattle.line_text.specs.declared.fault.ReadFault.{ReadFault}
-use Rattle.line_text.specs.Form.{Form}
-use Rattle.line_text.specs.Reading.{IsReading, IsText, Reading}
+use Rattle.history_text.specs.Below.{Entry, Header, Base, HistoryView, base_on, IsBaseOf, IsInRange, whole_pages, ReadFault, Form, IsReading, IsText, Reading}
 use Rattle.line_text.specs.Reading as reading
 use Rattle.history_text.specs.declared.place.Head.{Head}
 use Rattle.history_text.specs.EntryLines.{HasLine}

@@ -1,3 +1,5 @@
+pub mod Prelude
+pub mod Below
 -- the text of a history, and which texts are read as which history
 pub mod BaseLines
 pub mod EntryLines

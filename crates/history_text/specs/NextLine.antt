@@ -22,17 +22,7 @@ use Rattle.std.specs.Prelude.{
   Ok,
   Err,
 }
-use Rattle.history.specs.declared.entry.Entry.{Entry}
-use Rattle.history.specs.declared.header.Header.{Header}
-use Rattle.history.specs.Base.{Base}
-use Rattle.history.specs.Entries.{or_opening}
-use Rattle.history.specs.Entry.{ends_call}
-use Rattle.history.specs.declared.limits.TheConstants.{MOST_FOLDED}
-use Rattle.history.specs.Text.{HasNoBreak, ended}
-use Rattle.line_text.specs.declared.fault.ReadFault.{ReadFault}
-use Rattle.line_text.specs.declared.limits.TheConstants.{LINE_BYTES}
-use Rattle.line_text.specs.declared.fault.TextFault.{TextFault}
-use Rattle.line_text.specs.Reading.{Begins, IsReading}
+use Rattle.history_text.specs.Below.{Entry, Header, Base, or_opening, ends_call, MOST_FOLDED, HasNoBreak, ended, ReadFault, LINE_BYTES, TextFault, Begins, IsReading}
 use Rattle.line_text.specs.Reading as reading
 use Rattle.history_text.specs.declared.base_line.BaseLine.{BaseLine}
 use Rattle.history_text.specs.declared.place.Head.{Head}

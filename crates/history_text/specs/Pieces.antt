@@ -1,9 +1,6 @@
 -- The text that is written for a history, piece by piece.
 use Rattle.std.specs.Prelude.{ℕ, ◌+◌, List, [], ◌∷◌, ◌++◌, length, reverse}
-use Rattle.history.specs.declared.entry.Entry.{Entry}
-use Rattle.history.specs.Base.{Base, based}
-use Rattle.history.specs.Legal.{calls}
-use Rattle.history.specs.Text.{ended}
+use Rattle.history_text.specs.Below.{Entry, Base, based, calls, ended}
 use Rattle.history_text.specs.declared.base_line.BaseLine.{BaseLine}
 use Rattle.history_text.specs.BaseLines.{base_line}
 use Rattle.history_text.specs.EntryLines.{counts_line, entry_line}

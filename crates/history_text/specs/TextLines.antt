@@ -1,10 +1,7 @@
 -- The lines after the first one of a history text: those of a base, and entries after them.
 use Rattle.std.specs.Prelude.{◌≡◌, ℕ, ◌+◌, ◌≤◌, if◌then◌else◌, List, [], ◌∷◌, ◌++◌, length, map}
 use Rattle.std.specs.List.{AllByRecursion}
-use Rattle.history.specs.declared.entry.Entry.{Entry}
-use Rattle.history.specs.Base.{Base}
-use Rattle.history.specs.Entry.{ends_call}
-use Rattle.history.specs.GoodBase.{IsBaseOf}
+use Rattle.history_text.specs.Below.{Entry, Base, ends_call, IsBaseOf}
 use Rattle.history_text.specs.declared.base_line.BaseLine.{BaseLine}
 use Rattle.history_text.specs.declared.base_line.BaseLine.TheVariants.{Folded, Released, CountedDown, Seat}
 use Rattle.history_text.specs.declared.place.Head.{Head}

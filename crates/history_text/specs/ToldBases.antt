@@ -1,8 +1,6 @@
 -- Good bases, and beginnings of their lines.
 use Rattle.std.specs.Prelude.{◌≡◌, ◌≤◌, List, ◌++◌}
-use Rattle.history.specs.declared.header.Header.{Header}
-use Rattle.history.specs.Base.{Base}
-use Rattle.history.specs.GoodBase.{IsGood}
+use Rattle.history_text.specs.Below.{Header, Base, IsGood}
 use Rattle.history_text.specs.declared.base_line.BaseLine.{BaseLine}
 use Rattle.history_text.specs.BaseLines.{base_lines}
 

@@ -1,21 +1,11 @@
 -- The histories that break a law, computed, and why none of them is legal.
-use Rattle.std.proofs.Common.{◌≡◌, ◌≢◌, ℕ, ◌+◌, ◌*◌, ◌≤◌, [], ◌∷◌, length, ap, arith}
+use Rattle.std.proofs.Common.{◌≡◌, ◌≢◌, ℕ, ◌+◌, ◌*◌, ◌≤◌, [], ◌∷◌, length, ap, arith, pos, ◌≤ℤ◌}
 use Rattle.std.proofs.lemmas.Bool.{false≢true}
-use Rattle.std.specs.Prelude.{pos, ◌≤ℤ◌}
 use Rattle.std.proofs.lemmas.Int.{ints}
 use Rattle.std.proofs.lemmas.Option.{none-some}
-use Rattle.history.specs.declared.limits.TheConstants.{MOST_AMOUNT}
-use Rattle.history.specs.declared.entry.Entry.{Entry}
-use Rattle.history.specs.declared.entry.Mode.TheVariants.{X, S}
+use Rattle.laws.specs.Below.{MOST_AMOUNT, Entry, X, S, IsConserved, free, held, IsLegal, IsOwned, IsSaved, Fits, owed, releases, reserves, opening, plain}
 use Rattle.history.specs.declared.entry.Word.TheVariants as word
 use Rattle.history.specs.declared.fault.Fault.TheVariants as fault
-use Rattle.history.specs.Conservation.{IsConserved}
-use Rattle.history.specs.Counts.{free, held}
-use Rattle.history.specs.Legal.{IsLegal}
-use Rattle.history.specs.Ownership.{IsOwned, IsSaved}
-use Rattle.history.specs.Room.{Fits, owed, releases, reserves}
-use Rattle.history.specs.Start.{opening}
-use Rattle.history.specs.Steps.{plain}
 use Rattle.history.proofs.Entering.{Known, known}
 use Rattle.laws.specs.Breaks.{drained_too_many, full, leaves_unseen, lock, permit_slept_away, read_write, reader_beside_owner, released_too_many, semaphore, stranger_sleeps, two_owners}
 

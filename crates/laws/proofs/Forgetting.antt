@@ -2,13 +2,10 @@
 use Rattle.std.proofs.Common.{◌≡◌, ℕ, true, false, [], ◌∷◌, Option, Some, refl}
 use Rattle.laws.proofs.OutOfOrder.{refused_not_gave}
 use Rattle.std.proofs.lemmas.Bool.{false≢true}
-use Rattle.history.specs.declared.entry.Entry.{Entry}
-use Rattle.history.specs.declared.entry.Mode.TheVariants.{S, X}
+use Rattle.laws.specs.Below.{Entry, S, X, Base, based, folded, IsLegal}
 use Rattle.history.specs.declared.entry.Word.TheVariants as word
 use Rattle.history.specs.declared.fault.Fault.TheVariants as fault
 use Rattle.history.specs.declared.step.Step.TheVariants as step
-use Rattle.history.specs.Base.{Base, based, folded}
-use Rattle.history.specs.Legal.{IsLegal}
 use Rattle.history.proofs.Entering.{Known, known}
 use Rattle.laws.specs.Forgetful.{counted_out, forgets_a_permit, forgets_a_read, forgets_a_sleeper, forgets_the_count, gave_a_read, granted_first, moved, opened_latch, opened_lock, opened_read_write, opened_semaphore, passes, read_held, released_unheld, reverses_its_line, slept, took_a_permit, two_in_line}
 use Rattle.laws.specs.OutOfTurn.{gave_first, taken}

@@ -1,11 +1,6 @@
 -- What is said of marks after a fold, and with all marks cleared.
-use Rattle.std.proofs.Common.{◌≡◌, ℕ, Bool, List, ◌++◌, refl, ◌∙◌, sym}
-use Rattle.std.proofs.lemmas.Bool.{true≢false}
-use Rattle.history.specs.declared.entry.Entry.{Entry}
-use Rattle.history.specs.Base.{Base, based, folded}
-use Rattle.history.specs.Marks.{AreTold, unmarked}
-use Rattle.history.specs.Point.{CanFold}
-use Rattle.history.specs.Start.{opening}
+use Rattle.std.proofs.Common.{◌≡◌, ℕ, Bool, List, ◌++◌, refl, ◌∙◌, sym, true≢false}
+use Rattle.laws.specs.Below.{Entry, Base, based, folded, AreTold, unmarked, CanFold, opening}
 use Rattle.history.proofs.Alike.{ready_alike}
 use Rattle.laws.proofs.OnBases.{after_fold}
 use Rattle.laws.specs.OutOfTurn.{fair_lock, given_to_a_waiter}

@@ -1,11 +1,6 @@
 -- What two parts of a history say, where it can be folded.
 use Rattle.std.proofs.Common.{◌≡◌, ℕ, List, ◌∷◌, ◌++◌, sym}
-use Rattle.history.specs.declared.entry.Entry.{Entry}
-use Rattle.history.specs.declared.step.Step.{Step}
-use Rattle.history.specs.Base.{Base, based, folded}
-use Rattle.history.specs.Naming.{named}
-use Rattle.history.specs.Point.{CanFold}
-use Rattle.history.specs.Steps.{entry_for}
+use Rattle.laws.specs.Below.{Entry, Step, Base, based, folded, named, CanFold, entry_for}
 use Rattle.history.proofs.Alike.{Alike, entry_alike, named_alike}
 use Rattle.history.proofs.Folding.{folds_on, goes_on}
 use Rattle.history.proofs.Points.{seated_behind}

@@ -1,19 +1,10 @@
 -- Why the histories out of turn break their laws, and why none of them is legal.
-use Rattle.std.proofs.Common.{◌≡◌, ℕ, ◌≤◌, false, List, [], ◌∷◌, Option, Some, refl, arith}
-use Rattle.std.proofs.lemmas.Bool.{true≢false}
+use Rattle.std.proofs.Common.{◌≡◌, ℕ, ◌≤◌, false, List, [], ◌∷◌, Option, Some, refl, arith, true≢false}
 use Rattle.std.proofs.lemmas.Option.{none-some}
-use Rattle.history.specs.declared.arrival.Arrival.{Arrival}
-use Rattle.history.specs.declared.entry.Entry.{Entry}
-use Rattle.history.specs.declared.entry.Mode.TheVariants.{X}
+use Rattle.laws.specs.Below.{Arrival, Entry, X, IsLegal, Arrived, IsFairOrder, IsInOrder, Idle, InLine, opening, IsOneWait}
 use Rattle.history.specs.declared.entry.Word.TheVariants as word
 use Rattle.history.specs.declared.fault.Fault.TheVariants as fault
 use Rattle.history.specs.declared.step.Step.TheVariants as step
-use Rattle.history.specs.Legal.{IsLegal}
-use Rattle.history.specs.Line.{Arrived}
-use Rattle.history.specs.Order.{IsFairOrder, IsInOrder}
-use Rattle.history.specs.Phase.{Idle, InLine}
-use Rattle.history.specs.Start.{opening}
-use Rattle.history.specs.Waiting.{IsOneWait}
 use Rattle.history.proofs.Entering.{Known, known}
 use Rattle.laws.specs.OutOfTurn.{fair_lock, gave_first, got_past_the_line, granted_out_of_turn, of, queued_twice, strict_lock, tried_past_the_line}
 

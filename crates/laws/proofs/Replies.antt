@@ -1,25 +1,11 @@
 -- The replies to a list of steps, with short names for the steps and the replies.
 use Rattle.std.specs.Prelude.{ℕ, List, [], length, Some, None, Result, Ok, Err, ℤ}
-use Rattle.history.specs.declared.entry.End.{End}
+use Rattle.laws.specs.Below.{End, Entry, X, S, Word, Fault, Header, Policy, Answer, Step, results, free, held, total, unheld, calls, created, opening, plain}
 use Rattle.history.specs.declared.entry.End.TheVariants as end
-use Rattle.history.specs.declared.entry.Entry.{Entry}
-use Rattle.history.specs.declared.entry.Mode.TheVariants.{X, S}
-use Rattle.history.specs.declared.entry.Word.{Word}
 use Rattle.history.specs.declared.entry.Word.TheVariants as word
-use Rattle.history.specs.declared.fault.Fault.{Fault}
-use Rattle.history.specs.declared.header.Header.{Header}
 use Rattle.history.specs.declared.header.Object.TheVariants as object
-use Rattle.history.specs.declared.header.Policy.{Policy}
-use Rattle.history.specs.declared.step.Answer.{Answer}
 use Rattle.history.specs.declared.step.Answer.TheVariants as answer
-use Rattle.history.specs.declared.step.Step.{Step}
 use Rattle.history.specs.declared.step.Step.TheVariants as step
-use Rattle.history.specs.Answers.{results}
-use Rattle.history.specs.Counts.{free, held, total, unheld}
-use Rattle.history.specs.Legal.{calls}
-use Rattle.history.specs.Object.{created}
-use Rattle.history.specs.Start.{opening}
-use Rattle.history.specs.Steps.{plain}
 
 infixl 70 ◌wakes◌
 abbrev Reply : Type 0

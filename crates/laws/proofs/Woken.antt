@@ -1,11 +1,7 @@
 -- That an entry has named the head of the queue since it could go, or was its own.
-use Rattle.std.proofs.Common.{◌≡◌, ◌⊎◌, inl, inr, ℕ, true, false, List, [], ◌∷◌, Option, Some, refl, ap, ◌∙◌}
-use Rattle.std.proofs.lemmas.Bool.{eq-eqb, eqb-false}
-use Rattle.history.specs.declared.entry.Entry.{Entry}
-use Rattle.history.specs.declared.header.Header.{Header}
-use Rattle.history.specs.Could.{is_seat}
-use Rattle.history.specs.Naming.{named, named_by, ready}
-use Rattle.history.specs.Start.{opening}
+use Rattle.std.proofs.Common.{◌≡◌, ◌⊎◌, inl, inr, ℕ, true, false, List, [], ◌∷◌, Option, Some, refl, ap, ◌∙◌, eq-eqb}
+use Rattle.std.proofs.lemmas.Bool.{eqb-false}
+use Rattle.laws.specs.Below.{Entry, Header, is_seat, named, named_by, ready, opening}
 use Rattle.history.proofs.Marking.{named_ready, told_now}
 use Rattle.laws.specs.Woken.{IsWoken}
 

@@ -1,15 +1,9 @@
 -- Histories that violate the laws of room, permits and owners. None of them is legal.
 use Rattle.std.specs.Prelude.{ℕ, zero, suc, List, [], ◌∷◌, pos}
-use Rattle.history.specs.declared.limits.TheConstants.{MOST_AMOUNT}
-use Rattle.history.specs.declared.entry.Entry.{Entry}
+use Rattle.laws.specs.Below.{MOST_AMOUNT, Entry, X, S, Header, Lock, ReadWrite, Semaphore, NonFair, plain}
 use Rattle.history.specs.declared.entry.End.TheVariants as end
-use Rattle.history.specs.declared.entry.Mode.TheVariants.{X, S}
 use Rattle.history.specs.declared.entry.Word.TheVariants as word
 use Rattle.history.specs.declared.fault.Fault.TheVariants as fault
-use Rattle.history.specs.declared.header.Header.{Header}
-use Rattle.history.specs.declared.header.Object.TheVariants.{Lock, ReadWrite, Semaphore}
-use Rattle.history.specs.declared.header.Policy.TheVariants.{NonFair}
-use Rattle.history.specs.Steps.{plain}
 
 -- a lock of two seats with one condition, a read-write lock, and a semaphore with one permit
 abbrev pub lock : Header

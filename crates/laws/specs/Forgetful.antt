@@ -1,14 +1,8 @@
 -- Spoilt bases: each lacks something that its entries left, and a next entry shows it.
 use Rattle.std.specs.Prelude.{List, [], ◌∷◌, map, pos, reverse}
-use Rattle.history.specs.declared.base.SeatBase.{SeatBase}
+use Rattle.laws.specs.Below.{SeatBase, Entry, X, S, Latch, Lock, ReadWrite, Semaphore, Fair, NonFair, Base, folded, opening_base, plain}
 use Rattle.history.specs.declared.entry.End.TheVariants as end
-use Rattle.history.specs.declared.entry.Entry.{Entry}
-use Rattle.history.specs.declared.entry.Mode.TheVariants.{X, S}
 use Rattle.history.specs.declared.entry.Word.TheVariants as word
-use Rattle.history.specs.declared.header.Object.TheVariants.{Latch, Lock, ReadWrite, Semaphore}
-use Rattle.history.specs.declared.header.Policy.TheVariants.{Fair, NonFair}
-use Rattle.history.specs.Base.{Base, folded, opening_base}
-use Rattle.history.specs.Steps.{plain}
 use Rattle.laws.specs.OutOfTurn.{of}
 
 -- A lock of three seats with a condition: seat 0 waits there, and seat 1 owns and signals.

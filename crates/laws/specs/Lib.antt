@@ -1,3 +1,4 @@
+pub mod Below
 pub mod Breaks
 pub mod Forgetful
 pub mod OutOfTurn

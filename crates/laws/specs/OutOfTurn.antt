@@ -1,13 +1,7 @@
 -- Histories in which somebody is overtaken, waits twice or releases what it lacks. None of them is legal.
 use Rattle.std.specs.Prelude.{ℕ, List, [], ◌∷◌}
-use Rattle.history.specs.declared.entry.Entry.{Entry}
-use Rattle.history.specs.declared.entry.Mode.TheVariants.{X}
-use Rattle.history.specs.declared.entry.Word.{Word}
+use Rattle.laws.specs.Below.{Entry, X, Word, Header, Lock, Fair, Strict, plain}
 use Rattle.history.specs.declared.entry.Word.TheVariants as word
-use Rattle.history.specs.declared.header.Header.{Header}
-use Rattle.history.specs.declared.header.Object.TheVariants.{Lock}
-use Rattle.history.specs.declared.header.Policy.TheVariants.{Fair, Strict}
-use Rattle.history.specs.Steps.{plain}
 
 -- a fair lock of three seats
 abbrev pub fair_lock : Header

@@ -1,8 +1,6 @@
 -- That a waiter was woken: an entry named it since it could go, or was its own.
 use Rattle.std.specs.Prelude.{◌≡◌, ◌⊎◌, ℕ, List, [], ◌∷◌, Some}
-use Rattle.history.specs.declared.entry.Entry.{Entry}
-use Rattle.history.specs.Naming.{named, ready}
-use Rattle.history.specs.Start.{Start}
+use Rattle.laws.specs.Below.{Entry, named, ready, Start}
 
 -- among the newest entries after which the seat was the head of the queue and could go, one named it or was
 -- its own

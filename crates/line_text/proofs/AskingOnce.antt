@@ -1,6 +1,5 @@
 -- Lines that ask for 1.
-use Rattle.std.proofs.Common.{◌≡◌, ℕ, List, [], ◌∷◌, ◌++◌, length, decimal, append_assoc, ap, ◌∙◌, arith}
-use Rattle.std.specs.Prelude.{codes}
+use Rattle.std.proofs.Common.{◌≡◌, ℕ, List, [], ◌∷◌, ◌++◌, length, decimal, append_assoc, ap, ◌∙◌, arith, codes}
 use Rattle.std.proofs.lemmas.Fmt.{decimal_digit}
 use Rattle.history.specs.declared.entry.Mode.{Mode}
 use Rattle.history.specs.EntryWords.{mode_word}

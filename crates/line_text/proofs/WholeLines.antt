@@ -1,7 +1,7 @@
 -- Lines of words that hold neither spaces nor breaks hold no break.
-use Rattle.std.proofs.Common.{◌≡◌, ℕ, Bool, true, not, ltb, eqb, List, [], ◌∷◌, ◌++◌, arith}
+use Rattle.std.proofs.Common.{◌≡◌, ℕ, Bool, true, not, ltb, eqb, List, [], ◌∷◌, ◌++◌, arith, ltb-true}
 use Rattle.std.specs.List.{list_all}
-use Rattle.std.proofs.lemmas.Bool.{ltb-true, eqb-false, not-true, and_parts}
+use Rattle.std.proofs.lemmas.Bool.{eqb-false, not-true, and_parts}
 use Rattle.history.specs.declared.header.Header.{Header}
 use Rattle.history.specs.Header.{IsInRange}
 use Rattle.history.specs.Spelling.{part_words, part_of}

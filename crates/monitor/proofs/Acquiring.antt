@@ -1,39 +1,15 @@
 -- The first step of an acquire, and how its parts fit together.
-use Rattle.std.proofs.Common.{◌≡◌, ◌≢◌, ◌⊎◌, inl, inr, ⊎_elim, ℕ, eqb, Bool, true, false, cond, List, [], ◌∷◌, Option, Some, None, is_some, IsSome, IfErr, Result, Ok, Err, refl, sym, ap, ◌∙◌, subst}
+use Rattle.std.proofs.Common.{◌≡◌, ◌≢◌, ◌⊎◌, inl, inr, ⊎_elim, ℕ, eqb, Bool, true, false, cond, List, [], ◌∷◌, Option, Some, None, is_some, IsSome, IfErr, Result, Ok, Err, refl, sym, ap, ◌∙◌, subst, eq-eqb, eqb-true}
 use Rattle.std.specs.List.{filter}
-use Rattle.std.proofs.lemmas.Bool.{eq-eqb, eqb-true}
-use Rattle.history.specs.Could.{could, limit, held_back}
-use Rattle.history.specs.Counts.{counts}
-use Rattle.history.specs.Line.{line, place_of, first_mode}
-use Rattle.history.specs.Phase.{Phase, Idle, InLine, Sleeping, phase, suits, waits}
-use Rattle.history.specs.Sleepers.{sleeps_below}
-use Rattle.history.specs.Base.{Base, based}
-use Rattle.history.specs.Start.{Start}
-use Rattle.history.specs.Steps.{entry_for, phase_entry, idle_entry, plain}
-use Rattle.history.specs.declared.entry.Entry.{Entry}
-use Rattle.history.specs.declared.entry.Mode.{Mode}
-use Rattle.history.specs.declared.entry.Word.{Word}
+use Rattle.monitor.specs.Below.{could, limit, held_back, counts, line, place_of, first_mode, Phase, Idle, InLine, Sleeping, phase, suits, waits, sleeps_below, Base, based, Start, entry_for, phase_entry, idle_entry, plain, Entry, Mode, Word, Fault, Recorded, Step, Acquire, TryFair, EntryInterrupt, Before, Deed, interrupted, took_interrupt}
 use Rattle.history.specs.declared.entry.Word.TheVariants as word
-use Rattle.history.specs.declared.fault.Fault.{Fault}
 use Rattle.history.specs.declared.fault.Fault.TheVariants as fault
-use Rattle.history.specs.declared.step.Answer.TheVariants.{Recorded}
-use Rattle.history.specs.declared.step.Step.{Step}
-use Rattle.history.specs.declared.step.Step.TheVariants.{Acquire, TryFair, EntryInterrupt}
 use Rattle.history.proofs.Entering.{admitted}
 use Rattle.history.proofs.LineLemmas.{line_after, stays}
 use Rattle.history.proofs.SleepLemmas.{idle_parts}
-use Rattle.word_lock.specs.Point.{Before}
 use Rattle.word_lock.proofs.PointLaws.{before_refl, before_trans}
-use Rattle.monitor.specs.Lawful.{start_at, view_of}
-use Rattle.monitor.specs.Shown.{Shown}
-use Rattle.monitor.specs.Stepping.{IsSame, IsStep, IsEntered, IsUnparked}
-use Rattle.permit.specs.Deed.{Deed, interrupted, took_interrupt}
-use Rattle.monitor.specs.declared.how.How.{How}
-use Rattle.monitor.specs.declared.how.How.TheVariants.{Plain, Interruptible, Timed}
-use Rattle.monitor.specs.declared.waiting.Limits.{Limits}
+use Rattle.monitor.specs.Prelude.{start_at, view_of, Shown, IsSame, IsStep, IsEntered, IsUnparked, How, Plain, Interruptible, Timed, Limits, AtOnce, IsEndFor, IsUntil, LimitsFor, EndsAtOnce, EndsUnrecorded, IsAcquire, WasInterrupted, WasNotInterrupted, first_step, is_interruptible, is_timed, has_time, AfterPark, StandsFor, IsMade, IsLast, IsNotLost, in_line, WaitsAs, asking}
 use Rattle.monitor.specs.declared.waiting.Stage.TheVariants.{Parks}
-use Rattle.monitor.specs.Acquire.{AtOnce, IsEndFor, IsUntil, LimitsFor, EndsAtOnce, EndsUnrecorded, IsAcquire, WasInterrupted, WasNotInterrupted, first_step, is_interruptible, is_timed, has_time}
-use Rattle.monitor.specs.Waits.{AfterPark, StandsFor, IsMade, IsLast, IsNotLost, in_line, WaitsAs, asking}
 use Rattle.monitor.specs.inner.Waits.{IsEnd, IsWait, IsWaited}
 use Rattle.monitor.proofs.Turns.{there_later}
 use Rattle.history.proofs.Staying.{place_filter, place_behind}

@@ -1,33 +1,11 @@
 -- What a section of the lock leaves on the fast way.
 use Rattle.std.proofs.Common.{◌≡◌, inl, ℕ, ◌+◌, Bool, false, [], ◌∷◌, Option, Result, Ok, Err, refl, sym, ap, ◌∙◌}
-use Rattle.history.specs.declared.entry.Entry.{Entry}
-use Rattle.history.specs.declared.fault.Fault.{Fault}
-use Rattle.history.specs.declared.step.Answer.{Answer}
-use Rattle.history.specs.declared.step.Answer.TheVariants.{Recorded, Sleep}
-use Rattle.history.specs.declared.step.Step.{Step}
-use Rattle.history.specs.declared.step.Step.TheVariants.{Acquire, Try, TryFair, Give}
-use Rattle.history.specs.Entries.{ended_calls}
-use Rattle.history.specs.Phase.{waits}
-use Rattle.frame.specs.AtOnce.{entry_at_once}
-use Rattle.frame.specs.Core.{CoreView, counts_of, made_by}
-use Rattle.permit.specs.Deed.{Deed}
-use Rattle.word_lock.specs.Point.{Follows}
-use Rattle.word_lock.specs.Ticket.{Ticket, after_lock, first_seat}
-use Rattle.monitor.specs.Lawful.{point_of, IsLawfulCore}
-use Rattle.monitor.specs.Load.{Moves, free_of}
-use Rattle.monitor.specs.Acquire.{WasNotInterrupted}
-use Rattle.monitor.specs.Machine.{begins_wait, begun, first_turn, next_by, step_by}
-use Rattle.monitor.specs.Room.{IsCallIn, IsEnteredIn, IsStepIn}
-use Rattle.monitor.specs.Shown.{Shown, IsPass, shown}
-use Rattle.monitor.specs.Stepping.{IsUnparked}
+use Rattle.monitor.specs.Below.{Entry, Fault, Answer, Recorded, Sleep, Step, Acquire, Try, TryFair, Give, ended_calls, waits, entry_at_once, CoreView, counts_of, made_by, Deed, Follows, Ticket, after_lock, first_seat}
+use Rattle.monitor.specs.Prelude.{point_of, IsLawfulCore, Moves, free_of, WasNotInterrupted, begins_wait, begun, first_turn, next_by, step_by, IsCallIn, IsEnteredIn, IsStepIn, Shown, IsPass, shown, IsUnparked, How, Request, WhenFull, Refuse, Trim}
 use Rattle.monitor.specs.inner.CoreSteps.{IsCoreStep, IsCoreStepBy}
 use Rattle.monitor.specs.inner.Sections.{Went}
 use Rattle.monitor.specs.inner.Stepping.{entry_in, named_in}
-use Rattle.monitor.specs.declared.how.How.{How}
-use Rattle.monitor.specs.declared.machine.Request.{Request}
 use Rattle.monitor.specs.declared.machine.Request.TheVariants as request
-use Rattle.monitor.specs.declared.room.WhenFull.{WhenFull}
-use Rattle.monitor.specs.declared.room.WhenFull.TheVariants.{Refuse, Trim}
 use Rattle.monitor.proofs.Rooms.{Around, around_step, called_in, follows_room, moves_in, moves_step, pass_in, step_in}
 use Rattle.monitor.proofs.RoomTurns.{ends_in, entered_err, entered_ok, no_sleep_in}
 use Rattle.monitor.proofs.Sections.{called_by, owed_shown, sectioned, section_pass, section_step}

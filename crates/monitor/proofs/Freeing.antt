@@ -1,44 +1,16 @@
 -- How many permits are free after a step, and what that makes of a counted load.
-use Rattle.std.proofs.Common.{◌≡◌, ◌⊎◌, inl, inr, ⊎_elim, ℕ, ◌<◌, Bool, true, false, not, cond, nat_lt, length, Some, List, [], ◌∷◌, ◌++◌, Result, Ok, Err, refl, sym, ap, ◌∙◌, subst, arith}
-use Rattle.std.specs.Prelude.{ℤ, pos, negsuc, ◌+ℤ◌, ◌-ℤ◌, ◌≤ℤ◌, int_lt}
+use Rattle.std.proofs.Common.{◌≡◌, ◌⊎◌, inl, inr, ⊎_elim, ℕ, ◌<◌, Bool, true, false, not, cond, nat_lt, length, Some, List, [], ◌∷◌, ◌++◌, Result, Ok, Err, refl, sym, ap, ◌∙◌, subst, arith, ℤ, pos, negsuc, ◌+ℤ◌, ◌-ℤ◌, ◌≤ℤ◌, int_lt}
 use Rattle.std.proofs.lemmas.Int.{ints}
-use Rattle.history.specs.declared.entry.Entry.{Entry}
+use Rattle.monitor.specs.Below.{Entry, Mode, X, S, Word, Fault, Header, Object, Lock, ReadWrite, Semaphore, Latch, Point, Answer, Recorded, Sleep, Step, Acquire, Try, TryFair, EntryInterrupt, Give, Await, Signal, SignalAll, Drain, Look, Expire, Interrupt, Base, based, could, could_of, held_back, is_seat, limit, try_held_back, Counts, counts, free, free_after, owner, first_mode, CanFold, is_semaphore, Phase, Idle, phase, suits, waits, sleepers, Start, opening, at_least_none, at_most_one, awaits, entry_for, gave, idle_entry, plain, signals, CoreView, IsAnswered, counts_of, made_by, IsAllowed, drain_answer_of, LockId, Ticket, first_entries}
 use Rattle.history.specs.declared.entry.End.TheVariants as end
-use Rattle.history.specs.declared.entry.Mode.{Mode}
-use Rattle.history.specs.declared.entry.Mode.TheVariants.{X, S}
-use Rattle.history.specs.declared.entry.Word.{Word}
 use Rattle.history.specs.declared.entry.Word.TheVariants as word
-use Rattle.history.specs.declared.fault.Fault.{Fault}
 use Rattle.history.specs.declared.fault.Fault.TheVariants as fault
-use Rattle.history.specs.declared.header.Header.{Header}
-use Rattle.history.specs.declared.header.Object.{Object}
-use Rattle.history.specs.declared.header.Object.TheVariants.{Lock, ReadWrite, Semaphore, Latch}
-use Rattle.history.specs.declared.point.Point.{Point}
-use Rattle.history.specs.declared.step.Answer.{Answer}
-use Rattle.history.specs.declared.step.Answer.TheVariants.{Recorded, Sleep}
-use Rattle.history.specs.declared.step.Step.{Step}
-use Rattle.history.specs.declared.step.Step.TheVariants.{Acquire, Try, TryFair, EntryInterrupt, Give, Await, Signal, SignalAll, Drain, Look, Expire, Interrupt}
-use Rattle.history.specs.Base.{Base, based}
-use Rattle.history.specs.Could.{could, could_of, held_back, is_seat, limit, try_held_back}
-use Rattle.history.specs.Counts.{Counts, counts, free, free_after, owner}
-use Rattle.history.specs.Line.{first_mode}
-use Rattle.history.specs.Point.{CanFold}
-use Rattle.history.specs.Object.{is_semaphore}
-use Rattle.history.specs.Phase.{Phase, Idle, phase, suits, waits}
-use Rattle.history.specs.Sleepers.{sleepers}
-use Rattle.history.specs.Start.{Start, opening}
-use Rattle.history.specs.Steps.{at_least_none, at_most_one, awaits, entry_for, gave, idle_entry, plain, signals}
 use Rattle.history.proofs.Answering.{entry_seat}
 use Rattle.history.proofs.Entering.{KnownBy, admitted, known}
 use Rattle.history.proofs.GoodBases.{good_waits}
 use Rattle.history.proofs.OneWait.{waits_from}
-use Rattle.frame.specs.Core.{CoreView, IsAnswered, counts_of, made_by}
-use Rattle.frame.specs.Effects.{IsAllowed}
-use Rattle.frame.specs.Hooks.{drain_answer_of}
 use Rattle.frame.proofs.Counting.{allowed}
-use Rattle.word_lock.specs.Ticket.{LockId, Ticket, first_entries}
-use Rattle.monitor.specs.Lawful.{IsLawfulCore, point_of, start_at}
-use Rattle.monitor.specs.Load.{Brings, IsFreeAfter, Moves, given_by}
+use Rattle.monitor.specs.Prelude.{IsLawfulCore, point_of, start_at, Brings, IsFreeAfter, Moves, given_by}
 use Rattle.monitor.proofs.Acquiring.{idle_made}
 use Rattle.monitor.proofs.InLine.{records}
 use Rattle.monitor.proofs.Sections.{Left, Section, answered_shown, left, mine_grown, sectioned}

@@ -1,36 +1,13 @@
 -- Which steps may let the last exclusive hold of a lock go: a release, and an await.
-use Rattle.std.proofs.Common.{◌≡◌, ℕ, ◌<◌, ◌≤◌, ◌&&◌, ◌==◌, Bool, true, false, not, cond, nat_lt, Some, length, List, ◌∷◌, ◌++◌, Result, Ok, Err, refl, sym, ap, ◌∙◌, subst, arith}
-use Rattle.std.specs.Prelude.{pos, ◌+ℤ◌, int_lt}
+use Rattle.std.proofs.Common.{◌≡◌, ℕ, ◌<◌, ◌≤◌, ◌&&◌, ◌==◌, Bool, true, false, not, cond, nat_lt, Some, length, List, ◌∷◌, ◌++◌, Result, Ok, Err, refl, sym, ap, ◌∙◌, subst, arith, pos, ◌+ℤ◌, int_lt}
 use Rattle.std.proofs.lemmas.Bool.{and_parts}
-use Rattle.history.specs.declared.entry.Entry.{Entry}
+use Rattle.monitor.specs.Below.{Entry, Mode, X, S, Word, Fault, Object, Lock, ReadWrite, Semaphore, Latch, Answer, Recorded, Sleep, Step, Acquire, Try, TryFair, EntryInterrupt, Give, Await, Signal, SignalAll, Drain, Look, Expire, Interrupt, Base, based, could, held_back, is_seat, limit, try_held_back, Counts, counts, held, holds_after, owner, same_mode, first_mode, in_holds, is_lock, Phase, Idle, phase, suits, waits, sleepers, Start, at_most_one, entry_for, gave, idle_entry, plain, signals, CoreView, IsAnswered, made_by}
 use Rattle.history.specs.declared.entry.End.TheVariants as end
-use Rattle.history.specs.declared.entry.Mode.{Mode}
-use Rattle.history.specs.declared.entry.Mode.TheVariants.{X, S}
-use Rattle.history.specs.declared.entry.Word.{Word}
 use Rattle.history.specs.declared.entry.Word.TheVariants as word
-use Rattle.history.specs.declared.fault.Fault.{Fault}
 use Rattle.history.specs.declared.fault.Fault.TheVariants as fault
-use Rattle.history.specs.declared.header.Object.{Object}
-use Rattle.history.specs.declared.header.Object.TheVariants.{Lock, ReadWrite, Semaphore, Latch}
-use Rattle.history.specs.declared.step.Answer.{Answer}
-use Rattle.history.specs.declared.step.Answer.TheVariants.{Recorded, Sleep}
-use Rattle.history.specs.declared.step.Step.{Step}
-use Rattle.history.specs.declared.step.Step.TheVariants.{Acquire, Try, TryFair, EntryInterrupt, Give, Await, Signal, SignalAll, Drain, Look, Expire, Interrupt}
-use Rattle.history.specs.Base.{Base, based}
-use Rattle.history.specs.Could.{could, held_back, is_seat, limit, try_held_back}
-use Rattle.history.specs.Counts.{Counts, counts, held, holds_after, owner}
-use Rattle.history.specs.Entry.{same_mode}
-use Rattle.history.specs.Line.{first_mode}
-use Rattle.history.specs.Object.{in_holds, is_lock}
-use Rattle.history.specs.Phase.{Phase, Idle, phase, suits, waits}
-use Rattle.history.specs.Sleepers.{sleepers}
-use Rattle.history.specs.Start.{Start}
-use Rattle.history.specs.Steps.{at_most_one, entry_for, gave, idle_entry, plain, signals}
 use Rattle.history.proofs.Answering.{entry_seat}
 use Rattle.history.proofs.Entering.{KnownBy, admitted, known}
-use Rattle.frame.specs.Core.{CoreView, IsAnswered, made_by}
-use Rattle.monitor.specs.Lawful.{IsLawfulCore, point_of}
-use Rattle.monitor.specs.Load.{LetsGo}
+use Rattle.monitor.specs.Prelude.{IsLawfulCore, point_of, LetsGo}
 use Rattle.monitor.proofs.Acquiring.{idle_made}
 use Rattle.monitor.proofs.InLine.{records}
 use Rattle.monitor.proofs.Sections.{Left, answered_shown, left}

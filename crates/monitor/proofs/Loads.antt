@@ -1,44 +1,17 @@
 -- What a turn of the lock is to a load.
-use Rattle.std.proofs.Common.{◌≡◌, ◌≢◌, ℕ, ◌-◌, ◌<◌, ◌==◌, Bool, true, false, ◌&&◌, not, cond, length, Some, List, [], ◌∷◌, ◌++◌, Result, Ok, Err, refl, sym, ap, ◌∙◌, subst}
+use Rattle.std.proofs.Common.{◌≡◌, ◌≢◌, ℕ, ◌-◌, ◌<◌, ◌==◌, Bool, true, false, ◌&&◌, not, cond, length, Some, List, [], ◌∷◌, ◌++◌, Result, Ok, Err, refl, sym, ap, ◌∙◌, subst, ℤ, pos}
 use Rattle.std.specs.List.{AllByRecursion}
-use Rattle.std.specs.Prelude.{ℤ, pos}
-use Rattle.deciding.specs.Balance.{available}
+use Rattle.monitor.specs.Below.{available, Entry, Mode, X, Word, Fault, Header, Object, Point, Answer, Recorded, Sleep, Step, Signal, SignalAll, Base, based, folded, opening_base, is_seat, Counts, counted, counted_after, counts, free, free_after, held, holds_after, owner, same_mode, is_lock, opening_count, waits, sleepers, Start, opening, at_most_one, entry_for, plain, signals, CoreView, IsAnswered, IsTrimmed, counts_of, start_of, made_by, AreAlike, header_of, Agrees}
 use Rattle.history.specs.declared.entry.End.TheVariants as end
-use Rattle.history.specs.declared.entry.Entry.{Entry}
-use Rattle.history.specs.declared.entry.Mode.{Mode}
-use Rattle.history.specs.declared.entry.Mode.TheVariants.{X}
-use Rattle.history.specs.declared.entry.Word.{Word}
 use Rattle.history.specs.declared.entry.Word.TheVariants as word
-use Rattle.history.specs.declared.fault.Fault.{Fault}
 use Rattle.history.specs.declared.fault.Fault.TheVariants as fault
-use Rattle.history.specs.declared.header.Header.{Header}
-use Rattle.history.specs.declared.header.Object.{Object}
-use Rattle.history.specs.declared.point.Point.{Point}
-use Rattle.history.specs.declared.step.Answer.{Answer}
-use Rattle.history.specs.declared.step.Answer.TheVariants.{Recorded, Sleep}
-use Rattle.history.specs.declared.step.Step.{Step}
-use Rattle.history.specs.declared.step.Step.TheVariants.{Signal, SignalAll}
-use Rattle.history.specs.Base.{Base, based, folded, opening_base}
-use Rattle.history.specs.Could.{is_seat}
-use Rattle.history.specs.Counts.{Counts, counted, counted_after, counts, free, free_after, held, holds_after, owner}
-use Rattle.history.specs.Entry.{same_mode}
-use Rattle.history.specs.Object.{is_lock, opening_count}
-use Rattle.history.specs.Phase.{waits}
-use Rattle.history.specs.Sleepers.{sleepers}
-use Rattle.history.specs.Start.{Start, opening}
-use Rattle.history.specs.Steps.{at_most_one, entry_for, plain, signals}
 use Rattle.history.proofs.Alike.{Alike}
 use Rattle.history.proofs.Folding.{fold_alike}
 use Rattle.history.proofs.GoodFolds.{owned_behind}
 use Rattle.history.proofs.OpeningBase.{based_opening}
 use Rattle.history.proofs.SleepLemmas.{held_other}
-use Rattle.frame.specs.Core.{CoreView, IsAnswered, IsTrimmed, counts_of, start_of, made_by}
-use Rattle.frame.specs.Hooks.{AreAlike}
-use Rattle.word_lock.specs.Point.{header_of, Agrees}
-use Rattle.monitor.specs.Lawful.{IsLawfulCore, IsLawful, point_of, start_at}
-use Rattle.monitor.specs.Load.{IsFree, IsOneOwner, IsTurn, holds_by, holds_of, opened_counts}
+use Rattle.monitor.specs.Prelude.{IsLawfulCore, IsLawful, point_of, start_at, IsFree, IsOneOwner, IsTurn, holds_by, holds_of, opened_counts, Shown, IsSound}
 use Rattle.monitor.specs.inner.Load.{is_signal}
-use Rattle.monitor.specs.Shown.{Shown, IsSound}
 use Rattle.monitor.proofs.Acquiring.{idle_made}
 use Rattle.monitor.proofs.Freeing.{turn_frees}
 use Rattle.monitor.proofs.InLine.{records}

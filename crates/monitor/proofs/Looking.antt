@@ -1,15 +1,9 @@
 -- What a section of the lock leaves that changes nothing.
 use Rattle.std.proofs.Common.{◌≡◌, [], ℕ, refl, sym, ap, ◌∙◌}
-use Rattle.history.specs.Entries.{ended_calls}
-use Rattle.history.specs.declared.point.Point.{Point}
-use Rattle.word_lock.specs.Point.{Before, Follows}
-use Rattle.word_lock.specs.Rule.{AllAgree}
-use Rattle.word_lock.specs.Ticket.{Ticket, after_lock, after_unlock, first_seat}
+use Rattle.monitor.specs.Below.{ended_calls, Point, Before, Follows, AllAgree, Ticket, after_lock, after_unlock, first_seat}
 use Rattle.word_lock.proofs.PointLaws.{follows_same, added_more}
 use Rattle.word_lock.proofs.Sections.{follows_taken, section}
-use Rattle.monitor.specs.Lawful.{IsLawful}
-use Rattle.monitor.specs.Shown.{shown, IsPass}
-use Rattle.monitor.specs.Observing.{IsLook}
+use Rattle.monitor.specs.Prelude.{IsLawful, shown, IsPass, IsLook}
 use Rattle.monitor.proofs.Sections.{mine_stays, passed}
 
 -- what was taken at a point may be given back there

@@ -1,24 +1,16 @@
 -- The passes of all seats: their shares together are the calls of the history.
-use Rattle.std.proofs.Common.{◌≡◌, ⊎_elim, ◌==◌, ℕ, zero, suc, ◌+◌, ◌<◌, ◌≤◌, ltb, Bool, true, false, cond, List, [], ◌∷◌, ◌++◌, length, refl, sym, ap, ◌∙◌, subst, arith}
+use Rattle.std.proofs.Common.{◌≡◌, ⊎_elim, ◌==◌, ℕ, zero, suc, ◌+◌, ◌<◌, ◌≤◌, ltb, Bool, true, false, cond, List, [], ◌∷◌, ◌++◌, length, refl, sym, ap, ◌∙◌, subst, arith, eq-eqb, eqb-true, le-ltb, lt-ltb, ne_eqb}
 use Rattle.std.specs.List.{All}
-use Rattle.std.proofs.lemmas.Bool.{cases_eq, cases_lt, eq-eqb, eqb-true, le-ltb, lt-ltb, ne_eqb}
+use Rattle.std.proofs.lemmas.Bool.{cases_eq, cases_lt}
 use Rattle.std.proofs.lemmas.List.Elements.{All-nil, All-cons, All-head, All-tail, All-weaker}
 use mathlib.Core.Option.{some}
 use lib.ListN.{get_elem?}
-use Rattle.history.specs.Base.{based, calls_of}
-use Rattle.history.specs.Counts.{total}
-use Rattle.history.specs.Legal.{AreSeated, calls}
+use Rattle.monitor.specs.Below.{based, calls_of, total, AreSeated, calls, Point, SeatLog, Before, Agrees, LockId, AllAgree, AreDistinct}
 use Rattle.history.specs.Point as points
 use Rattle.history.proofs.Folding.{calls_counted}
 use Rattle.history.proofs.Points.{calls_by_seat}
-use Rattle.history.specs.declared.point.Point.{Point}
-use Rattle.word_lock.specs.declared.view.SeatLog.{SeatLog}
-use Rattle.word_lock.specs.Point.{Before, Agrees}
-use Rattle.word_lock.specs.Ticket.{LockId}
 use Rattle.word_lock.proofs.PointLaws.{before_trans}
-use Rattle.word_lock.specs.Rule.{AllAgree, AreDistinct}
-use Rattle.monitor.specs.Shown.{Shown, IsSound}
-use Rattle.monitor.specs.Closing.{IsWithin, shares, passes_of, IsMissing}
+use Rattle.monitor.specs.Prelude.{Shown, IsSound, IsWithin, shares, passes_of, IsMissing}
 
 abbrev pub log_of : Shown → SeatLog
 log_of p = record { seat = p.seat; entries = p.mine }

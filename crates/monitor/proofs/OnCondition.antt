@@ -1,33 +1,10 @@
 -- The first step of an await, and how its parts fit together.
 use Rattle.std.proofs.Common.{◌≡◌, ◌≢◌, ◌⊎◌, inl, inr, ℕ, eqb, nat_lt, Bool, true, false, not, cond, List, ◌∷◌, Option, Some, IsSome, IfErr, Result, Ok, Err, refl, sym, ap, ◌∙◌, subst}
-use Rattle.history.specs.Could.{is_seat}
-use Rattle.history.specs.Counts.{Counts, counts, owner}
-use Rattle.history.specs.Base.{Base, based}
-use Rattle.history.specs.Steps.{entry_for, awaits, plain}
-use Rattle.history.specs.declared.entry.End.{End}
+use Rattle.monitor.specs.Below.{is_seat, Counts, counts, owner, Base, based, entry_for, awaits, plain, End, Entry, Mode, X, S, Fault, Recorded, Await, EntryInterrupt, header_of, Before, LockId, SleepsAs, signalled, lapsed, back_from, lapse_from, Deed, interrupted}
 use Rattle.history.specs.declared.entry.End.TheVariants as end
-use Rattle.history.specs.declared.entry.Entry.{Entry}
-use Rattle.history.specs.declared.entry.Mode.{Mode}
-use Rattle.history.specs.declared.entry.Mode.TheVariants.{X, S}
 use Rattle.history.specs.declared.entry.Word.TheVariants as word
-use Rattle.history.specs.declared.fault.Fault.{Fault}
 use Rattle.history.specs.declared.fault.Fault.TheVariants as fault
-use Rattle.history.specs.declared.step.Answer.TheVariants.{Recorded}
-use Rattle.history.specs.declared.step.Step.TheVariants.{Await, EntryInterrupt}
-use Rattle.word_lock.specs.Point.{header_of, Before}
-use Rattle.word_lock.specs.Ticket.{LockId}
-use Rattle.history.specs.Awaiting.{SleepsAs, signalled, lapsed, back_from, lapse_from}
-use Rattle.monitor.specs.Lawful.{start_at, view_of}
-use Rattle.monitor.specs.Load.{holds_of}
-use Rattle.monitor.specs.Shown.{Shown, IsSound}
-use Rattle.monitor.specs.Stepping.{IsSame, IsStep, IsEntered, IsUnparked}
-use Rattle.permit.specs.Deed.{Deed, interrupted}
-use Rattle.monitor.specs.declared.how.How.{How}
-use Rattle.monitor.specs.declared.how.How.TheVariants.{Plain, Interruptible, Timed}
-use Rattle.monitor.specs.declared.waiting.Limits.{Limits}
-use Rattle.monitor.specs.Acquire.{IsUntil, LimitsFor, WasInterrupted, WasNotInterrupted}
-use Rattle.monitor.specs.AwaitOn.{IsAwait, MayLapseFor, LapsesAndReturns, ReturnsSignalled, first_stage, stage_by}
-use Rattle.monitor.specs.Waits.{ComesOf, EndComesOf, IsMade, IsNotLost, WaitsAs, on_condition}
+use Rattle.monitor.specs.Prelude.{start_at, view_of, holds_of, Shown, IsSound, IsSame, IsStep, IsEntered, IsUnparked, How, Plain, Interruptible, Timed, Limits, IsUntil, LimitsFor, WasInterrupted, WasNotInterrupted, IsAwait, MayLapseFor, LapsesAndReturns, ReturnsSignalled, first_stage, stage_by, ComesOf, EndComesOf, IsMade, IsNotLost, WaitsAs, on_condition}
 use Rattle.monitor.specs.inner.Waits.{IsWait, IsWaited, MayBegin, MayLapse, BackFromLapse}
 use Rattle.history.proofs.Awaiting.{falls_asleep}
 use Rattle.monitor.proofs.Acquiring.{idle_made, at_once, made_later, only_timed, refused_at_once}

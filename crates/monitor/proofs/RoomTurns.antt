@@ -1,35 +1,13 @@
 -- Calls that begin by a step that makes room.
 use Rattle.std.proofs.Common.{◌≡◌, ◌≢◌, ◌⊎◌, inl, inr, ℕ, ◌<◌, ◌≤◌, Bool, true, false, Option, IfSome, Result, Ok, Err, refl, sym, ap, ◌∙◌, subst}
-use Rattle.history.specs.declared.entry.Entry.{Entry}
-use Rattle.history.specs.declared.fault.Fault.{Fault}
-use Rattle.history.specs.declared.fault.Fault.TheVariants.{HistoryFull, TrimFull}
-use Rattle.history.specs.declared.point.Point.{Point}
-use Rattle.history.specs.declared.step.Answer.{Answer}
-use Rattle.history.specs.declared.step.Answer.TheVariants.{Recorded, Sleep}
-use Rattle.history.specs.declared.step.Step.{Step}
-use Rattle.history.specs.Phase.{waits}
-use Rattle.permit.specs.Deed.{Deed, interrupted}
-use Rattle.word_lock.specs.Point.{Before}
+use Rattle.monitor.specs.Below.{Entry, Fault, HistoryFull, TrimFull, Point, Answer, Recorded, Sleep, Step, waits, Deed, interrupted, Before, fold_of}
 use Rattle.word_lock.proofs.PointLaws.{before_refl, before_trans}
-use Rattle.monitor.specs.Acquire.{WasInterrupted, WasNotInterrupted}
-use Rattle.monitor.specs.Interrupts.{tells_interrupt}
-use Rattle.monitor.specs.Machine.{IsBegun, IsCall, begins_wait, begun, first_turn, next_by, step_by}
+use Rattle.monitor.specs.Prelude.{WasInterrupted, WasNotInterrupted, tells_interrupt, IsBegun, IsCall, begins_wait, begun, first_turn, next_by, step_by, InRoom, IsBegunIn, IsCallIn, IsEnteredIn, IsStepIn, IsTooMany, at_point, Shown, IsSound, IsEntered, IsSame, IsStep, IsUnparked, How, Ends, Waits, Request, Turn, Waiting, WhenFull, Refuse, Trim}
 use Rattle.monitor.specs.inner.Machine.{WasShown}
-use Rattle.monitor.specs.Room.{InRoom, IsBegunIn, IsCallIn, IsEnteredIn, IsStepIn, IsTooMany, at_point}
-use Rattle.monitor.specs.Shown.{Shown, IsSound}
-use Rattle.monitor.specs.Stepping.{IsEntered, IsSame, IsStep, IsUnparked}
 use Rattle.monitor.specs.inner.Stepping.{named_in}
 use Rattle.monitor.specs.inner.Waits.{IsReply}
-use Rattle.monitor.specs.declared.how.How.{How}
-use Rattle.monitor.specs.declared.machine.Next.TheVariants.{Ends, Waits}
-use Rattle.monitor.specs.declared.machine.Request.{Request}
-use Rattle.monitor.specs.declared.machine.Turn.{Turn}
-use Rattle.monitor.specs.declared.machine.Waiting.{Waiting}
-use Rattle.monitor.specs.declared.room.WhenFull.{WhenFull}
-use Rattle.monitor.specs.declared.room.WhenFull.TheVariants.{Refuse, Trim}
 use Rattle.monitor.proofs.InLine.{named_place, no_sleep}
 use Rattle.monitor.proofs.TurnByTurn.{begun_ends, begun_refused, begun_waits, named_first, never_waits, step_idle, waited_ends}
-use Rattle.word_lock.specs.Point.{fold_of}
 
 -- what a call makes of its first step
 pub map_room : {A B : Type 0} (w : WhenFull) (asks more : Step → Type 0)

@@ -1,38 +1,16 @@
 -- What a section of the lock with a step that makes room leaves.
-use Rattle.std.proofs.Common.{◌≡◌, ◌≢◌, inl, inr, ℕ, ◌+◌, Bool, true, false, List, [], ◌++◌, Result, Ok, Err, refl, sym, ap, ◌∙◌, subst}
-use Rattle.std.specs.Prelude.{ℤ, ◌+ℤ◌}
-use Rattle.std.proofs.lemmas.List.{append-nil}
-use Rattle.history.specs.declared.entry.Entry.{Entry}
-use Rattle.history.specs.declared.fault.Fault.{Fault}
-use Rattle.history.specs.declared.fault.Fault.TheVariants.{HistoryFull, TrimFull}
-use Rattle.history.specs.declared.point.Point.{Point}
-use Rattle.history.specs.declared.step.Answer.{Answer}
-use Rattle.history.specs.declared.step.Step.{Step}
-use Rattle.history.specs.Base.{Base, based, folded}
-use Rattle.history.specs.Counts.{free}
-use Rattle.history.specs.Entries.{ended_calls}
-use Rattle.history.specs.Start.{opening}
+use Rattle.std.proofs.Common.{◌≡◌, ◌≢◌, inl, inr, ℕ, ◌+◌, Bool, true, false, List, [], ◌++◌, Result, Ok, Err, refl, sym, ap, ◌∙◌, subst, ℤ, ◌+ℤ◌, append-nil}
+use Rattle.monitor.specs.Below.{Entry, Fault, HistoryFull, TrimFull, Point, Answer, Step, Base, based, folded, free, ended_calls, opening, CoreView, IsAnswered, IsTold, IsTrimFull, IsTrimmed, counts_of, made_by, Agrees, Before, Follows, added, AllAgree, LockId, Ticket, first_entries, first_seat, after_lock, after_unlock, fold_of}
 use Rattle.history.proofs.Folding.{fold_alike}
-use Rattle.frame.specs.Core.{CoreView, IsAnswered, IsTold, IsTrimFull, IsTrimmed, counts_of, made_by}
-use Rattle.word_lock.specs.Point.{Agrees, Before, Follows, added}
-use Rattle.word_lock.specs.Rule.{AllAgree}
-use Rattle.word_lock.specs.Ticket.{LockId, Ticket, first_entries, first_seat, after_lock, after_unlock}
 use Rattle.word_lock.proofs.PointLaws.{added_behind, before_header, before_refl, before_trans, follows_before, follows_behind, follows_fold, follows_own}
 use Rattle.word_lock.proofs.Sections.{IsSection, follows_taken, section}
-use Rattle.monitor.specs.Calling.{Called}
-use Rattle.monitor.specs.Lawful.{point_of, start_at, view_of, IsLawfulCore, IsLawful}
-use Rattle.monitor.specs.Load.{Moves, holds_in}
-use Rattle.monitor.specs.Room.{IsFold, IsStepIn, IsTooMany, at_point}
+use Rattle.monitor.specs.Prelude.{Called, point_of, start_at, view_of, IsLawfulCore, IsLawful, Moves, holds_in, IsFold, IsStepIn, IsTooMany, at_point, Trim, IsPass, shown, IsStep}
 use Rattle.monitor.specs.inner.CoreSteps.{IsCoreFold, IsCoreStep, IsCoreStepIn, is_full}
-use Rattle.monitor.specs.declared.room.WhenFull.TheVariants.{Trim}
-use Rattle.monitor.specs.Shown.{IsPass, shown}
-use Rattle.monitor.specs.Stepping.{IsStep}
 use Rattle.monitor.specs.inner.Sections.{Taking}
 use Rattle.monitor.proofs.Freeing.{both_free, moves_own, section_frees, stays}
 use Rattle.monitor.proofs.Loads.{counts_folded, holds_at}
 use Rattle.monitor.proofs.Sections.{Left, Section, added_step, answered_shown, called_by, calls_more, follows_step, left, owed_shown, own_entries, passed, section_step}
 use Rattle.monitor.proofs.Beside.{beside_of}
-use Rattle.word_lock.specs.Point.{fold_of}
 
 -- which answers say that there was no room
 pub full_is : (r : Result Answer Fault) → is_full r ≡ true → r ≡ Err HistoryFull

@@ -2,49 +2,16 @@
 use Rattle.std.proofs.Common.{◌≡◌, ◌==◌, inl, inr, ℕ, ◌+◌, ◌<◌, ◌≤◌, ◌^◌, Bool, cond, List, [], ◌∷◌, ◌++◌, length, Result, Ok, Err, Option, Some, None, IsOk, refl, sym, ap, ◌∙◌, subst, arith}
 use Rattle.std.specs.List.{AllByRecursion, filter}
 use Rattle.std.proofs.lemmas.Bool.{cond_both}
-use Rattle.history.specs.Answers.{answer, answer_by}
-use Rattle.history.specs.Entries.{ended_calls}
-use Rattle.history.specs.Entry.{ends_call}
-use Rattle.history.specs.Base.{seat_of}
-use Rattle.history.specs.Legal.{calls}
-use Rattle.history.specs.Point.{entries_of}
+use Rattle.monitor.specs.Below.{answer, answer_by, ended_calls, ends_call, seat_of, calls, entries_of, named, has_room, Start, entry_for, Entry, Fault, Answer, Recorded, Step, Header, CoreView, start_of, IsAnswered, IsTold, MakesOwed, made_by, Point, SeatLog, header_of, Before, Follows, added, Agrees, AllAgree, LockId, Ticket, first_seat, first_entries, after_lock, after_unlock, after_meet}
 use Rattle.history.proofs.Times.{total_part}
-use Rattle.history.specs.Naming.{named}
-use Rattle.history.specs.Room.{has_room}
-use Rattle.history.specs.Start.{Start}
-use Rattle.history.specs.Steps.{entry_for}
-use Rattle.history.specs.declared.entry.Entry.{Entry}
-use Rattle.history.specs.declared.fault.Fault.{Fault}
 use Rattle.history.specs.declared.fault.Fault.TheVariants as fault
-use Rattle.history.specs.declared.step.Answer.{Answer}
-use Rattle.history.specs.declared.step.Answer.TheVariants.{Recorded}
-use Rattle.history.specs.declared.step.Step.{Step}
 use Rattle.history.proofs.Answering.{entry_seat}
 use lib.ListN.{get_elem?}
-use Rattle.history.specs.declared.header.Header.{Header}
-use Rattle.frame.specs.Core.{CoreView, start_of, IsAnswered, IsTold, MakesOwed, made_by}
-use Rattle.history.specs.declared.point.Point.{Point}
-use Rattle.word_lock.specs.declared.view.SeatLog.{SeatLog}
-use Rattle.word_lock.specs.Point.{header_of, Before, Follows, added, Agrees}
-use Rattle.word_lock.specs.Rule.{AllAgree}
-use Rattle.word_lock.specs.Ticket.{
-  LockId,
-  Ticket,
-  first_seat,
-  first_entries,
-  after_lock,
-  after_unlock,
-  after_meet,
-}
 use Rattle.word_lock.proofs.PointLaws.{before_header, before_refl, before_trans, follows_more, added_more}
 use Rattle.word_lock.proofs.Sections.{IsSection, section}
 use Rattle.word_lock.proofs.Tokens.{one_log}
-use Rattle.monitor.specs.Lawful.{point_of, start_at, view_of, Beside, IsLawfulCore, IsLawful}
-use Rattle.monitor.specs.Calling.{Called}
-use Rattle.monitor.specs.Shown.{Shown, shown, IsPass, IsSound}
-use Rattle.monitor.specs.Stepping.{IsStep, IsStepNow}
+use Rattle.monitor.specs.Prelude.{point_of, start_at, view_of, Beside, IsLawfulCore, IsLawful, Called, Shown, shown, IsPass, IsSound, IsStep, IsStepNow, Now}
 use Rattle.monitor.specs.inner.Stepping.{now_of}
-use Rattle.monitor.specs.declared.step.Now.{Now}
 use Rattle.monitor.proofs.Beside.{beside_of}
 
 -- an answer's history is what was, with the entry that it recorded, which is of the seat

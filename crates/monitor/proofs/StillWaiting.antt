@@ -1,22 +1,11 @@
 -- One who still waits, between its turns: what it has recorded so far, and how it goes on.
 use Rattle.std.specs.Prelude.{◌≡◌, ◌⊎◌, ℕ, Bool, true, false, ◌∷◌, Option, Some, None, Result, Ok, Err}
-use Rattle.history.specs.declared.entry.End.{End}
-use Rattle.history.specs.declared.entry.Entry.{Entry}
-use Rattle.history.specs.declared.fault.Fault.{Fault}
-use Rattle.history.specs.declared.step.Answer.{Answer}
+use Rattle.monitor.specs.Below.{End, Entry, Fault, Answer, Step, named, Deed, Before, lapsed, lapse_from}
 use Rattle.history.specs.declared.step.Answer.TheVariants as answer
-use Rattle.history.specs.declared.step.Step.{Step}
-use Rattle.history.specs.Naming.{named}
 use Rattle.history.specs.Start.{Sleep}
-use Rattle.permit.specs.Deed.{Deed}
-use Rattle.word_lock.specs.Point.{Before}
-use Rattle.history.specs.Awaiting.{lapsed, lapse_from}
-use Rattle.monitor.specs.Shown.{Shown, IsSound}
-use Rattle.monitor.specs.Stepping.{IsSame}
-use Rattle.monitor.specs.declared.waiting.Limits.{Limits}
+use Rattle.monitor.specs.Prelude.{Shown, IsSound, IsSame, Limits, Cause, in_line, on_condition, on_way_back, WaitsAs, HasGivenUp, stage_asleep, is_lapse}
 use Rattle.monitor.specs.declared.waiting.Stage.{Stage}
 use Rattle.monitor.specs.declared.waiting.Stage.TheVariants.{Looks, GivenUp}
-use Rattle.monitor.specs.Waits.{Cause, in_line, on_condition, on_way_back, WaitsAs, HasGivenUp, stage_asleep, is_lapse}
 use Rattle.monitor.specs.inner.Waits.{HasLapsed}
 
 -- the stage of one who hasn't lapsed: as it began, or given up, but not in line

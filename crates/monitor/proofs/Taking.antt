@@ -1,19 +1,9 @@
 -- What a call knows once it has taken the object for its pass, and after it gave it back.
 use Rattle.std.proofs.Common.{◌≡◌, ℕ, ◌<◌, ◌^◌, Result, refl, sym, ap, ◌∙◌, subst}
-use Rattle.history.specs.declared.entry.Mode.{Mode}
-use Rattle.history.specs.declared.fault.Fault.{Fault}
-use Rattle.history.specs.declared.header.Header.{Header}
-use Rattle.history.specs.declared.point.Point.{Point}
-use Rattle.history.specs.declared.step.Answer.{Answer}
-use Rattle.history.specs.declared.step.Step.{Step}
-use Rattle.frame.specs.Core.{CoreView, IsAnswered}
-use Rattle.word_lock.specs.Point.{header_of, Follows}
-use Rattle.word_lock.specs.Ticket.{Ticket, after_lock, first_entries, first_seat}
+use Rattle.monitor.specs.Below.{Mode, Fault, Header, Point, Answer, Step, CoreView, IsAnswered, header_of, Follows, Ticket, after_lock, first_entries, first_seat}
 use Rattle.word_lock.proofs.PointLaws.{before_header}
 use Rattle.word_lock.proofs.Sections.{follows_taken}
-use Rattle.monitor.specs.Lawful.{point_of, IsLawfulCore}
-use Rattle.monitor.specs.Load.{LetsGo, holds_in, holds_of}
-use Rattle.monitor.specs.Shown.{shown, IsPass, IsSound}
+use Rattle.monitor.specs.Prelude.{point_of, IsLawfulCore, LetsGo, holds_in, holds_of, shown, IsPass, IsSound}
 use Rattle.monitor.specs.inner.Sections.{Taking}
 use Rattle.monitor.proofs.Loads.{holds_at, own_holds, true_holds}
 use Rattle.monitor.proofs.Sections.{answered_shown, follows_step, own_entries, seat_below, share_few}

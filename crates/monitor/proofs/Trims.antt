@@ -1,18 +1,9 @@
 -- What a section of the lock with one trim of the core leaves.
 use Rattle.std.proofs.Common.{◌≡◌, [], ℕ, Result, Ok, Err, refl, sym, ap, ◌∙◌, subst}
-use Rattle.history.specs.declared.fault.Fault.{Fault}
-use Rattle.history.specs.declared.point.Point.{Point}
-use Rattle.history.specs.Entries.{ended_calls}
-use Rattle.frame.specs.Core.{CoreView, IsTrimmed}
-use Rattle.word_lock.specs.Point.{Before, Follows, added}
-use Rattle.word_lock.specs.Rule.{AllAgree}
-use Rattle.word_lock.specs.Ticket.{Ticket, first_entries, first_seat, after_lock, after_unlock}
+use Rattle.monitor.specs.Below.{Fault, Point, ended_calls, CoreView, IsTrimmed, Before, Follows, added, AllAgree, Ticket, first_entries, first_seat, after_lock, after_unlock}
 use Rattle.word_lock.proofs.PointLaws.{added_more, follows_fold, follows_more}
 use Rattle.word_lock.proofs.Sections.{IsSection, follows_taken, section}
-use Rattle.monitor.specs.Lawful.{point_of, view_of, Beside, IsLawfulCore, IsLawful}
-use Rattle.monitor.specs.Calling.{Called}
-use Rattle.monitor.specs.Shown.{shown, IsPass}
-use Rattle.monitor.specs.Stepping.{IsTrim}
+use Rattle.monitor.specs.Prelude.{point_of, view_of, Beside, IsLawfulCore, IsLawful, Called, shown, IsPass, IsTrim}
 use Rattle.monitor.proofs.Sections.{called_by, core_shown, mine_stays, own_entries, passed}
 use Rattle.monitor.proofs.Beside.{beside_of}
 

@@ -1,67 +1,15 @@
 -- The turns of a call that may wait, as the call that they make.
-use Rattle.std.proofs.Common.{◌≡◌, ◌≢◌, inl, inr, ℕ, ◌<◌, ◌≤◌, Bool, true, false, cond, eqb, List, Option, Some, None, is_some, IsSome, IfSome, IsOk, Result, Ok, Err, refl, sym, ap, ◌∙◌, subst}
-use Rattle.history.specs.declared.entry.Entry.{Entry}
-use Rattle.history.specs.declared.entry.Mode.{Mode}
-use Rattle.history.specs.declared.entry.Mode.TheVariants.{X}
-use Rattle.history.specs.declared.entry.Word.{Word}
+use Rattle.std.proofs.Common.{◌≡◌, ◌≢◌, inl, inr, ℕ, ◌<◌, ◌≤◌, Bool, true, false, cond, eqb, List, Option, Some, None, is_some, IsSome, IfSome, IsOk, Result, Ok, Err, refl, sym, ap, ◌∙◌, subst, ℤ}
+use Rattle.monitor.specs.Below.{Entry, Mode, X, Word, Fault, Answer, Recorded, Sleep, Step, signalled, free, free_after, waits, opening, Deed, interrupted, parked, Woke, Permit, Deadline, Interrupted, Before, LockId}
 use Rattle.history.specs.declared.entry.Word.TheVariants as word
-use Rattle.history.specs.declared.fault.Fault.{Fault}
 use Rattle.history.specs.declared.fault.Fault.TheVariants as fault
-use Rattle.history.specs.declared.step.Answer.{Answer}
-use Rattle.history.specs.declared.step.Answer.TheVariants.{Recorded, Sleep}
-use Rattle.history.specs.declared.step.Step.{Step}
 use Rattle.history.specs.declared.step.Step.TheVariants as step
-use Rattle.std.specs.Prelude.{ℤ}
-use Rattle.history.specs.Awaiting.{signalled}
-use Rattle.history.specs.Counts.{free, free_after}
-use Rattle.history.specs.Phase.{waits}
-use Rattle.history.specs.Start.{opening}
-use Rattle.permit.specs.Deed.{Deed, interrupted, parked}
-use Rattle.permit.specs.declared.parking.Woke.{Woke}
-use Rattle.permit.specs.declared.parking.Woke.TheVariants.{Permit, Deadline, Interrupted}
-use Rattle.word_lock.specs.Point.{Before}
-use Rattle.word_lock.specs.Ticket.{LockId}
-use Rattle.monitor.specs.Acquire.{LimitsFor, WasInterrupted, WasNotInterrupted, first_step}
-use Rattle.monitor.specs.Interrupts.{tells_interrupt}
-use Rattle.monitor.specs.Load.{LetsGo, free_of, given_by}
-use Rattle.monitor.specs.Machine.{
-  AsksAwait,
-  IsBegun,
-  IsCall,
-  IsGoneOn,
-  at_stage,
-  begins_wait,
-  begun,
-  first_turn,
-  later_turn,
-  limits_at,
-  limits_from,
-  next_behind,
-  next_by,
-  stage_for,
-  step_at,
-  step_by,
-  step_of_waiting,
-  step_within,
-}
+use Rattle.monitor.specs.Prelude.{LimitsFor, WasInterrupted, WasNotInterrupted, first_step, tells_interrupt, LetsGo, free_of, given_by, AsksAwait, IsBegun, IsCall, IsGoneOn, at_stage, begins_wait, begun, first_turn, later_turn, limits_at, limits_from, next_behind, next_by, stage_for, step_at, step_by, step_of_waiting, step_within, Shown, IsSound, IsSame, IsStep, IsStepNow, IsUnparked, answer_of, Now, Done, Busy, AfterPark, Cause, ComesOf, IsNotLost, WaitsAs, in_line, is_lapse, no_limits, on_condition, stage_asleep, asking, How, Plain, Interruptible, Timed, Ends, Waits, Request, Acquire, AwaitOn, Turn, Waiting, Limits}
 use Rattle.monitor.specs.inner.Machine.{WasShown}
-use Rattle.monitor.specs.Shown.{Shown, IsSound}
-use Rattle.monitor.specs.Stepping.{IsSame, IsStep, IsStepNow, IsUnparked, answer_of}
 use Rattle.monitor.specs.inner.Stepping.{named_in}
-use Rattle.monitor.specs.declared.step.Now.{Now}
-use Rattle.monitor.specs.declared.step.Now.TheVariants.{Done, Busy}
-use Rattle.monitor.specs.Waits.{AfterPark, Cause, ComesOf, IsNotLost, WaitsAs, in_line, is_lapse, no_limits, on_condition, stage_asleep, asking}
 use Rattle.monitor.specs.inner.Waits.{IsReply, MayBegin}
 use Rattle.monitor.proofs.StillWaiting.{AllStillWait, SoFar, StillWaits, ending_of, stage_behind, unless_lapse}
 use Rattle.monitor.specs.Waits as of_waits
-use Rattle.monitor.specs.declared.how.How.{How}
-use Rattle.monitor.specs.declared.how.How.TheVariants.{Plain, Interruptible, Timed}
-use Rattle.monitor.specs.declared.machine.Next.TheVariants.{Ends, Waits}
-use Rattle.monitor.specs.declared.machine.Request.{Request}
-use Rattle.monitor.specs.declared.machine.Request.TheVariants.{Acquire, AwaitOn}
-use Rattle.monitor.specs.declared.machine.Turn.{Turn}
-use Rattle.monitor.specs.declared.machine.Waiting.{Waiting}
-use Rattle.monitor.specs.declared.waiting.Limits.{Limits}
 use Rattle.monitor.specs.declared.waiting.Stage.{Stage}
 use Rattle.monitor.specs.declared.waiting.Stage.TheVariants.{Expires, Parks, Looks, GivenUp}
 use Rattle.monitor.proofs.Acquiring.{ends_at_once, ends_in_line, refused, refused_at_once, stands}

@@ -1,42 +1,19 @@
 -- What a step of one who waits makes, and what it leaves of the wait.
 use Rattle.std.proofs.Common.{◌≡◌, ◌⊎◌, inl, inr, ℕ, Bool, true, false, List, ◌∷◌, Option, Some, None, Result, Ok, Err, IsOk, refl, sym, ap, ◌∙◌, subst}
-use Rattle.history.specs.declared.arrival.Arrival.{Arrival}
-use Rattle.history.specs.declared.entry.End.{End}
-use Rattle.history.specs.declared.entry.Entry.{Entry}
-use Rattle.history.specs.declared.fault.Fault.{Fault}
-use Rattle.history.specs.Base.{Base, based}
-use Rattle.history.specs.declared.step.Answer.{Answer}
+use Rattle.monitor.specs.Below.{Arrival, End, Entry, Fault, Base, based, Answer, Step, Look, Expire, Interrupt, is_seat, line, place_of, ready, waits, was_owed, entry_for, queued_entry, CoreView, Point, Before, Agrees, ReturnsAs, lapsed, back_from, lapse_from, Deed}
 use Rattle.history.specs.declared.step.Answer.TheVariants as answer
-use Rattle.history.specs.declared.step.Step.{Step}
-use Rattle.history.specs.declared.step.Step.TheVariants.{Look, Expire, Interrupt}
-use Rattle.history.specs.Could.{is_seat}
-use Rattle.history.specs.Line.{line, place_of}
-use Rattle.history.specs.Naming.{ready}
-use Rattle.history.specs.Phase.{waits}
-use Rattle.history.specs.Room.{was_owed}
 use Rattle.history.specs.Start.{Sleep}
-use Rattle.history.specs.Steps.{entry_for, queued_entry}
-use Rattle.frame.specs.Core.{CoreView}
-use Rattle.history.specs.declared.point.Point.{Point}
-use Rattle.word_lock.specs.Point.{Before, Agrees}
 use Rattle.word_lock.proofs.PointLaws.{before_refl, before_trans}
-use Rattle.history.specs.Awaiting.{ReturnsAs, lapsed, back_from, lapse_from}
-use Rattle.history.proofs.Awaiting.{await_turn}
+use Rattle.history.proofs.Awaiting.{await_turn, AwaitMakes, sleeps_on, comes_back, lapses, LapsesBy}
 use Rattle.history.proofs.Lasting.{still_awaits_there, still_returns_there, still_stands}
-use Rattle.monitor.specs.Lawful.{view_of, IsLawful}
-use Rattle.monitor.specs.Shown.{Shown, IsSound}
-use Rattle.monitor.specs.Stepping.{IsSame, IsStep, IsUnparked}
+use Rattle.monitor.specs.Prelude.{view_of, IsLawful, Shown, IsSound, IsSame, IsStep, IsUnparked, Limits, IsMade, with_entry, Cause, in_line, on_condition, on_way_back, WaitsAs, IsAllowed, AfterPark, ComesOf, HasGivenUp, EndComesOf, IsNotLost, no_limits, is_lapse, stage_asleep}
 use Rattle.monitor.specs.inner.Stepping.{named_in}
-use Rattle.monitor.specs.declared.waiting.Limits.{Limits}
 use Rattle.monitor.specs.declared.waiting.Stage.{Stage}
 use Rattle.monitor.specs.declared.waiting.Stage.TheVariants.{Expires, Parks, Looks, GivenUp}
-use Rattle.permit.specs.Deed.{Deed}
-use Rattle.monitor.specs.Waits.{IsMade, with_entry, Cause, in_line, on_condition, on_way_back, WaitsAs, IsAllowed, AfterPark, ComesOf, HasGivenUp, EndComesOf, IsNotLost, no_limits, is_lapse, stage_asleep}
 use Rattle.monitor.specs.inner.Waits.{MayBegin, IsEnd, EndsBy, MayLapse, HasLapsed, EndsLapsed, IsWait}
 use Rattle.monitor.proofs.StillWaiting.{IsStage, IsBehindLapse, SoFar, StillWaits, AllStillWait, unless_lapse, ending_of, stage_behind}
 use Rattle.monitor.proofs.InLine.{queued_made, ends_by, looks_by, owed_by, IsEndBy, outcome, Outcome, made_in, same_self}
 use Rattle.monitor.proofs.Sections.{left}
-use Rattle.history.proofs.Awaiting.{AwaitMakes, sleeps_on, comes_back, lapses, LapsesBy}
 
 -- who waits does so while no entry of its seat comes
 pub still_waiting : (p q : Point) (i : ℕ) (es : List Entry) (k : Cause) → IsLawful p → IsLawful q →

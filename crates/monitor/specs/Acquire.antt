@@ -1,17 +1,9 @@
 -- What an acquire records.
 use Rattle.std.specs.Prelude.{◌==◌, if◌then◌else◌, ◌≡◌, ◌⊎◌, ◌≢◌, ℕ, ◌+◌, ◌-◌, ◌^◌, min, Bool, true, false, ◌∷◌, Option, Some, None, Result, Ok, Err}
-use Rattle.history.specs.declared.arrival.Arrival.{Arrival}
+use Rattle.monitor.specs.Below.{Arrival, Entry, Mode, Word, Fault, Step, Acquire, TryFair, Interrupt, EntryInterrupt, ended, Deed, interrupted, showed, took_interrupt}
 use Rattle.history.specs.declared.entry.End.TheVariants as end
-use Rattle.history.specs.declared.entry.Entry.{Entry}
-use Rattle.history.specs.declared.entry.Mode.{Mode}
-use Rattle.history.specs.declared.entry.Word.{Word}
 use Rattle.history.specs.declared.entry.Word.TheVariants as word
-use Rattle.history.specs.declared.fault.Fault.{Fault}
 use Rattle.history.specs.declared.fault.Fault.TheVariants as fault
-use Rattle.history.specs.declared.step.Step.{Step}
-use Rattle.history.specs.declared.step.Step.TheVariants.{Acquire, TryFair, Interrupt, EntryInterrupt}
-use Rattle.history.specs.Steps.{ended}
-use Rattle.permit.specs.Deed.{Deed, interrupted, showed, took_interrupt}
 use Rattle.monitor.specs.Shown.{Shown}
 use Rattle.monitor.specs.Stepping.{IsStep}
 use Rattle.monitor.specs.Waits.{AfterPark, IsMade, IsLast, IsNotLost, asking}

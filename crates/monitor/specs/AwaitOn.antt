@@ -1,17 +1,9 @@
 -- What an await records.
 use Rattle.std.specs.Prelude.{◌==◌, ◌≡◌, ◌⊎◌, ℕ, Bool, true, false, ◌∷◌, Result, Ok, Err}
-use Rattle.history.specs.declared.entry.End.{End}
+use Rattle.monitor.specs.Below.{End, Entry, X, Word, Fault, Step, Await, EntryInterrupt, Interrupt, Look, signalled, lapsed, back_from, lapse_from, Deed}
 use Rattle.history.specs.declared.entry.End.TheVariants as end
-use Rattle.history.specs.declared.entry.Entry.{Entry}
-use Rattle.history.specs.declared.entry.Mode.TheVariants.{X}
-use Rattle.history.specs.declared.entry.Word.{Word}
 use Rattle.history.specs.declared.entry.Word.TheVariants as word
-use Rattle.history.specs.declared.fault.Fault.{Fault}
 use Rattle.history.specs.declared.fault.Fault.TheVariants as fault
-use Rattle.history.specs.declared.step.Step.{Step}
-use Rattle.history.specs.declared.step.Step.TheVariants.{Await, EntryInterrupt, Interrupt, Look}
-use Rattle.history.specs.Awaiting.{signalled, lapsed, back_from, lapse_from}
-use Rattle.permit.specs.Deed.{Deed}
 use Rattle.monitor.specs.Acquire.{EndsAtOnce, EndsUnrecorded, LimitsFor, WasInterrupted, WasNotInterrupted, is_interruptible, is_timed}
 use Rattle.monitor.specs.Load.{holds_of}
 use Rattle.monitor.specs.Shown.{Shown}

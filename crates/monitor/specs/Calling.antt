@@ -1,7 +1,6 @@
 -- What every call asks of its pass, and what it leaves.
 use Rattle.std.specs.Prelude.{◌≡◌, ◌≤◌, ℕ}
-use Rattle.word_lock.specs.Point.{Before}
-use Rattle.word_lock.specs.Ticket.{LockId}
+use Rattle.monitor.specs.Below.{Before, LockId}
 use Rattle.monitor.specs.Shown.{Shown, IsSound}
 use Rattle.monitor.specs.Stepping.{IsSame}
 

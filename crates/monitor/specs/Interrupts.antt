@@ -1,11 +1,8 @@
 -- Which replies tell an interrupt.
 use Rattle.std.specs.Prelude.{Bool, true, false, ◌||◌, Result, Ok, Err}
-use Rattle.history.specs.declared.entry.End.{End}
+use Rattle.monitor.specs.Below.{End, Entry, Word, Fault}
 use Rattle.history.specs.declared.entry.End.TheVariants as end
-use Rattle.history.specs.declared.entry.Entry.{Entry}
-use Rattle.history.specs.declared.entry.Word.{Word}
 use Rattle.history.specs.declared.entry.Word.TheVariants as word
-use Rattle.history.specs.declared.fault.Fault.{Fault}
 use Rattle.history.specs.declared.fault.Fault.TheVariants as fault
 
 abbrev pub refuses_interrupted : Word → Bool

@@ -1,15 +1,6 @@
 -- What a load knows of a turn of the lock.
 use Rattle.std.specs.Prelude.{◌≡◌, ◌≢◌, ◌<◌, ◌⊎◌, ℕ, Bool, true, false, List, [], ℤ, pos, ◌+ℤ◌, ◌-ℤ◌, ◌≤ℤ◌, ◌≤◌}
-use Rattle.history.specs.declared.entry.Mode.{Mode}
-use Rattle.history.specs.declared.entry.Mode.TheVariants.{X, S}
-use Rattle.history.specs.declared.header.Header.{Header}
-use Rattle.history.specs.declared.step.Step.{Step}
-use Rattle.history.specs.declared.step.Step.TheVariants.{Await, Give}
-use Rattle.history.specs.Counts.{Counts, counts, free, held}
-use Rattle.history.specs.Object.{is_lock, is_semaphore}
-use Rattle.history.specs.Start.{opening}
-use Rattle.frame.specs.Core.{CoreView, start_of}
-use Rattle.history.specs.declared.entry.Entry.{Entry}
+use Rattle.monitor.specs.Below.{Mode, X, S, Header, Step, Await, Give, Counts, counts, free, held, is_lock, is_semaphore, opening, CoreView, start_of, Entry}
 use Rattle.monitor.specs.Shown.{Shown}
 use Rattle.monitor.specs.declared.load.Holds.{Holds}
 

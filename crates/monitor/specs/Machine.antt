@@ -17,19 +17,9 @@ use Rattle.std.specs.Prelude.{
   Ok,
   Err,
 }
-use Rattle.history.specs.declared.entry.Entry.{Entry}
-use Rattle.history.specs.declared.entry.Mode.TheVariants.{X}
-use Rattle.history.specs.declared.entry.Word.{Word}
+use Rattle.monitor.specs.Below.{Entry, X, Word, Fault, OutOfPhase, Answer, Recorded, Sleep, Step, Deed, Woke, Permit, Deadline, Interrupted}
 use Rattle.history.specs.declared.entry.Word.TheVariants as word
-use Rattle.history.specs.declared.fault.Fault.{Fault}
-use Rattle.history.specs.declared.fault.Fault.TheVariants.{OutOfPhase}
-use Rattle.history.specs.declared.step.Answer.{Answer}
-use Rattle.history.specs.declared.step.Answer.TheVariants.{Recorded, Sleep}
-use Rattle.history.specs.declared.step.Step.{Step}
 use Rattle.history.specs.declared.step.Step.TheVariants as step
-use Rattle.permit.specs.Deed.{Deed}
-use Rattle.permit.specs.declared.parking.Woke.{Woke}
-use Rattle.permit.specs.declared.parking.Woke.TheVariants.{Permit, Deadline, Interrupted}
 use Rattle.monitor.specs.Acquire.{IsAcquire, first_step, is_interruptible, moment_after}
 use Rattle.monitor.specs.AwaitOn.{IsAwait, first_stage}
 use Rattle.monitor.specs.Interrupts.{tells_interrupt}

@@ -1,8 +1,6 @@
 -- What an observer leaves.
 use Rattle.std.specs.Prelude.{◌≡◌, Some}
-use Rattle.history.specs.Entries.{HistoryView}
-use Rattle.history.specs.declared.point.Point.{Point}
-use Rattle.word_lock.specs.Point.{Before}
+use Rattle.monitor.specs.Below.{HistoryView, Point, Before}
 use Rattle.monitor.specs.Shown.{Shown, IsSound}
 
 -- the pass may have seen more, and nothing else has changed

@@ -1,14 +1,6 @@
 -- A step that makes room where there is none.
 use Rattle.std.specs.Prelude.{◌≡◌, ◌≢◌, ◌⊎◌, ◌<◌, ℕ, ◌+◌, length, Result, Err, Bool, true, false}
-use Rattle.history.specs.declared.entry.Entry.{Entry}
-use Rattle.history.specs.declared.fault.Fault.{Fault}
-use Rattle.history.specs.declared.fault.Fault.TheVariants.{HistoryFull, TrimFull}
-use Rattle.history.specs.declared.point.Point.{Point}
-use Rattle.history.specs.declared.step.Answer.{Answer}
-use Rattle.history.specs.declared.step.Step.{Step}
-use Rattle.history.specs.GoodBase.{most_folded}
-use Rattle.permit.specs.Deed.{Deed}
-use Rattle.word_lock.specs.Point.{Before}
+use Rattle.monitor.specs.Below.{Entry, Fault, HistoryFull, TrimFull, Point, Answer, Step, most_folded, Deed, Before, fold_of}
 use Rattle.monitor.specs.Machine.{IsCall, first_turn, step_by}
 use Rattle.monitor.specs.Shown.{Shown, IsSound}
 use Rattle.monitor.specs.Stepping.{IsEntered, IsStep}
@@ -17,7 +9,6 @@ use Rattle.monitor.specs.declared.machine.Request.{Request}
 use Rattle.monitor.specs.declared.machine.Turn.{Turn}
 use Rattle.monitor.specs.declared.room.WhenFull.{WhenFull}
 use Rattle.monitor.specs.declared.room.WhenFull.TheVariants.{Refuse, Trim}
-use Rattle.word_lock.specs.Point.{fold_of}
 
 -- a pass that has seen this, and has done nothing more
 abbrev pub at_point : Shown → Point → Shown

@@ -1,7 +1,6 @@
 -- How the interrupts that a call took were settled.
 use Rattle.std.specs.Prelude.{Result}
-use Rattle.history.specs.declared.entry.Entry.{Entry}
-use Rattle.history.specs.declared.fault.Fault.{Fault}
+use Rattle.monitor.specs.Below.{Entry, Fault}
 
 -- They were settled by this reply: it tells them, or they are pending again. What it means stays hidden, so
 -- that a contract which promises it is met only by the call that settles by this reply.

@@ -1,14 +1,6 @@
 -- What a step of a pass leaves.
 use Rattle.std.specs.Prelude.{◌≡◌, ℕ, ◌++◌, Option, Some, None, Result, Ok, Err, IsOk}
-use Rattle.history.specs.declared.entry.Entry.{Entry}
-use Rattle.history.specs.declared.fault.Fault.{Fault}
-use Rattle.history.specs.declared.step.Answer.{Answer}
-use Rattle.history.specs.declared.step.Answer.TheVariants.{Recorded}
-use Rattle.history.specs.declared.step.Step.{Step}
-use Rattle.frame.specs.Core.{IsAnswered, IsTold, IsTrimmed, MakesOwed, made_by}
-use Rattle.history.specs.declared.point.Point.{Point}
-use Rattle.permit.specs.Deed.{Deed, unparked}
-use Rattle.word_lock.specs.Point.{Before, Agrees}
+use Rattle.monitor.specs.Below.{Entry, Fault, Answer, Recorded, Step, IsAnswered, IsTold, IsTrimmed, MakesOwed, made_by, Point, Deed, unparked, Before, Agrees}
 use Rattle.monitor.specs.Lawful.{view_of, Beside, IsLawful}
 use Rattle.monitor.specs.Shown.{Shown}
 use Rattle.monitor.specs.declared.step.Now.{Now}

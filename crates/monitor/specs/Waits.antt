@@ -1,22 +1,8 @@
 -- One who waits, and how its wait ends.
 use Rattle.std.specs.Prelude.{◌≡◌, ◌⊎◌, ℕ, Bool, true, false, List, ◌∷◌, Some, None, IsSome, Result, Ok}
-use Rattle.history.specs.declared.arrival.Arrival.{Arrival}
-use Rattle.history.specs.declared.entry.Entry.{Entry}
-use Rattle.history.specs.declared.entry.Mode.{Mode}
-use Rattle.history.specs.declared.entry.Word.{Word}
+use Rattle.monitor.specs.Below.{Arrival, Entry, Mode, Word, Fault, Step, Look, Expire, Interrupt, line, place_of, named, entry_for, Deed, interrupted, parked, Permit, Deadline, Interrupted, Point, Before, AwaitsAs, ReturnsAs}
 use Rattle.history.specs.declared.entry.Word.TheVariants as word
-use Rattle.history.specs.declared.fault.Fault.{Fault}
-use Rattle.history.specs.declared.step.Step.{Step}
-use Rattle.history.specs.declared.step.Step.TheVariants.{Look, Expire, Interrupt}
-use Rattle.history.specs.Line.{line, place_of}
-use Rattle.history.specs.Naming.{named}
 use Rattle.history.specs.Start.{Sleep}
-use Rattle.history.specs.Steps.{entry_for}
-use Rattle.permit.specs.Deed.{Deed, interrupted, parked}
-use Rattle.permit.specs.declared.parking.Woke.TheVariants.{Permit, Deadline, Interrupted}
-use Rattle.history.specs.declared.point.Point.{Point}
-use Rattle.word_lock.specs.Point.{Before}
-use Rattle.history.specs.Awaiting.{AwaitsAs, ReturnsAs}
 use Rattle.monitor.specs.Interrupts.{tells_interrupt}
 use Rattle.monitor.specs.Lawful.{start_at}
 use Rattle.monitor.specs.Stepping.{IsUnparked}

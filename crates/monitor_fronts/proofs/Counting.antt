@@ -1,43 +1,12 @@
 -- What the calls of a lock leave of a pass's holds.
-use Rattle.std.proofs.Common.{◌≡◌, ◌⊎◌, inl, inr, ℕ, zero, suc, ◌+◌, ◌==◌, nat_lt, Bool, true, false, ◌&&◌, not, cond}
-use Rattle.std.proofs.Common.{List, ◌∷◌, length, Option, Result, Ok, Err, refl, sym, ap, ◌∙◌, subst, arith}
+use Rattle.std.proofs.Common.{◌≡◌, ◌⊎◌, inl, inr, ℕ, zero, suc, ◌+◌, ◌==◌, nat_lt, Bool, true, false, ◌&&◌, not, cond, List, ◌∷◌, length, Option, Result, Ok, Err, refl, sym, ap, ◌∙◌, subst, arith, eq-eqb}
 use Rattle.std.specs.List.{All}
 use Rattle.std.proofs.lemmas.List.Elements.{All-nil, All-cons}
-use Rattle.history.specs.declared.entry.End.{End}
+use Rattle.monitor_fronts.specs.Below.{End, Entry, Mode, X, S, Word, Fault, Header, Recorded, Step, Await, Signal, SignalAll, Base, is_seat, back_from, signalled, lapsed, lapse_from, Sleep, Deed, header_of, LockId, IsAwait, IsAwaitRefused, LapsesAndReturns, ReturnsSignalled, Counts, counts, held, holds_after, owner, same_mode, is_lock, opening, at_most_one, awaits, plain, signals, sleepers, start_at, view_of, Point, Shown, IsSound, opening_pass, opening_passes, holds_of, IsEntered, IsSame, IsStep, How}
 use Rattle.history.specs.declared.entry.End.TheVariants as end
-use Rattle.history.specs.declared.entry.Entry.{Entry}
-use Rattle.history.specs.declared.entry.Mode.{Mode}
-use Rattle.history.specs.declared.entry.Mode.TheVariants.{X, S}
-use Rattle.history.specs.declared.entry.Word.{Word}
 use Rattle.history.specs.declared.entry.Word.TheVariants as word
-use Rattle.history.specs.declared.fault.Fault.{Fault}
 use Rattle.history.specs.declared.fault.Fault.TheVariants as fault
-use Rattle.history.specs.declared.header.Header.{Header}
-use Rattle.history.specs.declared.step.Answer.TheVariants.{Recorded}
-use Rattle.history.specs.declared.step.Step.{Step}
-use Rattle.history.specs.declared.step.Step.TheVariants.{Await, Signal, SignalAll}
-use Rattle.history.specs.Base.{Base}
-use Rattle.history.specs.Could.{is_seat}
-use Rattle.history.specs.Awaiting.{back_from, signalled, lapsed, lapse_from}
-use Rattle.history.specs.Start.{Sleep}
-use Rattle.std.proofs.lemmas.Bool.{eq-eqb}
-use Rattle.permit.specs.Deed.{Deed}
-use Rattle.word_lock.specs.Point.{header_of}
-use Rattle.word_lock.specs.Ticket.{LockId}
-use Rattle.monitor.specs.AwaitOn.{IsAwait, IsAwaitRefused, LapsesAndReturns, ReturnsSignalled}
-use Rattle.history.specs.Counts.{Counts, counts, held, holds_after, owner}
-use Rattle.history.specs.Entry.{same_mode}
-use Rattle.history.specs.Object.{is_lock}
-use Rattle.history.specs.Start.{opening}
-use Rattle.history.specs.Steps.{at_most_one, awaits, plain, signals}
-use Rattle.history.specs.Sleepers.{sleepers}
-use Rattle.monitor.specs.Lawful.{start_at, view_of}
-use Rattle.history.specs.declared.point.Point.{Point}
-use Rattle.monitor.specs.Shown.{Shown, IsSound, opening_pass, opening_passes}
-use Rattle.monitor.specs.Load.{holds_of}
 use Rattle.monitor.specs.inner.Load.{is_signal}
-use Rattle.monitor.specs.Stepping.{IsEntered, IsSame, IsStep}
-use Rattle.monitor.specs.declared.how.How.{How}
 use Rattle.monitor.proofs.Acquiring.{idle_made}
 use Rattle.monitor.proofs.InLine.{records}
 use Rattle.monitor_fronts.specs.Holding.{holds}

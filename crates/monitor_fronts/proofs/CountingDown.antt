@@ -1,41 +1,10 @@
 -- What the calls of a latch leave of its count.
-use Rattle.std.proofs.Common.{◌≡◌, inl, inr, ℕ, zero, suc, ◌+◌, ◌-◌, ◌<◌, ◌≤◌, eqb, Bool, true, false, not, ◌&&◌, cond}
-use Rattle.std.proofs.Common.{List, [], ◌∷◌, ◌++◌, Option, Some, None, Result, Ok, Err, IfOk}
-use Rattle.std.proofs.Common.{refl, sym, ap, ◌∙◌, subst, arith}
-use Rattle.std.proofs.lemmas.Bool.{eqb-true}
+use Rattle.std.proofs.Common.{◌≡◌, inl, inr, ℕ, zero, suc, ◌+◌, ◌-◌, ◌<◌, ◌≤◌, eqb, Bool, true, false, not, ◌&&◌, cond, List, [], ◌∷◌, ◌++◌, Option, Some, None, Result, Ok, Err, IfOk, refl, sym, ap, ◌∙◌, subst, arith, eqb-true}
 use Rattle.history.specs.declared.entry.End.TheVariants as end
-use Rattle.history.specs.declared.entry.Entry.{Entry}
-use Rattle.history.specs.declared.entry.Mode.{Mode}
-use Rattle.history.specs.declared.entry.Mode.TheVariants.{S}
-use Rattle.history.specs.declared.entry.Word.{Word}
+use Rattle.monitor_fronts.specs.Below.{Entry, Mode, S, Word, Fault, Header, Object, Lock, ReadWrite, Semaphore, Latch, Point, Step, Acquire, Give, TryFair, Base, based, could, could_of, held_back, is_reentrant, limit, line_blocks, Counts, counted, counted_after, counts, first_mode, is_latch, opening_count, Start, entry_for, gave, Deed, Before, LockId, AtOnce, IsAcquire, first_step, is_timed, start_at, Shown, IsSound, IsEntered, IsSame, IsMade, with_entry, How, Timed, WhenFull}
 use Rattle.history.specs.declared.entry.Word.TheVariants as word
-use Rattle.history.specs.declared.fault.Fault.{Fault}
 use Rattle.history.specs.declared.fault.Fault.TheVariants as fault
-use Rattle.history.specs.declared.header.Header.{Header}
-use Rattle.history.specs.declared.header.Object.{Object}
-use Rattle.history.specs.declared.header.Object.TheVariants.{Lock, ReadWrite, Semaphore, Latch}
-use Rattle.history.specs.declared.point.Point.{Point}
-use Rattle.history.specs.declared.step.Step.{Step}
-use Rattle.history.specs.declared.step.Step.TheVariants.{Acquire, Give, TryFair}
-use Rattle.history.specs.Base.{Base, based}
-use Rattle.history.specs.Could.{could, could_of, held_back, is_reentrant, limit, line_blocks}
-use Rattle.history.specs.Counts.{Counts, counted, counted_after, counts}
-use Rattle.history.specs.Line.{first_mode}
-use Rattle.history.specs.Object.{is_latch, opening_count}
-use Rattle.history.specs.Start.{Start}
-use Rattle.history.specs.Steps.{entry_for, gave}
-use Rattle.permit.specs.Deed.{Deed}
-use Rattle.word_lock.specs.Point.{Before}
-use Rattle.word_lock.specs.Ticket.{LockId}
 use Rattle.word_lock.proofs.PointLaws.{before_trans}
-use Rattle.monitor.specs.Acquire.{AtOnce, IsAcquire, first_step, is_timed}
-use Rattle.monitor.specs.Lawful.{start_at}
-use Rattle.monitor.specs.Shown.{Shown, IsSound}
-use Rattle.monitor.specs.Stepping.{IsEntered, IsSame}
-use Rattle.monitor.specs.Waits.{IsMade, with_entry}
-use Rattle.monitor.specs.declared.how.How.{How}
-use Rattle.monitor.specs.declared.how.How.TheVariants.{Timed}
-use Rattle.monitor.specs.declared.room.WhenFull.{WhenFull}
 use Rattle.monitor.proofs.Acquiring.{idle_made}
 use Rattle.monitor_fronts.specs.CountingDown.{CountsDown, FallsBy, IsCounted, IsOpen, WasShut, count_at}
 use Rattle.monitor_fronts.specs.FrontCalls.{Acquires, Steps}
@@ -44,8 +13,7 @@ use Rattle.monitor_fronts.specs.OwnEntry.{AtOwnEntry}
 use Rattle.monitor_fronts.specs.Returned.{done_of, whether_by, whether_of}
 use Rattle.monitor_fronts.proofs.Exactly.{first_plain}
 use Rattle.monitor_fronts.proofs.MakingRoom.{gives_told, in_room, untimed_told}
-use Rattle.monitor_fronts.proofs.OwnEntries.{acquire_gets, at_later, at_made, before_entry, entered_made, got_there}
-use Rattle.monitor_fronts.proofs.OwnEntries.{never_refused, place_header}
+use Rattle.monitor_fronts.proofs.OwnEntries.{acquire_gets, at_later, at_made, before_entry, entered_made, got_there, never_refused, place_header}
 
 -- The count never rises: no entry takes a counting back, and a fold keeps the count.
 counts_up : (w : Word) (n : ℕ) → n ≤ counted_after w n

@@ -1,39 +1,9 @@
 -- How many holds a call adds or takes.
-use Rattle.std.proofs.Common.{◌≡◌, ◌⊎◌, inl, inr, ℕ, ◌+◌, ◌-◌, ◌<◌, ◌==◌, eqb, Bool, true, false, ◌&&◌, cond}
-use Rattle.std.proofs.Common.{List, ◌∷◌, Some, Result, Ok, Err, refl, sym, ap, ◌∙◌, subst, arith}
-use Rattle.std.proofs.lemmas.Bool.{eq-eqb, lt-ltb}
-use Rattle.history.specs.declared.entry.End.{End}
+use Rattle.std.proofs.Common.{◌≡◌, ◌⊎◌, inl, inr, ℕ, ◌+◌, ◌-◌, ◌<◌, ◌==◌, eqb, Bool, true, false, ◌&&◌, cond, List, ◌∷◌, Some, Result, Ok, Err, refl, sym, ap, ◌∙◌, subst, arith, eq-eqb, lt-ltb}
+use Rattle.monitor_fronts.specs.Below.{End, Entry, Mode, X, S, Word, Fault, Header, Object, Lock, ReadWrite, Semaphore, Latch, Step, Acquire, EntryInterrupt, Give, Try, TryFair, Base, could, limit, try_held_back, first_mode, Counts, counts, held, holds_after, in_holds, is_lock, Start, opening, entry_for, gave, plain, Deed, header_of, LockId, AtOnce, EndsAtOnce, IsAcquire, IsAtOnce, IsEndFor, first_step, has_time, is_timed, start_at, view_of, holds_of, Shown, IsSound, IsEntered, IsSame, asking, How, Plain, Interruptible, Timed}
 use Rattle.history.specs.declared.entry.End.TheVariants as end
-use Rattle.history.specs.declared.entry.Entry.{Entry}
-use Rattle.history.specs.declared.entry.Mode.{Mode}
-use Rattle.history.specs.declared.entry.Mode.TheVariants.{X, S}
-use Rattle.history.specs.declared.entry.Word.{Word}
 use Rattle.history.specs.declared.entry.Word.TheVariants as word
-use Rattle.history.specs.declared.fault.Fault.{Fault}
 use Rattle.history.specs.declared.fault.Fault.TheVariants as fault
-use Rattle.history.specs.declared.header.Header.{Header}
-use Rattle.history.specs.declared.header.Object.{Object}
-use Rattle.history.specs.declared.header.Object.TheVariants.{Lock, ReadWrite, Semaphore, Latch}
-use Rattle.history.specs.declared.step.Step.{Step}
-use Rattle.history.specs.declared.step.Step.TheVariants.{Acquire, EntryInterrupt, Give, Try, TryFair}
-use Rattle.history.specs.Base.{Base}
-use Rattle.history.specs.Could.{could, limit, try_held_back}
-use Rattle.history.specs.Line.{first_mode}
-use Rattle.history.specs.Counts.{Counts, counts, held, holds_after}
-use Rattle.history.specs.Object.{in_holds, is_lock}
-use Rattle.history.specs.Start.{Start, opening}
-use Rattle.history.specs.Steps.{entry_for, gave, plain}
-use Rattle.permit.specs.Deed.{Deed}
-use Rattle.word_lock.specs.Point.{header_of}
-use Rattle.word_lock.specs.Ticket.{LockId}
-use Rattle.monitor.specs.Acquire.{AtOnce, EndsAtOnce, IsAcquire, IsAtOnce, IsEndFor, first_step, has_time, is_timed}
-use Rattle.monitor.specs.Lawful.{start_at, view_of}
-use Rattle.monitor.specs.Load.{holds_of}
-use Rattle.monitor.specs.Shown.{Shown, IsSound}
-use Rattle.monitor.specs.Stepping.{IsEntered, IsSame}
-use Rattle.monitor.specs.Waits.{asking}
-use Rattle.monitor.specs.declared.how.How.{How}
-use Rattle.monitor.specs.declared.how.How.TheVariants.{Plain, Interruptible, Timed}
 use Rattle.monitor.proofs.Acquiring.{idle_made}
 use Rattle.monitor.proofs.InLine.{records}
 use Rattle.monitor.proofs.Loads.{own_holds}

@@ -1,31 +1,13 @@
 -- What a call keeps, whether it made room or not.
 use Rattle.std.proofs.Common.{◌≡◌, inl, inr, ℕ, ◌+◌, Bool, true, false, Result, Ok, Err, refl, sym, ap, ◌∙◌, subst}
-use Rattle.history.specs.declared.entry.Entry.{Entry}
-use Rattle.history.specs.declared.fault.Fault.{Fault}
-use Rattle.history.specs.declared.fault.Fault.TheVariants.{HistoryFull, TrimFull}
-use Rattle.history.specs.declared.entry.Mode.{Mode}
-use Rattle.history.specs.declared.entry.Mode.TheVariants.{X}
-use Rattle.history.specs.declared.point.Point.{Point}
-use Rattle.history.specs.declared.step.Step.{Step}
-use Rattle.history.specs.declared.step.Step.TheVariants.{Give, Try}
-use Rattle.permit.specs.Deed.{Deed}
-use Rattle.word_lock.specs.Point.{Before}
-use Rattle.monitor.specs.Acquire.{is_timed}
-use Rattle.monitor.specs.Load.{holds_of}
+use Rattle.monitor_fronts.specs.Below.{Entry, Fault, HistoryFull, TrimFull, Mode, X, Point, Step, Give, Try, Deed, Before, is_timed, holds_of, InRoom, at_point, Shown, IsSame, How, WhenFull, Refuse, Trim, fold_of}
 use Rattle.monitor.specs.inner.Load.{is_signal}
-use Rattle.monitor.specs.Room.{InRoom, at_point}
-use Rattle.monitor.specs.Shown.{Shown}
-use Rattle.monitor.specs.Stepping.{IsSame}
-use Rattle.monitor.specs.declared.how.How.{How}
-use Rattle.monitor.specs.declared.room.WhenFull.{WhenFull}
-use Rattle.monitor.specs.declared.room.WhenFull.TheVariants.{Refuse, Trim}
 use Rattle.monitor_fronts.specs.FrontCalls.{Acquires, Awaits, Steps}
 use Rattle.monitor_fronts.specs.Holding.{Adds, AddsIn, Gains, gained, holds, with_yes}
 use Rattle.monitor_fronts.specs.Returned.{done_of, whether_of, without}
 use Rattle.monitor_fronts.proofs.Counting.{await_holds, of_lock, signal_keeps}
 use Rattle.monitor_fronts.proofs.Exactly.{acquire_gains, try_gains, waits_to_the_end}
 use Rattle.monitor_fronts.proofs.OwnEntries.{give_told}
-use Rattle.word_lock.specs.Point.{fold_of}
 
 -- What holds of a call from any pass with the same own entries, which has seen no less, holds of one that makes room:
 -- a fold adds no entry of the pass, and to be refused because there are too many to fold is to be refused for want of

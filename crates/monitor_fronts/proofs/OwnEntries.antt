@@ -1,35 +1,12 @@
 -- The entries of a call, where they were recorded, and that what the call got could be had there.
-use Rattle.std.proofs.Common.{◌≡◌, ◌⊎◌, inl, inr, ℕ, Bool, true, false, List, [], ◌∷◌, Some, Result, Ok, Err}
-use Rattle.std.proofs.Common.{refl, sym, ap, ◌∙◌, subst}
+use Rattle.std.proofs.Common.{◌≡◌, ◌⊎◌, inl, inr, ℕ, Bool, true, false, List, [], ◌∷◌, Some, Result, Ok, Err, refl, sym, ap, ◌∙◌, subst}
 use Rattle.history.specs.declared.entry.End.TheVariants as end
-use Rattle.history.specs.declared.entry.Entry.{Entry}
-use Rattle.history.specs.declared.entry.Mode.{Mode}
-use Rattle.history.specs.declared.entry.Word.{Word}
+use Rattle.monitor_fronts.specs.Below.{Entry, Mode, Word, Fault, Object, Point, Step, Give, Try, could, limit, try_held_back, counts, first_mode, Start, ended, entry_for, plain, Deed, Before, header_of, LockId, AtOnce, IsAcquire, IsEndFor, start_at, at_point, Shown, IsSound, IsEntered, IsSame, IsMade, asking, with_entry, How}
 use Rattle.history.specs.declared.entry.Word.TheVariants as word
-use Rattle.history.specs.declared.fault.Fault.{Fault}
 use Rattle.history.specs.declared.fault.Fault.TheVariants as fault
-use Rattle.history.specs.declared.header.Object.{Object}
-use Rattle.history.specs.declared.point.Point.{Point}
-use Rattle.history.specs.declared.step.Step.{Step}
-use Rattle.history.specs.declared.step.Step.TheVariants.{Give, Try}
-use Rattle.history.specs.Could.{could, limit, try_held_back}
-use Rattle.history.specs.Counts.{counts}
-use Rattle.history.specs.Line.{first_mode}
-use Rattle.history.specs.Start.{Start}
-use Rattle.history.specs.Steps.{ended, entry_for, plain}
 use Rattle.history.proofs.Entering.{GaveWord, KnownBy, gave_word, known}
 use Rattle.history.proofs.Owners.{ready_could}
-use Rattle.permit.specs.Deed.{Deed}
-use Rattle.word_lock.specs.Point.{Before, header_of}
-use Rattle.word_lock.specs.Ticket.{LockId}
 use Rattle.word_lock.proofs.PointLaws.{before_header, before_refl, before_trans}
-use Rattle.monitor.specs.Acquire.{AtOnce, IsAcquire, IsEndFor}
-use Rattle.monitor.specs.Lawful.{start_at}
-use Rattle.monitor.specs.Room.{at_point}
-use Rattle.monitor.specs.Shown.{Shown, IsSound}
-use Rattle.monitor.specs.Stepping.{IsEntered, IsSame}
-use Rattle.monitor.specs.Waits.{IsMade, asking, with_entry}
-use Rattle.monitor.specs.declared.how.How.{How}
 use Rattle.monitor.proofs.Acquiring.{idle_made}
 use Rattle.monitor.proofs.InLine.{made_in, same_self}
 use Rattle.monitor_fronts.specs.OwnEntry.{AtOwnEntry}

@@ -1,34 +1,12 @@
 -- The release of a hold is recorded: whoever owns is idle, and its release was owed room and memory.
-use Rattle.std.proofs.Common.{◌≡◌, ℕ, ◌+◌, ◌<◌, Bool, true, false, not, cond, List, Option, Some, Result, Ok, Err}
-use Rattle.std.proofs.Common.{IsOk, refl, ap, ◌∙◌, sym, subst, arith}
-use Rattle.history.specs.declared.entry.Entry.{Entry}
-use Rattle.history.specs.declared.entry.Mode.{Mode}
-use Rattle.history.specs.declared.entry.Mode.TheVariants.{X, S}
-use Rattle.history.specs.declared.entry.Word.{Word}
+use Rattle.std.proofs.Common.{◌≡◌, ℕ, ◌+◌, ◌<◌, Bool, true, false, not, cond, List, Option, Some, Result, Ok, Err, IsOk, refl, ap, ◌∙◌, sym, subst, arith}
+use Rattle.monitor_fronts.specs.Below.{Entry, Mode, X, S, Word, Fault, Header, Object, Lock, ReadWrite, Semaphore, Latch, Point, Give, counts, held, is_bad_number, lacks_mode, is_lock, Phase, Idle, phase, suits, Start, opening, entry_for, phase_entry, plain, Deed, header_of, IsLawful, start_at, Shown, IsSound, IsEntered, IsSame, holds_of}
 use Rattle.history.specs.declared.entry.Word.TheVariants as word
-use Rattle.history.specs.declared.fault.Fault.{Fault}
 use Rattle.history.specs.declared.fault.Fault.TheVariants as fault
-use Rattle.history.specs.declared.header.Header.{Header}
-use Rattle.history.specs.declared.header.Object.{Object}
-use Rattle.history.specs.declared.header.Object.TheVariants.{Lock, ReadWrite, Semaphore, Latch}
-use Rattle.history.specs.declared.point.Point.{Point}
-use Rattle.history.specs.declared.step.Step.TheVariants.{Give}
-use Rattle.history.specs.Counts.{counts, held}
-use Rattle.history.specs.Faults.{is_bad_number, lacks_mode}
-use Rattle.history.specs.Object.{is_lock}
-use Rattle.history.specs.Phase.{Phase, Idle, phase, suits}
-use Rattle.history.specs.Start.{Start, opening}
-use Rattle.history.specs.Steps.{entry_for, phase_entry, plain}
 use Rattle.history.proofs.IdleOwners.{owner_idle}
-use Rattle.permit.specs.Deed.{Deed}
-use Rattle.word_lock.specs.Point.{header_of}
 use Rattle.word_lock.proofs.PointLaws.{before_header}
-use Rattle.monitor.specs.Lawful.{IsLawful, start_at}
-use Rattle.monitor.specs.Shown.{Shown, IsSound}
-use Rattle.monitor.specs.Stepping.{IsEntered, IsSame}
 use Rattle.monitor.proofs.Loads.{own_holds}
 use Rattle.monitor.proofs.Opening.{header_shown}
-use Rattle.monitor.specs.Load.{holds_of}
 use Rattle.monitor_fronts.specs.Holding.{Takes, gained, holds, with_yes}
 use Rattle.monitor_fronts.specs.Returned.{done_of}
 use Rattle.monitor_fronts.proofs.Counting.{of_own}

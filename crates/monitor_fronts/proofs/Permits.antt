@@ -1,52 +1,20 @@
 -- What the calls of a semaphore leave of the permits: of those that the pass has, and of those that are free.
-use Rattle.std.proofs.Common.{◌≡◌, ◌⊎◌, inl, inr, ℕ, Bool, true, false, cond, List, [], Some, Result, Ok, Err}
-use Rattle.std.proofs.Common.{refl, sym, ap, ◌∙◌, subst, arith}
-use Rattle.std.specs.Prelude.{ℤ, pos, ◌+ℤ◌, ◌-ℤ◌, ◌≤ℤ◌, int_le, int_lt}
+use Rattle.std.proofs.Common.{◌≡◌, ◌⊎◌, inl, inr, ℕ, Bool, true, false, cond, List, [], Some, Result, Ok, Err, refl, sym, ap, ◌∙◌, subst, arith, ℤ, pos, ◌+ℤ◌, ◌-ℤ◌, ◌≤ℤ◌, int_le, int_lt}
 use Rattle.std.proofs.lemmas.Int.{ints}
-use Rattle.history.specs.declared.limits.TheConstants.{MOST_AMOUNT}
+use Rattle.monitor_fronts.specs.Below.{MOST_AMOUNT, Entry, S, Word, Fault, Header, Object, Lock, ReadWrite, Semaphore, Latch, Point, Step, Drain, EntryInterrupt, Give, Try, could, could_of, limit, try_held_back, Counts, counts, free, free_after, first_mode, is_semaphore, opening, at_least_none, ended, entry_for, gave, plain, Deed, Before, LockId, AtOnce, EndsAtOnce, IsAcquire, IsAtOnce, IsEndFor, is_timed, start_at, free_of, IsCallIn, IsEnteredIn, at_point, Shown, IsSound, IsEntered, IsSame, asking, with_entry, How, WhenFull}
 use Rattle.history.specs.declared.entry.End.TheVariants as end
-use Rattle.history.specs.declared.entry.Entry.{Entry}
-use Rattle.history.specs.declared.entry.Mode.TheVariants.{S}
-use Rattle.history.specs.declared.entry.Word.{Word}
 use Rattle.history.specs.declared.entry.Word.TheVariants as word
-use Rattle.history.specs.declared.fault.Fault.{Fault}
 use Rattle.history.specs.declared.fault.Fault.TheVariants as fault
-use Rattle.history.specs.declared.header.Header.{Header}
-use Rattle.history.specs.declared.header.Object.{Object}
-use Rattle.history.specs.declared.header.Object.TheVariants.{Lock, ReadWrite, Semaphore, Latch}
-use Rattle.history.specs.declared.point.Point.{Point}
-use Rattle.history.specs.declared.step.Step.{Step}
-use Rattle.history.specs.declared.step.Step.TheVariants.{Drain, EntryInterrupt, Give, Try}
-use Rattle.history.specs.Could.{could, could_of, limit, try_held_back}
-use Rattle.history.specs.Counts.{Counts, counts, free, free_after}
-use Rattle.history.specs.Line.{first_mode}
-use Rattle.history.specs.Object.{is_semaphore}
-use Rattle.history.specs.Start.{opening}
-use Rattle.history.specs.Steps.{at_least_none, ended, entry_for, gave, plain}
-use Rattle.permit.specs.Deed.{Deed}
-use Rattle.word_lock.specs.Point.{Before}
-use Rattle.word_lock.specs.Ticket.{LockId}
-use Rattle.monitor.specs.Acquire.{AtOnce, EndsAtOnce, IsAcquire, IsAtOnce, IsEndFor, is_timed}
-use Rattle.monitor.specs.Lawful.{start_at}
-use Rattle.monitor.specs.Load.{free_of}
-use Rattle.monitor.specs.Room.{IsCallIn, IsEnteredIn, at_point}
-use Rattle.monitor.specs.Shown.{Shown, IsSound}
-use Rattle.monitor.specs.Stepping.{IsEntered, IsSame}
-use Rattle.monitor.specs.Waits.{asking, with_entry}
-use Rattle.monitor.specs.declared.how.How.{How}
 use Rattle.monitor.specs.declared.machine.Request.TheVariants as request
-use Rattle.monitor.specs.declared.room.WhenFull.{WhenFull}
 use Rattle.monitor.proofs.Acquiring.{idle_made}
 use Rattle.monitor_fronts.specs.FrontCalls.{Acquires, Steps}
 use Rattle.monitor_fronts.specs.Holding.{with_yes}
 use Rattle.monitor_fronts.specs.OwnEntry.{AtOwnEntry}
-use Rattle.monitor_fronts.specs.Permits.{DrainsFree, DrainsPermits, GivesFree, GivesPermits, IsDrained, IsGiven}
-use Rattle.monitor_fronts.specs.Permits.{IsTaken, TakesFree, TakesPermits, free_at, if_ok, if_yes}
+use Rattle.monitor_fronts.specs.Permits.{DrainsFree, DrainsPermits, GivesFree, GivesPermits, IsDrained, IsGiven, IsTaken, TakesFree, TakesPermits, free_at, if_ok, if_yes}
 use Rattle.monitor_fronts.specs.Returned.{done_of, is_done, number_of, whether_of}
 use Rattle.monitor_fronts.proofs.Exactly.{first_plain, timed, tried_words}
 use Rattle.monitor_fronts.proofs.MakingRoom.{gives_told, in_room, untimed_told}
-use Rattle.monitor_fronts.proofs.OwnEntries.{Gets, acquire_gets, at_later, at_made, entered_made, gets, got_there}
-use Rattle.monitor_fronts.proofs.OwnEntries.{never_refused, place_header, try_gets}
+use Rattle.monitor_fronts.proofs.OwnEntries.{Gets, acquire_gets, at_later, at_made, entered_made, gets, got_there, never_refused, place_header, try_gets}
 
 -- a call of a semaphore: an acquire, a try or a release of so many permits
 pub data PermitCall : Type 0 where

@@ -1,13 +1,7 @@
 -- What the calls of a latch say of its count.
 use Rattle.std.specs.Prelude.{◌≡◌, ◌<◌, ◌≤◌, ℕ, ◌-◌, Bool, true, Result, Ok}
-use Rattle.history.specs.Counts.{count}
-use Rattle.history.specs.Object.{is_latch}
-use Rattle.history.specs.declared.fault.Fault.{Fault}
-use Rattle.history.specs.declared.point.Point.{Point}
-use Rattle.monitor.specs.Lawful.{start_at}
-use Rattle.monitor.specs.Shown.{Shown}
+use Rattle.monitor_fronts.specs.Below.{count, is_latch, Fault, Point, start_at, Shown, Before}
 use Rattle.monitor_fronts.specs.OwnEntry.{AtOwnEntry}
-use Rattle.word_lock.specs.Point.{Before}
 
 -- the count of a latch in a history
 abbrev pub count_at : Point → ℕ

@@ -12,17 +12,9 @@
 --   was recorded.
 --
 -- What the call found may itself be a fold, of a turn before. The code makes none.
-use Rattle.std.specs.Prelude.{ℕ, Result}
-use Rattle.history.specs.declared.entry.Entry.{Entry}
-use Rattle.history.specs.declared.entry.Mode.{Mode}
-use Rattle.history.specs.declared.fault.Fault.{Fault}
-use Rattle.history.specs.declared.step.Step.{Step}
-use Rattle.permit.specs.Deed.{Deed}
-use Rattle.monitor.specs.Room.{IsCallIn, IsEnteredIn}
-use Rattle.monitor.specs.Shown.{Shown}
-use Rattle.monitor.specs.declared.how.How.{How}
+use Rattle.std.specs.Prelude.{◌≡◌, ◌-◌, ◌^◌, min, ℕ, Result}
+use Rattle.monitor_fronts.specs.Below.{Entry, Mode, Fault, Step, Deed, showed, IsCallIn, IsEnteredIn, Shown, How, Timed, WhenFull}
 use Rattle.monitor.specs.declared.machine.Request.TheVariants as request
-use Rattle.monitor.specs.declared.room.WhenFull.{WhenFull}
 
 -- an acquire of `n` in a mode, which waits as `how` says
 abbrev pub Acquires : WhenFull → (Deed → Type 0) → Mode → ℕ → How → Shown → Shown →
@@ -36,3 +28,12 @@ Awaits w did condition how old new reply = IsCallIn w did old (request.AwaitOn c
 -- one step that doesn't wait
 abbrev pub Steps : WhenFull → (Deed → Type 0) → Step → Shown → Shown → Result Entry Fault → Type 0
 Steps w did step old new reply = IsEnteredIn w did old step reply new
+
+-- So many milliseconds were left until a moment when the clock showed another: none if that one was not
+-- before it, and at most as many as a call may have.
+abbrev pub AreLeft : (Deed → Type 0) → ℕ → ℕ → Type 0
+AreLeft did end ms = (moment : ℕ) × did (showed moment) × (ms ≡ min (end - moment) (2 ^ 32 - 1))
+
+-- a timed call that had the milliseconds which were left until a moment
+abbrev pub LastsUntil : (Deed → Type 0) → ℕ → (How → Type 0) → Type 0
+LastsUntil did end call = (ms : ℕ) × AreLeft did end ms × call (Timed ms)

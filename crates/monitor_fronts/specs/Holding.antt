@@ -1,11 +1,6 @@
 -- The holds of a pass.
 use Rattle.std.specs.Prelude.{◌≡◌, ◌+◌, ◌<◌, ℕ, Bool, true, Result, Ok, Err}
-use Rattle.history.specs.Object.{is_lock}
-use Rattle.history.specs.declared.entry.Mode.{Mode}
-use Rattle.history.specs.declared.entry.Mode.TheVariants.{X, S}
-use Rattle.history.specs.declared.fault.Fault.{Fault}
-use Rattle.monitor.specs.Load.{holds_of}
-use Rattle.monitor.specs.Shown.{Shown}
+use Rattle.monitor_fronts.specs.Below.{is_lock, Mode, X, S, Fault, holds_of, Shown}
 
 -- how often the pass's seat holds the lock, or its write lock, by its own entries alone
 abbrev pub holds : Shown → ℕ

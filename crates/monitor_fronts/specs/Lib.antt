@@ -1,3 +1,4 @@
+pub mod Below
 pub mod Returned
 pub mod FrontCalls
 pub mod Holding

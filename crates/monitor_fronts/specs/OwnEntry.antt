@@ -1,10 +1,6 @@
 -- What holds where a call recorded an entry.
 use Rattle.std.specs.Prelude.{◌≡◌}
-use Rattle.history.specs.declared.entry.Entry.{Entry}
-use Rattle.history.specs.declared.point.Point.{Point}
-use Rattle.monitor.specs.Shown.{Shown}
-use Rattle.monitor.specs.Waits.{with_entry}
-use Rattle.word_lock.specs.Point.{Before}
+use Rattle.monitor_fronts.specs.Below.{Entry, Point, Shown, with_entry, Before}
 
 -- The call recorded an entry of the pass at a place of the history: after all that the pass had seen, and before all
 -- that it has seen since. The fact is one of the history before that entry and with it.

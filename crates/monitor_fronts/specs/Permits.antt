@@ -1,14 +1,6 @@
 -- What the calls of a semaphore do to permits: to those that the pass has, and to those that are free.
 use Rattle.std.specs.Prelude.{◌≡◌, ℕ, Bool, true, Result, Ok, Err, IfOk, [], ℤ, pos, ◌+ℤ◌, ◌-ℤ◌, ◌≤ℤ◌}
-use Rattle.history.specs.Counts.{free}
-use Rattle.history.specs.Object.{is_semaphore}
-use Rattle.history.specs.Start.{opening}
-use Rattle.history.specs.Steps.{at_least_none}
-use Rattle.history.specs.declared.fault.Fault.{Fault}
-use Rattle.history.specs.declared.point.Point.{Point}
-use Rattle.monitor.specs.Lawful.{start_at}
-use Rattle.monitor.specs.Load.{free_of}
-use Rattle.monitor.specs.Shown.{Shown}
+use Rattle.monitor_fronts.specs.Below.{free, is_semaphore, opening, at_least_none, Fault, Point, start_at, free_of, Shown}
 use Rattle.monitor_fronts.specs.OwnEntry.{AtOwnEntry}
 
 -- The permits that the pass took, less those that it gave back, by its own entries alone. The number is below 0 if

@@ -1,11 +1,8 @@
 -- What a front type returns for the entry that ended a call.
 use Rattle.std.specs.Prelude.{◌≡◌, ℕ, Bool, true, false, Result, Ok, Err}
-use Rattle.history.specs.declared.entry.End.{End}
+use Rattle.monitor_fronts.specs.Below.{End, Entry, Word, Fault}
 use Rattle.history.specs.declared.entry.End.TheVariants as end
-use Rattle.history.specs.declared.entry.Entry.{Entry}
-use Rattle.history.specs.declared.entry.Word.{Word}
 use Rattle.history.specs.declared.entry.Word.TheVariants as word
-use Rattle.history.specs.declared.fault.Fault.{Fault}
 use Rattle.history.specs.declared.fault.Fault.TheVariants as fault
 
 -- how a call ended that was neither refused nor missed

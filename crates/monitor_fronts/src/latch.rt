@@ -8,11 +8,12 @@ ghost use Rattle.monitor.specs.Calling.{CanCall, Called};
 ghost use Rattle.monitor.specs.declared.how.How.TheVariants.{Interruptible, Timed};
 ghost use Rattle.monitor.specs.declared.room.WhenFull.TheVariants.{Trim};
 ghost use Rattle.monitor_fronts.specs.CountingDown.{CountsDown, FallsBy, IsOpen, WasShut};
-ghost use Rattle.monitor_fronts.specs.FrontCalls.{Acquires, Steps};
+ghost use Rattle.monitor_fronts.specs.FrontCalls.{Acquires, LastsUntil, Steps};
 ghost use Rattle.monitor_fronts.specs.Holding.{gained, with_yes};
 ghost use Rattle.monitor_fronts.specs.Returned.{ReturnedAs, done_of, whether_of};
 
 use crate::returned::{done, whether};
+use crate::until::milliseconds_left;
 use counting::latch::LatchHooks;
 use history::entry::{Entry, Mode};
 use history::fault::Fault;
@@ -92,6 +93,28 @@ impl<'m> Latch<'m> {
         ensures falls { FallsBy 0 pass.old pass.new }
     {
         whether(self.acquire_as(rt, parking, pass, How::Timed(ms)))
+    }
+
+    /// [`await_zero_for`](Latch::await_zero_for) until a moment on the clock of the parking, which
+    /// `parking.now(rt)` shows.
+    pub fn await_zero_until<P: Parking, R: Wait + Clock>(
+        &self,
+        rt: &R,
+        parking: &P,
+        pass: &mut Pass,
+        moment: u64,
+    ) -> Result<bool, Fault>
+        requires can { CanCall self.now.monitor.now (P.seats parking.now) pass.old }
+        ensures called { Called pass.old pass.new }
+        ensures acquired { LastsUntil (P.did parking.now) moment (λ how. ReturnedAs whether_of
+            (Acquires self.now.when_full (P.did parking.now) S 1 how pass.old pass.new) result) }
+        ensures open { result ≡ Ok true → IsOpen pass.new }
+        ensures shut { is_latch self.now.monitor.now.header.object ≡ true → result ≡ Ok false
+            → WasShut pass.old pass.new }
+        ensures falls { FallsBy 0 pass.old pass.new }
+    {
+        let ms = milliseconds_left(rt, parking, moment);
+        self.await_zero_for(rt, parking, pass, ms)
     }
 
     /// `CountDownLatch.countDown()`. At 0 it changes nothing.

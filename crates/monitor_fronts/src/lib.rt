@@ -7,7 +7,8 @@
 //! the memory of `cap` entries. Holds, waiters, permits and the number of calls stay. Two faults remain.
 //! `HistoryFull` comes only if a history without entries has no room. By the table of room in
 //! `docs/SPECIFICATION.md`, with at most one hold for each thread 3 places for each thread and one more
-//! suffice. `TrimFull` comes only if more than 1,000,000,000,000,000 entries would be folded.
+//! suffice. `TrimFull` comes only if more than 1,000,000,000,000,000 entries would be folded. That the fold and
+//! the step are one turn, and that a call folds only if it found no room, is in the code and in no contract.
 //!
 //! A front made by `of_when_full` may refuse instead ([`WhenFull::Refuse`]). A call that finds no room then
 //! returns `Err(HistoryFull)` and records nothing, and the history keeps every entry. An unlock by an owner
@@ -25,6 +26,7 @@ mod passes;
 mod read_write_lock;
 mod returned;
 mod semaphore;
+mod until;
 
 pub use latch::Latch;
 pub use lock::ReentrantLock;
@@ -34,3 +36,4 @@ pub use passes::{three_passes, two_passes};
 pub use read_write_lock::ReadWriteLock;
 pub use returned::{done, number, whether};
 pub use semaphore::Semaphore;
+pub use until::milliseconds_left;

@@ -10,10 +10,11 @@ ghost use Rattle.monitor.specs.Stepping.{IsEntered};
 ghost use Rattle.monitor.specs.declared.how.How.TheVariants.{Plain, Interruptible, Timed};
 ghost use Rattle.monitor.specs.declared.room.WhenFull.TheVariants.{Trim};
 ghost use Rattle.monitor_fronts.specs.Holding.{Gains, holds, with_yes};
-ghost use Rattle.monitor_fronts.specs.FrontCalls.{Acquires, Awaits, Steps};
+ghost use Rattle.monitor_fronts.specs.FrontCalls.{Acquires, Awaits, LastsUntil, Steps};
 ghost use Rattle.monitor_fronts.specs.Returned.{ReturnedAs, done_of, whether_of};
 
 use crate::returned::{done, whether};
+use crate::until::milliseconds_left;
 use history::entry::{Entry, Mode};
 use history::fault::Fault;
 use history::step::Step;
@@ -123,6 +124,25 @@ impl<'m> ReentrantLock<'m> {
         whether(self.acquire_as(rt, parking, pass, How::Timed(ms)))
     }
 
+    /// [`try_lock_for`](ReentrantLock::try_lock_for) until a moment on the clock of the parking, which
+    /// `parking.now(rt)` shows. If that moment has come, the call doesn't wait.
+    pub fn try_lock_until<P: Parking, R: Wait + Clock>(
+        &self,
+        rt: &R,
+        parking: &P,
+        pass: &mut Pass,
+        moment: u64,
+    ) -> Result<bool, Fault>
+        requires can { CanCall self.now.monitor.now (P.seats parking.now) pass.old }
+        ensures called { Called pass.old pass.new }
+        ensures acquired { LastsUntil (P.did parking.now) moment (λ how. ReturnedAs whether_of
+            (Acquires self.now.when_full (P.did parking.now) X 1 how pass.old pass.new) result) }
+        ensures gains { Gains pass.old result pass.new }
+    {
+        let ms = milliseconds_left(rt, parking, moment);
+        self.try_lock_for(rt, parking, pass, ms)
+    }
+
     /// `ReentrantLock.unlock()`: `Err(NotOwner)` where Java throws `IllegalMonitorStateException`. It can't
     /// fail if the pass holds: room and memory for it were reserved when the hold was recorded.
     pub fn unlock<P: Parking, R: Wait + Clock>(
@@ -196,6 +216,26 @@ impl<'m> ReentrantLock<'m> {
         ensures keeps { holds pass.new ≡ holds pass.old }
     {
         whether(self.wait_as(rt, parking, pass, condition, How::Timed(ms)))
+    }
+
+    /// [`wait_for`](ReentrantLock::wait_for) until a moment on the clock of the parking, which
+    /// `parking.now(rt)` shows. Java's `Condition.awaitUntil` takes a date instead.
+    pub fn wait_until<P: Parking, R: Wait + Clock>(
+        &self,
+        rt: &R,
+        parking: &P,
+        pass: &mut Pass,
+        condition: u8,
+        moment: u64,
+    ) -> Result<bool, Fault>
+        requires can { CanCall self.now.monitor.now (P.seats parking.now) pass.old }
+        ensures called { Called pass.old pass.new }
+        ensures awaited { LastsUntil (P.did parking.now) moment (λ how. ReturnedAs whether_of
+            (Awaits self.now.when_full (P.did parking.now) condition how pass.old pass.new) result) }
+        ensures keeps { holds pass.new ≡ holds pass.old }
+    {
+        let ms = milliseconds_left(rt, parking, moment);
+        self.wait_for(rt, parking, pass, condition, ms)
     }
 
     /// `Condition.signal()` of the condition of this number.

@@ -10,11 +10,12 @@ ghost use Rattle.monitor.specs.inner.Load.{is_signal};
 ghost use Rattle.monitor.specs.Stepping.{IsEntered};
 ghost use Rattle.monitor.specs.declared.how.How.TheVariants.{Plain, Interruptible, Timed};
 ghost use Rattle.monitor.specs.declared.room.WhenFull.TheVariants.{Trim};
-ghost use Rattle.monitor_fronts.specs.FrontCalls.{Acquires, Awaits, Steps};
+ghost use Rattle.monitor_fronts.specs.FrontCalls.{Acquires, Awaits, LastsUntil, Steps};
 ghost use Rattle.monitor_fronts.specs.Holding.{AddsIn, TakesIn, holds, with_yes};
 ghost use Rattle.monitor_fronts.specs.Returned.{ReturnedAs, done_of, whether_of};
 
 use crate::returned::{done, whether};
+use crate::until::milliseconds_left;
 use history::entry::{Entry, Mode};
 use history::fault::Fault;
 use history::step::Step;
@@ -124,6 +125,25 @@ impl<'m> ReadWriteLock<'m> {
         whether(self.acquire_as(rt, parking, pass, Mode::X, How::Timed(ms)))
     }
 
+    /// [`write_try_lock_for`](ReadWriteLock::write_try_lock_for) until a moment on the clock of the parking,
+    /// which `parking.now(rt)` shows. If that moment has come, the call doesn't wait.
+    pub fn write_try_lock_until<P: Parking, R: Wait + Clock>(
+        &self,
+        rt: &R,
+        parking: &P,
+        pass: &mut Pass,
+        moment: u64,
+    ) -> Result<bool, Fault>
+        requires can { CanCall self.now.monitor.now (P.seats parking.now) pass.old }
+        ensures called { Called pass.old pass.new }
+        ensures acquired { LastsUntil (P.did parking.now) moment (λ how. ReturnedAs whether_of
+            (Acquires self.now.when_full (P.did parking.now) X 1 how pass.old pass.new) result) }
+        ensures gains { AddsIn X pass.old result pass.new }
+    {
+        let ms = milliseconds_left(rt, parking, moment);
+        self.write_try_lock_for(rt, parking, pass, ms)
+    }
+
     /// `WriteLock.unlock()`: `Err(NotOwner)` where Java throws `IllegalMonitorStateException`. It can't fail
     /// if the pass has the write lock: room and memory for it were reserved when the hold was recorded.
     pub fn write_unlock<P: Parking, R: Wait + Clock>(
@@ -196,6 +216,26 @@ impl<'m> ReadWriteLock<'m> {
         ensures keeps { holds pass.new ≡ holds pass.old }
     {
         whether(self.wait_as(rt, parking, pass, condition, How::Timed(ms)))
+    }
+
+    /// [`write_wait_for`](ReadWriteLock::write_wait_for) until a moment on the clock of the parking, which
+    /// `parking.now(rt)` shows. Java's `Condition.awaitUntil` takes a date instead.
+    pub fn write_wait_until<P: Parking, R: Wait + Clock>(
+        &self,
+        rt: &R,
+        parking: &P,
+        pass: &mut Pass,
+        condition: u8,
+        moment: u64,
+    ) -> Result<bool, Fault>
+        requires can { CanCall self.now.monitor.now (P.seats parking.now) pass.old }
+        ensures called { Called pass.old pass.new }
+        ensures awaited { LastsUntil (P.did parking.now) moment (λ how. ReturnedAs whether_of
+            (Awaits self.now.when_full (P.did parking.now) condition how pass.old pass.new) result) }
+        ensures keeps { holds pass.new ≡ holds pass.old }
+    {
+        let ms = milliseconds_left(rt, parking, moment);
+        self.write_wait_for(rt, parking, pass, condition, ms)
     }
 
     /// `Condition.signal()` of the condition of this number.
@@ -299,6 +339,25 @@ impl<'m> ReadWriteLock<'m> {
         ensures gains { AddsIn S pass.old result pass.new }
     {
         whether(self.acquire_as(rt, parking, pass, Mode::S, How::Timed(ms)))
+    }
+
+    /// [`read_try_lock_for`](ReadWriteLock::read_try_lock_for) until a moment on the clock of the parking,
+    /// which `parking.now(rt)` shows. If that moment has come, the call doesn't wait.
+    pub fn read_try_lock_until<P: Parking, R: Wait + Clock>(
+        &self,
+        rt: &R,
+        parking: &P,
+        pass: &mut Pass,
+        moment: u64,
+    ) -> Result<bool, Fault>
+        requires can { CanCall self.now.monitor.now (P.seats parking.now) pass.old }
+        ensures called { Called pass.old pass.new }
+        ensures acquired { LastsUntil (P.did parking.now) moment (λ how. ReturnedAs whether_of
+            (Acquires self.now.when_full (P.did parking.now) S 1 how pass.old pass.new) result) }
+        ensures gains { AddsIn S pass.old result pass.new }
+    {
+        let ms = milliseconds_left(rt, parking, moment);
+        self.read_try_lock_for(rt, parking, pass, ms)
     }
 
     /// `ReadLock.unlock()`: `Err(NotOwner)` where Java throws `IllegalMonitorStateException`.

@@ -6,13 +6,14 @@ ghost use Rattle.history.specs.declared.step.Step.TheVariants.{Try, Give, Drain}
 ghost use Rattle.monitor.specs.Calling.{CanCall, Called};
 ghost use Rattle.monitor.specs.declared.how.How.TheVariants.{Plain, Interruptible, Timed};
 ghost use Rattle.monitor.specs.declared.room.WhenFull.TheVariants.{Trim};
-ghost use Rattle.monitor_fronts.specs.FrontCalls.{Acquires, Steps};
+ghost use Rattle.monitor_fronts.specs.FrontCalls.{Acquires, LastsUntil, Steps};
 ghost use Rattle.monitor_fronts.specs.Holding.{with_yes};
 ghost use Rattle.monitor_fronts.specs.Permits.{DrainsFree, DrainsPermits, GivesFree, GivesPermits};
 ghost use Rattle.monitor_fronts.specs.Permits.{TakesFree, TakesPermits};
 ghost use Rattle.monitor_fronts.specs.Returned.{ReturnedAs, done_of, number_of, whether_of};
 
 use crate::returned::{done, number, whether};
+use crate::until::milliseconds_left;
 use counting::semaphore::SemaphoreHooks;
 use history::entry::{Entry, Mode};
 use history::fault::Fault;
@@ -130,6 +131,27 @@ impl<'m> Semaphore<'m> {
         ensures free { TakesFree n pass.old result pass.new }
     {
         whether(self.acquire_as(rt, parking, pass, n, How::Timed(ms)))
+    }
+
+    /// [`try_acquire_for`](Semaphore::try_acquire_for) until a moment on the clock of the parking, which
+    /// `parking.now(rt)` shows. If that moment has come, the call doesn't wait.
+    pub fn try_acquire_until<P: Parking, R: Wait + Clock>(
+        &self,
+        rt: &R,
+        parking: &P,
+        pass: &mut Pass,
+        n: u32,
+        moment: u64,
+    ) -> Result<bool, Fault>
+        requires can { CanCall self.now.monitor.now (P.seats parking.now) pass.old }
+        ensures called { Called pass.old pass.new }
+        ensures acquired { LastsUntil (P.did parking.now) moment (λ how. ReturnedAs whether_of
+            (Acquires self.now.when_full (P.did parking.now) S n how pass.old pass.new) result) }
+        ensures takes { TakesPermits n pass.old result pass.new }
+        ensures free { TakesFree n pass.old result pass.new }
+    {
+        let ms = milliseconds_left(rt, parking, moment);
+        self.try_acquire_for(rt, parking, pass, n, ms)
     }
 
     /// `Semaphore.release(permits)`: any pass may release permits, also more than it acquired.

@@ -1,6 +1,6 @@
 -- That there are at most 240 columns, that they hold all entries, and which column an entry is in.
-use Rattle.std.proofs.Common.{ℕ, ◌+◌, ◌-◌, ◌*◌, ◌/◌, ◌<◌, ◌≤◌, arith}
-use Rattle.std.proofs.lemmas.Nat.{div-add-mod', div_below, mod_below, mul-le}
+use Rattle.std.proofs.Common.{ℕ, ◌+◌, ◌-◌, ◌*◌, ◌/◌, ◌<◌, ◌≤◌, arith, div-add-mod'}
+use Rattle.std.proofs.lemmas.Nat.{div_below, mod_below, mul-le}
 
 pub all_fit : (n s : ℕ) → 0 < s → n ≤ (n + (s - 1)) / s * s
 all_fit n s some =

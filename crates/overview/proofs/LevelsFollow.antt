@@ -1,15 +1,13 @@
 -- That it is followed how many seats wait in the queue.
-use Rattle.std.proofs.Common.{◌≡◌, ℕ, ◌+◌, ◌-◌, ◌<◌, ◌≤◌, ◌^◌, max, min, Bool, true, false, ◌&&◌, cond, eqb, ltb, ◌⊎◌, inl, inr, List, [], ◌∷◌, length, get_or, take, refl, ap, ◌∙◌, sym, arith}
+use Rattle.std.proofs.Common.{◌≡◌, ℕ, ◌+◌, ◌-◌, ◌<◌, ◌≤◌, ◌^◌, max, min, Bool, true, false, ◌&&◌, cond, eqb, ltb, ◌⊎◌, inl, inr, List, [], ◌∷◌, length, get_or, take, refl, ap, ◌∙◌, sym, arith, eq-eqb, le-ltb, lt-ltb, ne_eqb, length-take}
 use Rattle.std.specs.List.{All, count_by, sum_by}
-use Rattle.std.proofs.lemmas.Bool.{and_left, and_right, cases_lt, cases_order, eq-eqb, le-ltb, lt-ltb, ne_eqb}
+use Rattle.std.proofs.lemmas.Bool.{and_left, and_right, cases_lt, cases_order}
 use Rattle.std.proofs.lemmas.List.Elements.{All-head, All-tail, All-weaker}
-use Rattle.std.proofs.lemmas.List.{length-take}
 use Rattle.std.proofs.lemmas.List.Sums.{count_by-le-length, sum_by-cons, sum_by_more}
-use Rattle.drawing.specs.declared.bar.Bar.{Bar}
-use Rattle.picture.specs.Layout.{IsShort}
+use Rattle.overview.specs.Below.{Bar, IsShort}
 use Rattle.overview.specs.Queue.{greatest_from, in_line_at, is_in_line, waits_at}
 use Rattle.overview.specs.inner.Levels.{begins_at, ends_at, waits_before}
-use Rattle.overview.proofs.Appending.{next}
+use Rattle.picture.proofs.Appending.{next}
 
 pub and_same : (a b c : Bool) → a ≡ b → (a && c) ≡ (b && c)
 and_same a b c same = ap (λ x. x && c) same

@@ -1,4 +1,3 @@
-mod Appending
 mod ColumnsFit
 mod TablesFollow
 mod SharesFollow

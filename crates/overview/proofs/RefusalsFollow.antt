@@ -1,7 +1,7 @@
 -- Which column a mark is in.
-use Rattle.std.proofs.Common.{◌≡◌, ℕ, ◌+◌, ◌-◌, ◌*◌, ◌/◌, ◌<◌, ◌≤◌, ◌^◌, min, true, false, ◌&&◌, cond, eqb, leb, ltb, ◌⊎◌, inl, inr, ap, ◌∙◌, sym, arith}
-use Rattle.std.proofs.lemmas.Bool.{and_from, and_left, and_right, cases_order, eq-eqb, le-leb, le-ltb, lt-leb, lt-ltb, ne_eqb}
-use Rattle.std.proofs.lemmas.Nat.{div-add-mod', mul-le}
+use Rattle.std.proofs.Common.{◌≡◌, ℕ, ◌+◌, ◌-◌, ◌*◌, ◌/◌, ◌<◌, ◌≤◌, ◌^◌, min, true, false, ◌&&◌, cond, eqb, leb, ltb, ◌⊎◌, inl, inr, ap, ◌∙◌, sym, arith, eq-eqb, le-leb, le-ltb, lt-ltb, ne_eqb, div-add-mod'}
+use Rattle.std.proofs.lemmas.Bool.{and_from, and_left, and_right, cases_order, lt-leb}
+use Rattle.std.proofs.lemmas.Nat.{mul-le}
 use Rattle.drawing.specs.declared.mark.Mark.{Mark}
 use Rattle.overview.specs.declared.columns.Columns.{Columns}
 use Rattle.overview.specs.Columns.{end_of, first_of}

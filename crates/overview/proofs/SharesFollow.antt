@@ -1,9 +1,9 @@
 -- That the table of shares follows a bar.
-use Rattle.std.proofs.Common.{◌≡◌, ℕ, ◌+◌, ◌-◌, ◌*◌, ◌/◌, ◌%◌, ◌<◌, ◌≤◌, ◌^◌, min, Bool, true, false, cond, eqb, ltb, ◌⊎◌, inl, inr, List, [], length, get_or, replicate, set, take, refl, ap, ◌∙◌, sym, arith}
-use Rattle.std.proofs.lemmas.Bool.{cases_eq, cases_lt, eq-eqb, eqb-false, eqb-true, le-ltb, lt-ltb, ltb-false, ltb-true, ne_eqb}
-use Rattle.std.proofs.lemmas.List.{get_or-replicate, get_or-set_other, get_or-set_same, get_or_past, length-replicate}
+use Rattle.std.proofs.Common.{◌≡◌, ℕ, ◌+◌, ◌-◌, ◌*◌, ◌/◌, ◌%◌, ◌<◌, ◌≤◌, ◌^◌, min, Bool, true, false, cond, eqb, ltb, ◌⊎◌, inl, inr, List, [], length, get_or, replicate, set, take, refl, ap, ◌∙◌, sym, arith, eq-eqb, eqb-true, le-ltb, lt-ltb, ltb-false, ltb-true, ne_eqb, get_or-set_other, get_or-set_same, div-add-mod'}
+use Rattle.std.proofs.lemmas.Bool.{cases_eq, cases_lt, eqb-false}
+use Rattle.std.proofs.lemmas.List.{get_or-replicate, get_or_past, length-replicate}
 use Rattle.std.proofs.lemmas.List.Sums.{sum_by_more}
-use Rattle.std.proofs.lemmas.Nat.{div-add-mod', mod_below, same_from_place}
+use Rattle.std.proofs.lemmas.Nat.{mod_below, same_from_place}
 use Rattle.drawing.specs.declared.bar.Bar.{Bar}
 use Rattle.overview.specs.declared.columns.Columns.{Columns}
 use Rattle.overview.specs.declared.shares.Shares.{Shares}

@@ -1,9 +1,8 @@
 -- Tables that have a value for each number below their length.
-use Rattle.std.proofs.Common.{◌≡◌, ℕ, ◌+◌, ◌<◌, List, [], ◌∷◌, ◌++◌, length, get_or, ap, ◌∙◌, sym, arith}
-use Rattle.std.proofs.lemmas.List.{ext_get_or}
+use Rattle.std.proofs.Common.{◌≡◌, ℕ, ◌+◌, ◌<◌, List, [], ◌∷◌, ◌++◌, length, get_or, ap, ◌∙◌, sym, arith, ext_get_or}
 use Rattle.history.specs.Base.{each_below}
 use Rattle.history.proofs.Folding.{get_or-each, length-each}
-use Rattle.overview.proofs.Appending.{next}
+use Rattle.picture.proofs.Appending.{next}
 
 pub table_is : (f : ℕ → ℕ) (n : ℕ) (table : List ℕ) → length table ≡ n →
     ((i : ℕ) → i < n → get_or table i 0 ≡ f i) → table ≡ each_below n f

@@ -2,14 +2,12 @@
 use Rattle.std.specs.Prelude.{ℕ, zero, suc, ◌+◌, ◌-◌, ◌*◌, ◌/◌, ◌^◌, max, min, List, [], ◌++◌, codes, drop, take, slice_index_or, ℤ, pos, ◌-ℤ◌, int_lt, if◌then◌else◌, unsigned_abs}
 use Rattle.std.specs.Fmt.{signed_decimal}
 use Rattle.std.specs.List.{fold}
-use Rattle.history.specs.declared.header.Object.{Object}
-use Rattle.history.specs.declared.header.Object.TheVariants.{Lock, ReadWrite, Semaphore, Latch}
+use Rattle.overview.specs.Below.{Object, Lock, ReadWrite, Semaphore, Latch, placed}
 use Rattle.overview.specs.declared.frame.Frame.{Frame}
 use Rattle.overview.specs.declared.spread.Spread.{Spread}
 use Rattle.overview.specs.Columns.{end_of, first_of}
 use Rattle.overview.specs.Frame.{x_of}
 use Rattle.overview.specs.Gauges.{block, span_words}
-use Rattle.picture.specs.Pieces.{placed}
 
 -- the lowest and the highest with one more amount
 abbrev pub wider : Spread → ℤ → Spread

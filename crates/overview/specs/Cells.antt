@@ -1,15 +1,12 @@
 -- What a seat did in each column, as parts of a block.
 use Rattle.std.specs.Prelude.{ℕ, zero, suc, ◌+◌, ◌-◌, ◌==◌, max, if◌then◌else◌, List, [], ◌++◌, codes, slice_index}
-use Rattle.drawing.specs.declared.bar.Bar.{Bar}
-use Rattle.naming.specs.Names.{Given}
+use Rattle.overview.specs.Below.{Bar, Given, seat_words, named}
 use Rattle.overview.specs.declared.frame.Frame.{Frame}
 use Rattle.overview.specs.declared.shares.Shares.{Shares}
 use Rattle.overview.specs.Columns.{end_of, first_of}
 use Rattle.overview.specs.Frame.{high_of, x_of, y_of}
 use Rattle.overview.specs.Gauges.{block, span_words}
 use Rattle.overview.specs.Shares.{seat_shares}
-use Rattle.picture.specs.Names.{seat_words}
-use Rattle.picture.specs.Pieces.{named}
 
 -- all parts together; a seat that has holds and waits counts twice
 abbrev pub sum_of : Shares → ℕ

@@ -1,7 +1,6 @@
 -- The SVG document of a summary.
 use Rattle.std.specs.Prelude.{ℕ, List, ◌++◌, codes, length, slice_index}
-use Rattle.history.specs.declared.entry.Entry.{Entry}
-use Rattle.naming.specs.Names.{Given}
+use Rattle.overview.specs.Below.{Entry, Given, ranks, View}
 use Rattle.overview.specs.declared.frame.Frame.{Frame}
 use Rattle.overview.specs.Amounts.{amounts_of}
 use Rattle.overview.specs.Cells.{all_cells}
@@ -14,8 +13,6 @@ use Rattle.overview.specs.Rows.{rows, ticks}
 use Rattle.overview.specs.Waits.{longest}
 use Rattle.overview.specs.WaitsText.{waits_part}
 use Rattle.overview.specs.Wrong.{marked_at}
-use Rattle.picture.specs.Rows.{ranks}
-use Rattle.picture.specs.View.{View}
 
 -- what is drawn below the blocks: the rows of the seats, and the scale
 abbrev pub ground : Given → Frame → List ℕ → View → List ℕ

@@ -1,10 +1,6 @@
 -- Positions in a summary, in pixels.
 use Rattle.std.specs.Prelude.{ℕ, ◌+◌, ◌-◌, ◌*◌, ◌/◌, ◌==◌, max, min, if◌then◌else◌}
-use Rattle.history.specs.declared.header.Header.{Header}
-use Rattle.history.specs.declared.header.Object.{Object}
-use Rattle.history.specs.declared.header.Object.TheVariants.{Lock, ReadWrite, Semaphore, Latch}
-use Rattle.naming.specs.Names.{Given}
-use Rattle.picture.specs.Names.{left_of}
+use Rattle.overview.specs.Below.{Header, Object, Lock, ReadWrite, Semaphore, Latch, Given, left_of}
 use Rattle.overview.specs.declared.frame.Frame.{Frame}
 use Rattle.overview.specs.Columns.{columns_of}
 

@@ -1,15 +1,10 @@
 -- The part above the rows.
 use Rattle.std.specs.Prelude.{ℕ, ◌+◌, ◌-◌, ◌==◌, if◌then◌else◌, List, ◌++◌, codes}
-use Rattle.history.specs.declared.entry.Entry.{Entry}
-use Rattle.history.specs.declared.header.Header.{Header}
-use Rattle.history.specs.Spelling.{part_of}
-use Rattle.naming.specs.Names.{Given}
+use Rattle.overview.specs.Below.{Entry, Header, part_of, Given, named, View}
 use Rattle.overview.specs.declared.frame.Frame.{Frame}
 use Rattle.overview.specs.declared.head.TheConstants.{LEGEND, STYLE}
 use Rattle.overview.specs.Frame.{height_of, width_of}
 use Rattle.picture.specs.Head.{left_out, opening_tag, wrong_part}
-use Rattle.picture.specs.Pieces.{named}
-use Rattle.picture.specs.View.{View}
 
 -- the header as a history text spells it: as the document's title, and as the summary's
 unfoldable pub title : Header → List ℕ

@@ -1,3 +1,4 @@
+pub mod Below
 pub mod Columns
 pub mod Shares
 pub mod Queue

@@ -1,10 +1,7 @@
 -- How many seats wait in the queue.
 use Rattle.std.specs.Prelude.{ℕ, zero, suc, ◌+◌, ◌-◌, nat_lt, Bool, true, false, ◌&&◌, List, max}
 use Rattle.std.specs.List.{count_by}
-use Rattle.drawing.specs.declared.bar.Bar.{Bar}
-use Rattle.drawing.specs.declared.kind.Kind.{Kind}
-use Rattle.drawing.specs.declared.kind.Kind.TheVariants.{Exclusive, Shared, InLine, Asleep}
-use Rattle.history.specs.Base.{each_below}
+use Rattle.overview.specs.Below.{Bar, Kind, Exclusive, Shared, InLine, Asleep, each_below}
 use Rattle.overview.specs.declared.columns.Columns.{Columns}
 use Rattle.overview.specs.Columns.{end_of, first_of}
 

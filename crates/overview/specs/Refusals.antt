@@ -1,10 +1,7 @@
 -- How many entries of a column are refused: those that have the mark of a refusal in a picture.
 use Rattle.std.specs.Prelude.{ℕ, ◌&&◌, nat_le, nat_lt, Bool, true, false, List}
 use Rattle.std.specs.List.{count_by}
-use Rattle.drawing.specs.declared.mark.Mark.{Mark}
-use Rattle.drawing.specs.declared.mark.Sign.{Sign}
-use Rattle.drawing.specs.declared.mark.Sign.TheVariants.{Refused}
-use Rattle.history.specs.Base.{each_below}
+use Rattle.overview.specs.Below.{Mark, Sign, Refused, each_below}
 use Rattle.overview.specs.declared.columns.Columns.{Columns}
 use Rattle.overview.specs.Columns.{end_of, first_of}
 

@@ -1,12 +1,10 @@
 -- The rows of the seats, and the scale below them.
 use Rattle.std.specs.Prelude.{ℕ, zero, suc, ◌+◌, ◌%◌, ◌==◌, nat_lt, if◌then◌else◌, List, [], ◌++◌, codes, slice_index}
-use Rattle.naming.specs.Names.{Given}
+use Rattle.overview.specs.Below.{Given, seat_words, named, number_at, upright}
 use Rattle.overview.specs.declared.frame.Frame.{Frame}
 use Rattle.overview.specs.Columns.{first_of}
 use Rattle.overview.specs.Frame.{bottom_of, x_of, y_of}
 use Rattle.overview.specs.Gauges.{shade_at}
-use Rattle.picture.specs.Names.{seat_words}
-use Rattle.picture.specs.Pieces.{named, number_at, upright}
 
 -- a row, with its seat at the left; every other one is shaded
 abbrev pub shade : Frame → ℕ → List ℕ

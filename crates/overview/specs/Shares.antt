@@ -1,9 +1,7 @@
 -- For how many entries of a column a seat held, waited in the queue, or waited on a condition.
 use Rattle.std.specs.Prelude.{ℕ, ◌+◌, ◌-◌, ◌*◌, ◌==◌, if◌then◌else◌, List, max, min}
 use Rattle.std.specs.List.{sum_by}
-use Rattle.drawing.specs.declared.bar.Bar.{Bar}
-use Rattle.drawing.specs.declared.kind.Kind.{Kind}
-use Rattle.drawing.specs.declared.kind.Kind.TheVariants.{Exclusive, Shared, InLine, Asleep}
+use Rattle.overview.specs.Below.{Bar, Kind, Exclusive, Shared, InLine, Asleep}
 use Rattle.overview.specs.declared.columns.Columns.{Columns}
 use Rattle.overview.specs.declared.shares.Shares.{Shares}
 use Rattle.overview.specs.Columns.{end_of, first_of}

@@ -1,9 +1,7 @@
 -- The longest waits, in the queue or on a condition.
 use Rattle.std.specs.Prelude.{ℕ, ◌+◌, ◌-◌, nat_le, Bool, true, false, List, [], take}
 use Rattle.std.specs.List.{filter, fold, insert, prefix_len}
-use Rattle.drawing.specs.declared.bar.Bar.{Bar}
-use Rattle.drawing.specs.declared.kind.Kind.{Kind}
-use Rattle.drawing.specs.declared.kind.Kind.TheVariants.{Exclusive, Shared, InLine, Asleep}
+use Rattle.overview.specs.Below.{Bar, Kind, Exclusive, Shared, InLine, Asleep}
 
 abbrev pub is_wait : Kind → Bool
 is_wait Exclusive = false

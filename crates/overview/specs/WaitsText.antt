@@ -1,13 +1,8 @@
 -- The lines of the longest waits.
 use Rattle.std.specs.Prelude.{ℕ, zero, suc, ◌+◌, ◌-◌, ◌*◌, ◌==◌, min, if◌then◌else◌, List, [], ◌++◌, codes, length, slice_get, Option, Some, None}
-use Rattle.drawing.specs.declared.bar.Bar.{Bar}
-use Rattle.drawing.specs.declared.kind.Kind.{Kind}
-use Rattle.drawing.specs.declared.kind.Kind.TheVariants.{Exclusive, Shared, InLine, Asleep}
-use Rattle.naming.specs.Names.{Given}
+use Rattle.overview.specs.Below.{Bar, Kind, Exclusive, Shared, InLine, Asleep, Given, condition_words, seat_words, named}
 use Rattle.overview.specs.declared.frame.Frame.{Frame}
 use Rattle.overview.specs.Frame.{bottom_of}
-use Rattle.picture.specs.Names.{condition_words, seat_words}
-use Rattle.picture.specs.Pieces.{named}
 
 -- how a seat waited
 abbrev pub waited : Given → Kind → List ℕ

@@ -1,10 +1,8 @@
 -- The place of an illegal entry.
 use Rattle.std.specs.Prelude.{ℕ, ◌+◌, ◌*◌, ◌/◌, ◌==◌, if◌then◌else◌, List, [], ◌++◌, codes, slice_get, slice_index, Option, Some, None}
-use Rattle.history.specs.declared.entry.Entry.{Entry}
-use Rattle.naming.specs.Names.{Given}
+use Rattle.overview.specs.Below.{Entry, Given, named, placed}
 use Rattle.overview.specs.declared.frame.Frame.{Frame}
 use Rattle.overview.specs.Frame.{x_of, y_of}
-use Rattle.picture.specs.Pieces.{named, placed}
 use Rattle.picture.specs.Titles.{wrong_title}
 
 -- the column of the entry that follows the last one

@@ -1,7 +1,6 @@
 -- Pieces that are appended one after another.
-use Rattle.std.proofs.Common.{◌≡◌, ℕ, ◌+◌, ◌<◌, List, ◌++◌, length, get_or, take, ap, ◌∙◌, sym}
-use Rattle.std.specs.List.{flat_map}
-use Rattle.std.proofs.lemmas.List.{append_assoc, flat_map_more, take_more}
+use Rattle.std.proofs.Common.{◌≡◌, ℕ, suc, ◌+◌, List, ◌++◌, ap, ◌∙◌, sym, arith, append_assoc}
+pub use Rattle.explain_text.proofs.Appending.{one_more}
 
 regroup3 : (o a b c : List ℕ) → ((o ++ a) ++ b) ++ c ≡ o ++ ((a ++ b) ++ c)
 regroup3 o a b c = simp append_assoc
@@ -15,6 +14,10 @@ regroup5 o a b c d e = simp append_assoc
 regroup6 : (o a b c d e f : List ℕ) →
     (((((o ++ a) ++ b) ++ c) ++ d) ++ e) ++ f ≡ o ++ (((((a ++ b) ++ c) ++ d) ++ e) ++ f)
 regroup6 o a b c d e f = simp append_assoc
+
+-- two pieces
+pub two : (o a b o1 o2 : List ℕ) → o1 ≡ o ++ a → o2 ≡ o1 ++ b → o2 ≡ o ++ (a ++ b)
+two o a b o1 o2 q1 q2 = q2 ∙ ap (λ x. x ++ b) q1 ∙ append_assoc o a b
 
 -- three pieces
 pub three : (o a b c o1 o2 o3 : List ℕ) → o1 ≡ o ++ a → o2 ≡ o1 ++ b → o3 ≡ o2 ++ c →
@@ -42,11 +45,25 @@ six o a b c d e f o1 o2 o3 o4 o5 o6 q1 q2 q3 q4 q5 q6 =
     q6 ∙ ap (λ x. x ++ f) (q5 ∙ ap (λ x. x ++ e) (q4 ∙ ap (λ x. x ++ d) (q3 ∙ ap (λ x. x ++ c)
     (q2 ∙ ap (λ x. x ++ b) q1)))) ∙ regroup6 o a b c d e f
 
--- the lines of a list's items, one more at each step
-pub one_more : {X : Type 0} (line : X → List ℕ) (xs : List X) (i : ℕ) (d : X) (start before after : List ℕ) →
-    i < length xs → before ≡ start ++ flat_map line (take i xs) → after ≡ before ++ line (get_or xs i d) →
-    after ≡ start ++ flat_map line (take (i + 1) xs)
-one_more line xs i d start before after l was new =
-    new ∙ ap (λ x. x ++ line (get_or xs i d)) was
-    ∙ flat_map_more line start (take i xs) (get_or xs i d)
-    ∙ ap (λ ys. start ++ flat_map line ys) (sym (take_more xs i d l))
+regroup7 : (o a b c d e f g : List ℕ) →
+    ((((((o ++ a) ++ b) ++ c) ++ d) ++ e) ++ f) ++ g ≡ o ++ ((((((a ++ b) ++ c) ++ d) ++ e) ++ f) ++ g)
+regroup7 o a b c d e f g = simp append_assoc
+
+-- seven
+pub seven : (o a b c d e f g o1 o2 o3 o4 o5 o6 o7 : List ℕ) → o1 ≡ o ++ a → o2 ≡ o1 ++ b → o3 ≡ o2 ++ c →
+    o4 ≡ o3 ++ d → o5 ≡ o4 ++ e → o6 ≡ o5 ++ f → o7 ≡ o6 ++ g →
+    o7 ≡ o ++ ((((((a ++ b) ++ c) ++ d) ++ e) ++ f) ++ g)
+seven o a b c d e f g o1 o2 o3 o4 o5 o6 o7 q1 q2 q3 q4 q5 q6 q7 =
+    q7 ∙ ap (λ x. x ++ g) (q6 ∙ ap (λ x. x ++ f) (q5 ∙ ap (λ x. x ++ e) (q4 ∙ ap (λ x. x ++ d)
+    (q3 ∙ ap (λ x. x ++ c) (q2 ∙ ap (λ x. x ++ b) q1))))) ∙ regroup7 o a b c d e f g
+
+-- one piece more, where the pieces are counted
+pub next : (k : ℕ) → k + 1 ≡ suc k
+next k = omega arith
+
+pub one_piece_more : (pieces : ℕ → List ℕ) (piece : List ℕ) (k : ℕ) (start was now : List ℕ) →
+    was ≡ start ++ pieces k → now ≡ was ++ piece → pieces (suc k) ≡ pieces k ++ piece →
+    now ≡ start ++ pieces (k + 1)
+one_piece_more pieces piece k start was now before new step =
+    new ∙ ap (λ x. x ++ piece) before ∙ append_assoc start (pieces k) piece
+    ∙ ap (λ x. start ++ x) (sym step) ∙ ap (λ n. start ++ pieces n) (sym (next k))

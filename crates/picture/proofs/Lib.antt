@@ -1,2 +1,2 @@
-mod Appending
+pub mod Appending
 mod RowsFollow

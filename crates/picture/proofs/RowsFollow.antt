@@ -1,14 +1,9 @@
 -- Which seats have a row, one seat after another.
 use mir.Val.{bool_byte}
-use Rattle.std.proofs.Common.{◌≡◌, ⊎_elim, ℕ, zero, suc, ◌+◌, ◌<◌, ◌≤◌, ◌^◌, Bool, true, false, ◌||◌, eqb, List, [], ◌∷◌, ◌++◌, length, get_or, set, map, take, refl, ap, ◌∙◌, sym, arith}
-use Rattle.std.specs.Prelude.{slice_index}
-use Rattle.std.proofs.lemmas.Bool.{cases_eq, eq-eqb, ne_eqb}
-use Rattle.std.proofs.lemmas.List.{append_assoc, get_or-set_same, get_or-set_other}
-use Rattle.history.specs.declared.entry.Entry.{Entry}
-use Rattle.history.specs.Sleepers.{has}
+use Rattle.std.proofs.Common.{◌≡◌, ⊎_elim, ℕ, zero, suc, ◌+◌, ◌<◌, ◌≤◌, ◌^◌, Bool, true, false, ◌||◌, eqb, List, [], ◌∷◌, ◌++◌, length, get_or, set, map, take, refl, ap, ◌∙◌, sym, arith, slice_index, eq-eqb, ne_eqb, append_assoc, get_or-set_same, get_or-set_other}
+use Rattle.std.proofs.lemmas.Bool.{cases_eq}
+use Rattle.picture.specs.Below.{Entry, has, one_if, Given}
 use Rattle.history.proofs.Folding.{get_or-each, length-each}
-use Rattle.drawing.specs.Levels.{one_if}
-use Rattle.naming.specs.Names.{Given}
 use Rattle.picture.specs.declared.layout.Layout.{Layout}
 use Rattle.picture.specs.Grid.{row_if_any, rows}
 use Rattle.picture.specs.Rows.{AreRanks, has_row, rank, ranks}

@@ -1,17 +1,8 @@
 -- The lines of bars.
 use Rattle.std.specs.Prelude.{ℕ, ◌+◌, ◌*◌, ◌==◌, ◌&&◌, ◌||◌, nat_lt, Bool, true, false, if◌then◌else◌, List, [], ◌++◌, length, codes, decimal, slice_get, slice_index, Option, Some, None}
 use Rattle.std.specs.List.{flat_map}
-use Rattle.drawing.specs.declared.bar.Bar.{Bar}
-use Rattle.drawing.specs.declared.kind.Kind.{Kind}
-use Rattle.drawing.specs.declared.kind.Kind.TheVariants.{Exclusive, Shared, InLine, Asleep}
-use Rattle.history.specs.declared.entry.Entry.{Entry}
-use Rattle.history.specs.declared.entry.Mode.TheVariants.{S}
-use Rattle.history.specs.declared.entry.Word.{Word}
-use Rattle.history.specs.declared.entry.Word.TheVariants.{Queued, Granted, Left}
-use Rattle.history.specs.declared.header.Object.{Object}
-use Rattle.history.specs.declared.header.Object.TheVariants.{Lock, ReadWrite, Semaphore, Latch}
-use Rattle.history.specs.Entry.{same_mode}
-use Rattle.naming.specs.Names.{Given}
+use Rattle.picture.specs.Below.{Bar, Kind, Exclusive, Shared, InLine, Asleep, Entry, S, Word, Queued, Left, Object, Lock, ReadWrite, Semaphore, Latch, same_mode, Given}
+use Rattle.history.specs.declared.entry.Word.TheVariants.{Granted}
 use Rattle.picture.specs.declared.layout.Layout.{Layout}
 use Rattle.picture.specs.declared.layout.Rect.{Rect}
 use Rattle.picture.specs.Layout.{rect_of}

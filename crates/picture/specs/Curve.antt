@@ -2,8 +2,7 @@
 use Rattle.std.specs.Prelude.{ℕ, ◌-◌, ◌*◌, ◌/◌, ◌^◌, max, min, List, [], ◌++◌, codes, ℤ, pos, ◌-ℤ◌, int_lt, if◌then◌else◌, unsigned_abs}
 use Rattle.std.specs.Fmt.{signed_decimal}
 use Rattle.std.specs.List.{flat_map, fold}
-use Rattle.history.specs.declared.header.Object.{Object}
-use Rattle.history.specs.declared.header.Object.TheVariants.{Lock, ReadWrite, Semaphore, Latch}
+use Rattle.picture.specs.Below.{Object, Lock, ReadWrite, Semaphore, Latch}
 use Rattle.picture.specs.declared.curve.Range.{Range}
 use Rattle.picture.specs.declared.layout.Layout.{Layout}
 use Rattle.picture.specs.Pieces.{named, placed}

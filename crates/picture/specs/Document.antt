@@ -1,9 +1,7 @@
 -- The SVG document of a picture.
 use Rattle.std.specs.Prelude.{ℕ, ◌+◌, ◌<◌, ◌^◌, ◌&&◌, ◌==◌, nat_le, if◌then◌else◌, List, [], ◌++◌, codes, slice_index, Option, Some, None}
 use Rattle.std.specs.List.{All}
-use Rattle.history.specs.declared.entry.Entry.{Entry}
-use Rattle.history.specs.Header.{IsInRange}
-use Rattle.naming.specs.Names.{Given}
+use Rattle.picture.specs.Below.{Entry, IsInRange, Given}
 use Rattle.picture.specs.declared.layout.Layout.{Layout}
 use Rattle.picture.specs.View.{View}
 use Rattle.picture.specs.Bars.{bar_lines}

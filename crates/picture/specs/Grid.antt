@@ -1,7 +1,6 @@
 -- The rows of the seats, the scale below them, and the place of an illegal entry.
 use Rattle.std.specs.Prelude.{ℕ, zero, suc, ◌+◌, ◌*◌, ◌%◌, ◌==◌, nat_lt, if◌then◌else◌, List, [], ◌++◌, codes, slice_get, slice_index, Option, Some, None}
-use Rattle.history.specs.declared.entry.Entry.{Entry}
-use Rattle.naming.specs.Names.{Given}
+use Rattle.picture.specs.Below.{Entry, Given}
 use Rattle.picture.specs.declared.layout.Layout.{Layout}
 use Rattle.picture.specs.Layout.{bottom_of, right_of, x_of, y_of}
 use Rattle.picture.specs.Marks.{mark_place}

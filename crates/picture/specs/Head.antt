@@ -1,9 +1,6 @@
 -- The part above the rows.
 use Rattle.std.specs.Prelude.{ℕ, ◌+◌, ◌-◌, ◌==◌, if◌then◌else◌, List, [], ◌++◌, codes, slice_get, Option, Some, None}
-use Rattle.history.specs.declared.entry.Entry.{Entry}
-use Rattle.history.specs.declared.header.Header.{Header}
-use Rattle.history.specs.Spelling.{part_of}
-use Rattle.naming.specs.Names.{Given}
+use Rattle.picture.specs.Below.{Entry, Header, part_of, Given}
 use Rattle.picture.specs.declared.layout.Layout.{Layout}
 use Rattle.picture.specs.View.{View}
 use Rattle.picture.specs.declared.head.TheConstants.{LEGEND, STYLE}

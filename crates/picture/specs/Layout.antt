@@ -1,12 +1,6 @@
 -- Positions in a picture, in pixels.
 use Rattle.std.specs.Prelude.{ℕ, ◌+◌, ◌-◌, ◌*◌, ◌<◌, ◌≤◌, ◌^◌, max, min, nat_le, if◌then◌else◌}
-use Rattle.history.specs.declared.header.Header.{Header}
-use Rattle.history.specs.declared.header.Object.{Object}
-use Rattle.history.specs.declared.header.Object.TheVariants.{Lock, ReadWrite, Semaphore, Latch}
-use Rattle.drawing.specs.declared.bar.Bar.{Bar}
-use Rattle.drawing.specs.declared.kind.Kind.{Kind}
-use Rattle.drawing.specs.declared.kind.Kind.TheVariants.{Exclusive, Shared, InLine, Asleep}
-use Rattle.naming.specs.Names.{Given}
+use Rattle.picture.specs.Below.{Header, Object, Lock, ReadWrite, Semaphore, Latch, Bar, Kind, Exclusive, Shared, InLine, Asleep, Given}
 use Rattle.picture.specs.Names.{left_of}
 use Rattle.picture.specs.declared.layout.Layout.{Layout}
 use Rattle.picture.specs.declared.layout.Rect.{Rect}

@@ -1,3 +1,4 @@
+pub mod Below
 pub mod View
 pub mod Rows
 pub mod Layout

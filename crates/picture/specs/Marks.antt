@@ -1,11 +1,7 @@
 -- The lines of marks.
 use Rattle.std.specs.Prelude.{ℕ, ◌+◌, ◌/◌, ◌<◌, ◌^◌, List, ◌++◌, codes, slice_index}
 use Rattle.std.specs.List.{flat_map}
-use Rattle.drawing.specs.declared.mark.Mark.{Mark}
-use Rattle.drawing.specs.declared.mark.Sign.{Sign}
-use Rattle.drawing.specs.declared.mark.Sign.TheVariants.{Missed, Refused, Signal, Drained, Counted, Granted, TimedOut, Interrupted, Barged}
-use Rattle.history.specs.declared.entry.Entry.{Entry}
-use Rattle.naming.specs.Names.{Given}
+use Rattle.picture.specs.Below.{Mark, Sign, Missed, Refused, Signal, Drained, Counted, Granted, TimedOut, Interrupted, Barged, Entry, Given}
 use Rattle.picture.specs.declared.layout.Layout.{Layout}
 use Rattle.picture.specs.Layout.{x_of, y_of}
 use Rattle.picture.specs.Pieces.{named}

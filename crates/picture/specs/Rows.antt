@@ -1,10 +1,7 @@
 -- Which seats have a row, and where.
 use Rattle.std.specs.Prelude.{ℕ, zero, suc, ◌+◌, ◌<◌, ◌^◌, ◌==◌, Bool, ◌||◌, if◌then◌else◌, List, Option, Some, None, drop, map, take}
 use Rattle.std.specs.List.{All}
-use Rattle.history.specs.declared.entry.Entry.{Entry}
-use Rattle.history.specs.Base.{each_below}
-use Rattle.history.specs.Sleepers.{has}
-use Rattle.drawing.specs.Levels.{one_if}
+use Rattle.picture.specs.Below.{Entry, each_below, has, one_if}
 use Rattle.picture.specs.View.{View}
 
 -- where the entries end that have a place in the picture: those before `to`, and the illegal one if it is the next

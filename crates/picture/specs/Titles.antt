@@ -1,12 +1,7 @@
 -- The tooltips of bars and marks.
 use Rattle.std.specs.Prelude.{ℕ, ◌+◌, List, [], ◌++◌, codes, slice_get, Option, Some, None}
-use Rattle.drawing.specs.declared.bar.Bar.{Bar}
-use Rattle.drawing.specs.declared.kind.Kind.{Kind}
-use Rattle.drawing.specs.declared.kind.Kind.TheVariants.{Exclusive, Shared, InLine, Asleep}
-use Rattle.drawing.specs.declared.mark.Mark.{Mark}
+use Rattle.picture.specs.Below.{Bar, Kind, Exclusive, Shared, InLine, Asleep, Mark, Entry, Given}
 use Rattle.explain_text.specs.Words.{entry_text}
-use Rattle.history.specs.declared.entry.Entry.{Entry}
-use Rattle.naming.specs.Names.{Given}
 use Rattle.picture.specs.Names.{condition_words, seat_words}
 use Rattle.picture.specs.Pieces.{named}
 

@@ -1,8 +1,6 @@
 -- What a picture shows, with lists in place of memory.
 use Rattle.std.specs.Prelude.{ℕ, ℤ, Bool, List, Option}
-use Rattle.history.specs.declared.header.Header.{Header}
-use Rattle.drawing.specs.declared.bar.Bar.{Bar}
-use Rattle.drawing.specs.declared.mark.Mark.{Mark}
+use Rattle.picture.specs.Below.{Header, Bar, Mark}
 use Rattle.picture.specs.declared.picture.Picture.{Picture}
 
 -- The entries from one index on and before another, the number of all entries, and the number of the first

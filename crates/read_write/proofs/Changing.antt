@@ -1,18 +1,9 @@
 -- What a take, a give and the like make of a read-write lock's hooks.
-use Rattle.std.proofs.Common.{◌≡◌, ◌≢◌, ⊎_elim, ℕ, ◌+◌, ◌-◌, ◌<◌, ◌≤◌, true, List, length, length-set, get_or, slice_index, Option, Some, None, refl, ap, ◌∙◌, sym, subst, arith}
+use Rattle.std.proofs.Common.{◌≡◌, ◌≢◌, ⊎_elim, ℕ, ◌+◌, ◌-◌, ◌<◌, ◌≤◌, true, List, length, length-set, get_or, slice_index, Option, Some, None, refl, ap, ◌∙◌, sym, subst, arith, eqb-true, get_or-set_other}
 use Rattle.std.proofs.Math.ListN.{set}
-use Rattle.std.proofs.lemmas.Bool.{cases_eq, cases_lt, eqb-true}
+use Rattle.std.proofs.lemmas.Bool.{cases_eq, cases_lt}
 use Rattle.std.proofs.lemmas.Grind.{get_or-set_at, get_or_default_zero}
-use Rattle.std.proofs.lemmas.List.{get_or-set_other}
-use Rattle.history.specs.declared.entry.Mode.{Mode}
-use Rattle.history.specs.declared.entry.Mode.TheVariants.{X, S}
-use Rattle.history.specs.Changes.{holds_with, took, gave_back, restored}
-use Rattle.history.specs.Could.{is_seat}
-use Rattle.history.specs.declared.limits.TheConstants.{MOST_READ_WRITE_HOLDS}
-use Rattle.history.specs.Counts.{Counts}
-use Rattle.history.specs.Object.{in_holds}
-use Rattle.frame.specs.Hooks.{IsRestorable}
-use Rattle.frame.specs.Owners.{is_owned, is_owner_in, Owns}
+use Rattle.read_write.specs.Below.{Mode, X, S, holds_with, took, gave_back, restored, is_seat, MOST_READ_WRITE_HOLDS, Counts, in_holds, IsRestorable, is_owned, is_owner_in, Owns}
 use Rattle.history.proofs.Entering.{seat_is}
 use Rattle.frame.proofs.Owners.{owns_took, owns_gave, owns_restored, shared_kept, exclusive_kept, changed_own, changed_other, some_owned, owned_most, seated_some, no_owner}
 use Rattle.frame.proofs.Tables.{table_total, table_set, in_total, past_table}

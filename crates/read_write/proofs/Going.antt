@@ -1,17 +1,9 @@
 -- Who could take after a change of a read-write lock's hooks.
-use Rattle.std.proofs.Common.{◌≡◌, ◌≢◌, ◌⊎◌, ⊎_elim, inl, inr, ℕ, ◌+◌, ◌-◌, ◌<◌, ◌≤◌, Bool, true, false, ◌&&◌, ◌||◌, cond, ltb, eqb, slice_index, length, Option, Some, None, refl, ◌∙◌, sym, subst, arith}
-use Rattle.std.proofs.lemmas.Bool.{cases_eq, eqb-true, eq-eqb, ne_eqb, le-ltb, ltb-false}
-use Rattle.history.specs.declared.entry.Mode.{Mode}
-use Rattle.history.specs.declared.entry.Mode.TheVariants.{X, S}
-use Rattle.history.specs.Changes.{took, gave_back, given, restored}
-use Rattle.history.specs.Could.{could, is_seat, is_none_or}
-use Rattle.history.specs.declared.limits.TheConstants.{MOST_READ_WRITE_HOLDS}
-use Rattle.history.specs.Counts.{Counts}
+use Rattle.std.proofs.Common.{◌≡◌, ◌≢◌, ◌⊎◌, ⊎_elim, inl, inr, ℕ, ◌+◌, ◌-◌, ◌<◌, ◌≤◌, Bool, true, false, ◌&&◌, ◌||◌, cond, ltb, eqb, slice_index, length, Option, Some, None, refl, ◌∙◌, sym, subst, arith, eqb-true, eq-eqb, ne_eqb, le-ltb, ltb-false}
+use Rattle.std.proofs.lemmas.Bool.{cases_eq}
+use Rattle.read_write.specs.Below.{Mode, X, S, took, gave_back, given, restored, could, is_seat, is_none_or, MOST_READ_WRITE_HOLDS, Counts, Object, take_answer, take_answer_of, give_answer, open_where, IsRestorable, holds_of}
 use Rattle.frame.specs.declared.hooks.Taken.{Taken}
 use Rattle.frame.specs.declared.hooks.Taken.TheVariants as take_answers
-use Rattle.history.specs.declared.header.Object.{Object}
-use Rattle.frame.specs.Hooks.{take_answer, take_answer_of, give_answer, open_where, IsRestorable}
-use Rattle.frame.specs.Owners.{holds_of}
 use Rattle.std.proofs.Math.Bool.{and-false}
 use Rattle.history.proofs.Entering.{seat_is}
 use Rattle.frame.proofs.Owners.{others_not}

@@ -1,17 +1,10 @@
 -- What a read-write lock's hooks say of the counts that they stand for.
-use Rattle.std.proofs.Common.{◌≡◌, ℕ, ◌<◌, Bool, true, false, not, ◌&&◌, cond, ltb, eqb, length, slice_index, Option, Some, None, Ok, Err, refl, ap, ◌∙◌, sym, subst, arith}
+use Rattle.std.proofs.Common.{◌≡◌, ℕ, ◌<◌, Bool, true, false, not, ◌&&◌, cond, ltb, eqb, length, slice_index, Option, Some, None, Ok, Err, refl, ap, ◌∙◌, sym, subst, arith, ltb-true, eqb-true}
 use Rattle.std.proofs.Math.Bool.{or-false}
-use Rattle.std.proofs.lemmas.Bool.{ltb-true, eqb-true, and_parts}
-use Rattle.history.specs.declared.entry.Mode.{Mode}
-use Rattle.history.specs.declared.entry.Mode.TheVariants.{X, S}
+use Rattle.std.proofs.lemmas.Bool.{and_parts}
+use Rattle.read_write.specs.Below.{Mode, X, S, ReadWrite, could, limit, held_back, line_blocks, is_seat, is_none_or, MOST_READ_WRITE_HOLDS, Counts, owner, readers, total, let_go_answer, holds_of, is_owned, is_owner_in}
 use Rattle.history.specs.declared.fault.Fault.TheVariants as fault
-use Rattle.history.specs.declared.header.Object.TheVariants.{ReadWrite}
-use Rattle.history.specs.Could.{could, limit, held_back, line_blocks, is_seat, is_none_or}
-use Rattle.history.specs.declared.limits.TheConstants.{MOST_READ_WRITE_HOLDS}
-use Rattle.history.specs.Counts.{Counts, owner, readers, total}
 use Rattle.history.proofs.Sums.{total_same}
-use Rattle.frame.specs.Hooks.{let_go_answer}
-use Rattle.frame.specs.Owners.{holds_of, is_owned, is_owner_in}
 use Rattle.frame.proofs.Owners.{owner_is}
 use Rattle.read_write.specs.State.{State, MatchesFor, state_of, holds_by}
 use Rattle.read_write.specs.inner.{could_by, reentrant_by}

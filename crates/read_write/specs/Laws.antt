@@ -1,9 +1,6 @@
 -- A read-write lock's hooks as at the opening, and the counts that hooks agree with.
 use Rattle.std.proofs.Common.{◌≡◌, ℕ, length, refl, sym, ◌∙◌, pos}
-use Rattle.history.specs.Counts.{Counts}
-use Rattle.history.specs.declared.entry.Mode.TheVariants.{S}
-use Rattle.frame.specs.Hooks.{AreAlike, opening_counts}
-use Rattle.frame.specs.Owners.{Owns}
+use Rattle.read_write.specs.Below.{Counts, S, AreAlike, opening_counts, Owns}
 use Rattle.frame.proofs.Owners.{owns_alike, owns_opening, owner_seated}
 use Rattle.frame.proofs.Tables.{table_empty}
 use Rattle.read_write.specs.State.{Matches, state_of, rw_of, holds_by, IsOpened}

@@ -1,3 +1,4 @@
+pub mod Below
 pub mod State
 pub mod Laws
 pub mod inner

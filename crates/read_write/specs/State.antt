@@ -1,12 +1,6 @@
 -- What the fields of a read-write lock's hooks represent.
 use Rattle.std.specs.Prelude.{◌≡◌, ℕ, List, length, slice_index, Option, None}
-use Rattle.history.specs.declared.entry.Mode.{Mode}
-use Rattle.history.specs.declared.entry.Mode.TheVariants.{X, S}
-use Rattle.history.specs.declared.header.Object.{Object}
-use Rattle.history.specs.declared.header.Object.TheVariants.{ReadWrite}
-use Rattle.history.specs.declared.header.Policy.{Policy}
-use Rattle.history.specs.Counts.{Counts}
-use Rattle.frame.specs.Owners.{holds_of, Owns}
+use Rattle.read_write.specs.Below.{Mode, X, S, Object, ReadWrite, Policy, Counts, holds_of, Owns}
 use Rattle.read_write.specs.declared.hooks.RwHooks.{RwHooks}
 
 -- The fields, with the table of read holds as a list.

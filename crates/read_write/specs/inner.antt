@@ -1,10 +1,6 @@
 -- What only contracts of private functions cite: no promise of the crate rests on it.
 use Rattle.std.specs.Prelude.{ℕ, ◌==◌, nat_lt, Bool, ◌&&◌, ◌||◌, if◌then◌else◌, slice_index, Option}
-use Rattle.history.specs.declared.entry.Mode.{Mode}
-use Rattle.history.specs.declared.entry.Mode.TheVariants.{X, S}
-use Rattle.history.specs.declared.limits.TheConstants.{MOST_READ_WRITE_HOLDS}
-use Rattle.history.specs.Could.{is_seat, is_none_or}
-use Rattle.frame.specs.Owners.{holds_of}
+use Rattle.read_write.specs.Below.{Mode, X, S, MOST_READ_WRITE_HOLDS, is_seat, is_none_or, holds_of}
 use Rattle.read_write.specs.State.{State}
 
 -- what a seat can acquire

@@ -1,6 +1,6 @@
 -- What a lock's hooks say of the counts that they stand for.
-use Rattle.std.proofs.Common.{◌≡◌, ◌≢◌, ⊎_elim, ℕ, ◌+◌, ◌-◌, ◌<◌, ◌≤◌, Bool, true, false, not, ◌&&◌, cond, ltb, Option, Some, None, Ok, Err, refl, ◌∙◌, sym, subst, arith}
-use Rattle.std.proofs.lemmas.Bool.{cases_eq, ltb-true, eqb-true, and_parts, and_from, lt-ltb}
+use Rattle.std.proofs.Common.{◌≡◌, ◌≢◌, ⊎_elim, ℕ, ◌+◌, ◌-◌, ◌<◌, ◌≤◌, Bool, true, false, not, ◌&&◌, cond, ltb, Option, Some, None, Ok, Err, refl, ◌∙◌, sym, subst, arith, ltb-true, eqb-true, lt-ltb}
+use Rattle.std.proofs.lemmas.Bool.{cases_eq, and_parts, and_from}
 use Rattle.history.specs.declared.entry.Mode.{Mode}
 use Rattle.history.specs.declared.entry.Mode.TheVariants.{X, S}
 use Rattle.history.specs.declared.fault.Fault.TheVariants as fault

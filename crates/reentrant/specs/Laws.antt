@@ -1,6 +1,5 @@
 -- A lock's hooks as at the opening, and the counts that hooks agree with.
-use Rattle.std.specs.Prelude.{◌≡◌, ℕ, Option, refl, pos}
-use Rattle.std.proofs.Common.{◌∙◌}
+use Rattle.std.proofs.Common.{◌≡◌, ℕ, Option, refl, pos, ◌∙◌}
 use Rattle.history.specs.declared.entry.Mode.{Mode}
 use Rattle.history.specs.declared.entry.Mode.TheVariants.{X, S}
 use Rattle.history.specs.Counts.{Counts}

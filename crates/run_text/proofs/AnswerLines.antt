@@ -2,8 +2,7 @@
 use Rattle.std.proofs.Common.{◌≡◌, ℕ, ◌+◌, ◌<◌, List, [], ◌∷◌, ◌++◌, get_or, length, map, take, ap, sym, ◌∙◌, append_assoc}
 use Rattle.std.specs.List.{concat}
 use Rattle.std.proofs.lemmas.List.{map-append, take_more}
-use Rattle.script.specs.Script.{Named}
-use Rattle.workers.specs.declared.unrecorded.Unrecorded.{Unrecorded}
+use Rattle.run_text.specs.Below.{Named, Unrecorded}
 use Rattle.run_text.specs.Unrecorded.{answer_line, answer_lines}
 use Rattle.run_text.proofs.Written.{concat_last}
 

@@ -1,12 +1,9 @@
 -- Lines of entries, one after another.
-use Rattle.std.proofs.Common.{◌≡◌, ℕ, ◌+◌, ◌<◌, List, [], ◌∷◌, ◌++◌, length, take, drop, get_or, Some, ap, sym, ◌∙◌, arith, append_assoc, append-nil}
+use Rattle.std.proofs.Common.{◌≡◌, ℕ, ◌+◌, ◌<◌, List, [], ◌∷◌, ◌++◌, length, take, drop, get_or, Some, ap, sym, ◌∙◌, arith, append_assoc, append-nil, take-append-drop, length-take-le}
 use Rattle.std.specs.List.{slice_get}
-use Rattle.std.proofs.lemmas.List.{take_more, take-append-drop, length-take-le}
+use Rattle.std.proofs.lemmas.List.{take_more}
 use Rattle.std.proofs.lemmas.Option.{get_or_from_slice_get, slice_get_within}
-use Rattle.history.specs.declared.entry.Entry.{Entry}
-use Rattle.history.specs.Text.{ended}
-use Rattle.history_text.specs.EntryLines.{entry_line}
-use Rattle.history_text.specs.Pieces.{entry_lines}
+use Rattle.run_text.specs.Below.{Entry, ended, entry_line, entry_lines}
 use Rattle.driver.proofs.EntryLines.{entry_lines-append}
 
 -- one more entry

@@ -2,17 +2,7 @@
 use Rattle.std.proofs.Common.{◌≡◌, List, [], ◌∷◌, length, suc, refl, ap, sym, subst, ◌∙◌}
 use Rattle.std.specs.List.{All}
 use Rattle.std.proofs.lemmas.List.{length-map}
-use Rattle.audit.specs.Totals.{totals_of}
-use Rattle.audit.specs.Verdict.{IsJudgement}
-use Rattle.audit.specs.declared.verdict.Judgement.TheVariants.{Legal}
-use Rattle.history.specs.declared.header.Header.{Header}
-use Rattle.history.specs.Entries.{start_on}
-use Rattle.monitor.specs.Shown.{Shown}
-use Rattle.script.specs.Script.{ScriptView}
-use Rattle.word_lock.specs.Ticket.{LockId}
-use Rattle.workers.specs.declared.report.ObjectReport.{ObjectReport}
-use Rattle.workers.specs.declared.report.Report.{Report}
-use Rattle.workers.specs.Reports.{AreParts, IsPart, IsReport, IsSound, header_of, is_legal}
+use Rattle.run_text.specs.Below.{totals_of, IsJudgement, Legal, Header, start_on, Shown, ScriptView, LockId, ObjectReport, Report, AreParts, IsPart, IsReport, IsSound, header_of, is_legal}
 use Rattle.workers.proofs.Columns.{each_part}
 use Rattle.run_text.specs.inner.{IsJudged, IsLegalPart}
 

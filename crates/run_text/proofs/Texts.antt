@@ -2,25 +2,11 @@
 use Rattle.std.proofs.Common.{◌≡◌, ℕ, ◌+◌, List, [], ◌∷◌, ◌++◌, Option, length, reverse, ap, sym, subst, ◌∙◌, append_assoc}
 use Rattle.std.specs.List.{All, concat}
 use Rattle.std.proofs.lemmas.List.Elements.{All-from_recursion}
-use Rattle.audit.specs.Verdict.{verdict_of}
+use Rattle.run_text.specs.Below.{verdict_of, audit_text, Header, Base, based, IsSpelt, IsGood, IsInRange, calls, ended, counts_line, head_line, head_of, lines_told, entry_lines, lines_text, Named, ObjectReport, IsSound}
 use Rattle.audit.proofs.Beginnings.{good_from, header_from}
-use Rattle.driver.specs.AuditText.{audit_text}
-use Rattle.history.specs.declared.header.Header.{Header}
-use Rattle.history.specs.Base.{Base, based}
-use Rattle.history.specs.EntryWords.{IsSpelt}
-use Rattle.history.specs.GoodBase.{IsGood}
-use Rattle.history.specs.Header.{IsInRange}
-use Rattle.history.specs.Legal.{calls}
-use Rattle.history.specs.Text.{ended}
 use Rattle.history.proofs.GoodBases.{good_waits}
-use Rattle.history_text.specs.EntryLines.{counts_line}
-use Rattle.history_text.specs.HistoryLines.{head_line, head_of, lines_told}
-use Rattle.history_text.specs.Pieces.{entry_lines, lines_text}
 use Rattle.history_text.proofs.Lists.{each-reverse}
 use Rattle.history_text.proofs.Spelt.{all_spelt_on}
-use Rattle.script.specs.Script.{Named}
-use Rattle.workers.specs.declared.report.ObjectReport.{ObjectReport}
-use Rattle.workers.specs.Reports.{IsSound}
 use Rattle.run_text.specs.RunText.{base_of, history_of, name_line, part_text, parts_text, shares_line}
 use Rattle.run_text.specs.inner.{IsJudged, end_text, foot_text, head_text, history_head}
 use Rattle.run_text.proofs.Written.{concat_last}

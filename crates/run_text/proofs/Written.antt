@@ -1,11 +1,10 @@
 -- Texts that are written one after the other.
-use Rattle.std.proofs.Common.{◌≡◌, ℕ, ◌+◌, ◌<◌, List, [], ◌∷◌, ◌++◌, Option, drop, get_or, length, ap, subst, sym, take, ◌∙◌, append_assoc, append-nil}
+use Rattle.std.proofs.Common.{◌≡◌, ℕ, ◌+◌, ◌<◌, List, [], ◌∷◌, ◌++◌, Option, drop, get_or, length, ap, subst, sym, take, ◌∙◌, append_assoc, append-nil, take-append-drop}
 use Rattle.std.specs.Io.KnownBytes.{Appends}
 use Rattle.std.specs.List.{concat}
-use Rattle.std.proofs.lemmas.List.{take-append-drop, take_more}
+use Rattle.std.proofs.lemmas.List.{take_more}
 use Rattle.std.proofs.lemmas.List.Folds.{concat-append}
-use Rattle.streams.specs.Writing.{AppendsFront}
-use Rattle.driver.specs.LineWriter.{IsGathered}
+use Rattle.run_text.specs.Below.{AppendsFront, IsGathered}
 use Rattle.driver.proofs.Gathering.{front_longer, front_more}
 
 pub concat_last : (xs : List (List ℕ)) (x : List ℕ) → concat (xs ++ x ∷ []) ≡ concat xs ++ x

@@ -1,3 +1,4 @@
+pub mod Below
 pub mod RunText
 pub mod Unrecorded
 pub mod inner

@@ -2,19 +2,7 @@
 use Rattle.std.specs.Prelude.{ℕ, List, [], ◌∷◌, ◌++◌, codes, Option, None, Some, Result, Ok, Err}
 use Rattle.std.specs.Io.KnownBytes.{Appends, Keeps}
 use Rattle.std.specs.Global.{Vec}
-use Rattle.audit.specs.Verdict.{verdict_of}
-use Rattle.driver.specs.AuditText.{audit_text, number_line}
-use Rattle.history.specs.Base.{Base}
-use Rattle.history.specs.Entries.{base_on}
-use Rattle.history.specs.Text.{ended}
-use Rattle.history_text.specs.Pieces.{history_text}
-use Rattle.script.specs.Script.{Named}
-use Rattle.streams.specs.declared.stream_fault.StreamFault.{StreamFault}
-use Rattle.streams.specs.declared.stream_fault.StreamFault.TheVariants.{Text, ReadFailed, WriteFailed, Memory}
-use Rattle.streams.specs.Writing.{AppendsFront}
-use Rattle.workers.specs.declared.report.ObjectReport.{ObjectReport}
-use Rattle.workers.specs.declared.report.Report.{Report}
-use Rattle.workers.specs.declared.unrecorded.Unrecorded.{Unrecorded}
+use Rattle.run_text.specs.Below.{verdict_of, audit_text, number_line, Base, base_on, ended, history_text, Named, StreamFault, Text, ReadFailed, WriteFailed, Memory, AppendsFront, ObjectReport, Report, Unrecorded}
 use Rattle.run_text.specs.Unrecorded.{answer_lines}
 
 -- the base that the object's folded entries left

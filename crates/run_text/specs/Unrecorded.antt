@@ -1,11 +1,8 @@
 -- The lines of answers that no history records.
 use Rattle.std.specs.Prelude.{ℕ, List, ◌++◌, codes, decimal, map}
 use Rattle.std.specs.List.{concat}
-use Rattle.history.specs.Fault.{fault_name}
-use Rattle.history.specs.Text.{line_of}
-use Rattle.script.specs.Script.{Named}
+use Rattle.run_text.specs.Below.{fault_name, line_of, Named, Unrecorded}
 use Rattle.standing_text.specs.Lines.{call_words}
-use Rattle.workers.specs.declared.unrecorded.Unrecorded.{Unrecorded}
 
 -- the thread, the number of its call, the fault, and the call
 abbrev pub answer_line : List Named → Unrecorded → List ℕ

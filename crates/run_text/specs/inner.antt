@@ -1,16 +1,6 @@
 -- What only contracts of private functions cite: no promise of the crate rests on it.
 use Rattle.std.specs.Prelude.{◌≡◌, ℕ, ◌+◌, List, ◌++◌, length, true}
-use Rattle.audit.specs.Verdict.{IsJudgement, verdict_of}
-use Rattle.driver.specs.AuditText.{audit_text}
-use Rattle.history.specs.Base.{Base, based}
-use Rattle.history.specs.Entries.{start_on}
-use Rattle.history.specs.Legal.{calls}
-use Rattle.history.specs.Text.{ended}
-use Rattle.history_text.specs.EntryLines.{counts_line}
-use Rattle.history_text.specs.HistoryLines.{head_line, head_of, lines_told}
-use Rattle.history_text.specs.Pieces.{lines_text}
-use Rattle.workers.specs.declared.report.ObjectReport.{ObjectReport}
-use Rattle.workers.specs.Reports.{IsSound, is_legal}
+use Rattle.run_text.specs.Below.{IsJudgement, verdict_of, audit_text, Base, based, start_on, calls, ended, counts_line, head_line, head_of, lines_told, lines_text, ObjectReport, IsSound, is_legal}
 use Rattle.run_text.specs.RunText.{base_of, name_line, shares_line}
 
 -- the history is sound, and the judgement is that of the history

@@ -7,11 +7,8 @@ use Rattle.history.proofs.Plain.{ArePlain, words_again, decimal_plain}
 use Rattle.history.proofs.EntryAgain.{mode_plain}
 use Rattle.steps.proofs.StepLemmas.{asked_again, condition_again}
 use Rattle.monitor.specs.declared.how.How.TheVariants.{Plain, Interruptible, Timed}
-use Rattle.script.specs.declared.action.Action.{Action}
-use Rattle.script.specs.declared.action.Action.TheVariants.{Acquire, TryAcquire, Release, AwaitOn, Signal, SignalAll, Drain, Trim}
+use Rattle.script.specs.Prelude.{Action, Acquire, TryAcquire, Release, AwaitOn, Signal, SignalAll, Drain, Trim, MOST_MILLISECONDS, action_words, HasAmounts}
 use Rattle.script.specs.inner.CallReading.{timed_at, timed_acquire_at, timed_await_at, waiting_at, action_at}
-use Rattle.script.specs.declared.limits.TheConstants.{MOST_MILLISECONDS}
-use Rattle.script.specs.CallText.{action_words, HasAmounts}
 
 action_words_again : (a : Action) → HasAmounts a → action_at (action_words a) ≡ Some (a, [])
 unfolding timed_at timed_acquire_at timed_await_at waiting_at action_at

@@ -1,15 +1,9 @@
 -- A call's text, cut after its first word.
-use Rattle.std.proofs.Common.{◌≡◌, ◌≢◌, ℕ, ◌<◌, false, eqb, List, [], ◌∷◌, ◌++◌, Option, Some, None, All, get_or, slice_get, Bor, refl, sym, ap, subst, ◌∙◌, arith, decimal, IsTrue, true≢false}
-use Rattle.std.specs.Prelude.{codes, MatchOption}
+use Rattle.std.proofs.Common.{◌≡◌, ◌≢◌, ℕ, ◌<◌, false, eqb, List, [], ◌∷◌, ◌++◌, Option, Some, None, All, get_or, slice_get, Bor, refl, sym, ap, subst, ◌∙◌, arith, decimal, IsTrue, true≢false, codes, MatchOption}
 use Rattle.std.proofs.lemmas.Str.Pattern.{IsSplitOnceResult, split_after}
 use Rattle.history.specs.Text.{line_of}
 use Rattle.history.proofs.Plain.{lacks_byte}
-use Rattle.script.specs.CallText.{action_words, HasAmounts, Spells}
-use Rattle.script.specs.Name.{IsName, is_name_byte}
-use Rattle.script.specs.Script.{Named}
-use Rattle.script.specs.declared.action.Action.{Action}
-use Rattle.script.specs.declared.call.Call.{Call}
-use Rattle.script.specs.declared.call.Call.TheVariants.{On, Interrupt}
+use Rattle.script.specs.Prelude.{action_words, HasAmounts, Spells, IsName, is_name_byte, Named, Action, Call, On, Interrupt}
 use Rattle.script.proofs.CallLemmas.{behind_name}
 use Rattle.script.proofs.Firsts.{all_at}
 

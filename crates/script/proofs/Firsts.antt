@@ -1,10 +1,9 @@
 -- Lists whose elements were found good one by one.
-use Rattle.std.proofs.Common.{◌≡◌, ℕ, ◌+◌, ◌<◌, ◌≤◌, List, Some, All, length, take, map, slice_get, ap, sym, subst, ◌∙◌, arith, get_or, option_map}
-use Rattle.std.proofs.lemmas.List.{length-map, take_all}
+use Rattle.std.proofs.Common.{◌≡◌, ℕ, ◌+◌, ◌<◌, ◌≤◌, List, Some, All, length, take, map, slice_get, ap, sym, subst, ◌∙◌, arith, get_or, option_map, take_all, String, string_bytes}
+use Rattle.std.proofs.lemmas.List.{length-map}
 use Rattle.std.proofs.lemmas.List.Elements.{All-more}
 use Rattle.std.proofs.lemmas.Option.{slice_get-map, slice_get_within, get_or_from_slice_get}
 use Rattle.std.specs.declared.alloc.Global.{Global}
-use Rattle.std.specs.Prelude.{String, string_bytes}
 use Rattle.history.specs.declared.header.Header.{Header}
 use Rattle.script.specs.Script.{Named, named}
 

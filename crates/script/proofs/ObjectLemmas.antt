@@ -10,8 +10,7 @@ use Rattle.history.specs.Spelling.{part_of}
 use Rattle.serde_json.specs.Data.{Data, string, array}
 use Rattle.serde_json.specs.View.{view, items_of}
 use Rattle.serde_json.specs.declared.value.Value.{Value}
-use Rattle.script.specs.Saying.{object_value}
-use Rattle.script.specs.Script.{Named, named}
+use Rattle.script.specs.Prelude.{object_value, Named, named}
 use Rattle.script.proofs.Firsts.{Entry}
 
 pub two_items : (vs : List Value) (a b : Value) → length vs ≡ 2 → a ≡ get_or vs 0 a → b ≡ get_or vs 1 b →

@@ -7,13 +7,7 @@ use Rattle.serde_json.specs.Data.{Data}
 use Rattle.serde_json.specs.View.{view}
 use Rattle.serde_json.specs.declared.value.Value.{Value}
 use Rattle.script.specs.inner.ThreadFaults.{IsThreadFault}
-use Rattle.script.specs.Reading.{Says, HasNoRounds, HasBadCall, IsThreadsFault}
-use Rattle.script.specs.Saying.{Say, SaysObject, SaysCall, SaysWorker}
-use Rattle.script.specs.Script.{Named, WorkerView, ScriptView, IsObject, IsCall, IsWorker, IsScript}
-use Rattle.script.specs.declared.call.Call.{Call}
-use Rattle.script.specs.declared.call.Call.TheVariants.{On, Interrupt}
-use Rattle.script.specs.declared.fault.ScriptFault.{ScriptFault}
-use Rattle.script.specs.declared.fault.ScriptFault.TheVariants.{NotJson, BadTop, BadObject, BadThread, BadCall, OutOfMemory}
+use Rattle.script.specs.Prelude.{Says, HasNoRounds, HasBadCall, IsThreadsFault, Say, SaysObject, SaysCall, SaysWorker, Named, WorkerView, ScriptView, IsObject, IsCall, IsWorker, IsScript, Call, On, Interrupt, ScriptFault, NotJson, BadTop, BadObject, BadThread, BadCall, OutOfMemory}
 use Rattle.script.proofs.SayingLemmas.{said_all, said_length, stops_here}
 
 is_call : (objects : List Named) (threads : ℕ) (before : List Call) (value : Data) (c : Call) →

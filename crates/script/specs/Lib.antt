@@ -1,3 +1,4 @@
+pub mod Prelude
 pub mod Building
 pub mod CallText
 pub mod Name

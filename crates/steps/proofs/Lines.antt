@@ -1,8 +1,6 @@
 -- A line begins the text.
 use Rattle.std.proofs.Common.{◌≡◌, ℕ, List, [], ◌∷◌, ◌++◌, append_assoc, refl, sym, ap, ◌∙◌, decimal}
-use Rattle.history.specs.declared.step.Step.{Step}
-use Rattle.history.specs.declared.step.Step.TheVariants.{Acquire, Try, TryFair, EntryInterrupt, Give, Look, Expire, Interrupt, Await, Signal, SignalAll, Drain}
-use Rattle.history.specs.Text.{ended, line_of}
+use Rattle.steps.specs.Below.{Step, Acquire, Try, TryFair, EntryInterrupt, Give, Look, Expire, Interrupt, Await, Signal, SignalAll, Drain, ended, line_of}
 use Rattle.steps.specs.StepLines.{step_line, step_words}
 
 -- a step's line is its seat, a space and the words of the step

@@ -1,16 +1,9 @@
 -- What a step line spells is read again.
-use Rattle.std.proofs.Common.{◌≡◌, ℕ, ◌-◌, ◌^◌, ◌<◌, [], ◌∷◌, Some, refl, ap, ◌∙◌, arith, decimal}
-use Rattle.std.proofs.lemmas.Bool.{le-leb}
-use Rattle.history.specs.Text.{words_of}
-use Rattle.history.specs.EntryWords.{mode_word}
-use Rattle.history.specs.Reading.{Words}
-use Rattle.history.specs.declared.entry.Mode.{Mode}
-use Rattle.history.specs.declared.entry.Mode.TheVariants.{X, S}
+use Rattle.std.proofs.Common.{◌≡◌, ℕ, ◌-◌, ◌^◌, ◌<◌, [], ◌∷◌, Some, refl, ap, ◌∙◌, arith, decimal, le-leb}
+use Rattle.steps.specs.Below.{words_of, mode_word, Words, Mode, X, S, Step, Acquire, Try, TryFair, EntryInterrupt, Give, Look, Expire, Interrupt, Await, Signal, SignalAll, Drain}
 use Rattle.history.proofs.Numbers.{number_again}
 use Rattle.history.proofs.EntryAgain.{mode_plain}
 use Rattle.history.proofs.Plain.{ArePlain, words_again, decimal_plain}
-use Rattle.history.specs.declared.step.Step.{Step}
-use Rattle.history.specs.declared.step.Step.TheVariants.{Acquire, Try, TryFair, EntryInterrupt, Give, Look, Expire, Interrupt, Await, Signal, SignalAll, Drain}
 use Rattle.steps.specs.StepLines.{step_words, step_line, IsStep, HasAmounts}
 use Rattle.steps.specs.StepReading.{asked_at, condition_at, alone_at, unasked_at, step_at, line_at}
 

@@ -1,19 +1,12 @@
 -- The lines of a steps text can be told apart.
-use Rattle.std.proofs.Common.{◌≡◌, ℕ, ◌<◌, ◌^◌, true, List, [], ◌∷◌, ◌++◌, length, refl, sym, ap, ◌∙◌, arith, decimal}
-use Rattle.std.specs.Prelude.{codes}
-use Rattle.history.specs.declared.header.Header.{Header}
-use Rattle.history.specs.declared.step.Step.{Step}
-use Rattle.history.specs.Header.{IsInRange}
-use Rattle.history.specs.Spelling.{part_of}
-use Rattle.history.specs.Text.{words_of}
+use Rattle.std.proofs.Common.{◌≡◌, ℕ, ◌<◌, ◌^◌, true, List, [], ◌∷◌, ◌++◌, length, refl, sym, ap, ◌∙◌, arith, decimal, codes}
+use Rattle.steps.specs.Below.{Header, Step, IsInRange, part_of, words_of, Act, Do, Trim}
 use Rattle.history.proofs.Numbers.{digits_alone}
 use Rattle.history.proofs.Plain.{ArePlain, words_again, decimal_plain}
 use Rattle.history.proofs.Readers.{same_value}
 use Rattle.line_text.proofs.Lawful.{IsLawful, Lacks}
 use Rattle.line_text.proofs.Lists.{head_is, same_behind}
 use Rattle.line_text.proofs.WholeLines.{has_no_break, line_lacks, header_whole, header_one}
-use Rattle.frame.specs.declared.acts.Act.{Act}
-use Rattle.frame.specs.declared.acts.Act.TheVariants.{Do, Trim}
 use Rattle.steps.specs.declared.header.Format.{Format}
 use Rattle.steps.specs.declared.header.Format.TheVariants.{One, Two}
 use Rattle.steps.specs.declared.header.StepsHeader.{StepsHeader}

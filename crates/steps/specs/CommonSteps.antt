@@ -1,7 +1,6 @@
 -- The steps whose lines are read at once.
 use Rattle.std.specs.Prelude.{ℕ}
-use Rattle.history.specs.declared.entry.Mode.TheVariants.{X, S}
-use Rattle.history.specs.declared.step.Step.{Step}
+use Rattle.steps.specs.Below.{X, S, Step}
 use Rattle.history.specs.declared.step.Step.TheVariants as step
 use Rattle.steps.specs.declared.common_step.Common.{Common}
 use Rattle.steps.specs.declared.common_step.Common.TheVariants.{

@@ -1,3 +1,4 @@
+pub mod Below
 pub mod CommonSteps
 pub mod StepLines
 pub mod StepReading

@@ -1,25 +1,6 @@
 -- The lines of a steps text.
 use Rattle.std.specs.Prelude.{◌≡◌, ℕ, ◌<◌, ◌^◌, List, [], ◌∷◌, ◌++◌, codes, decimal}
-use Rattle.frame.specs.declared.acts.Act.{Act}
-use Rattle.frame.specs.declared.acts.Act.TheVariants.{Do, Trim}
-use Rattle.history.specs.declared.step.Step.{Step}
-use Rattle.history.specs.declared.step.Step.TheVariants.{
-  Acquire,
-  Try,
-  TryFair,
-  EntryInterrupt,
-  Give,
-  Look,
-  Expire,
-  Interrupt,
-  Await,
-  Signal,
-  SignalAll,
-  Drain,
-}
-use Rattle.history.specs.EntryWords.{mode_word}
-use Rattle.history.specs.Spelling.{part_of}
-use Rattle.history.specs.Text.{line_of}
+use Rattle.steps.specs.Below.{Act, Do, Trim, Step, Acquire, Try, TryFair, EntryInterrupt, Give, Look, Expire, Interrupt, Await, Signal, SignalAll, Drain, mode_word, part_of, line_of}
 use Rattle.steps.specs.declared.header.Format.{Format}
 use Rattle.steps.specs.declared.header.Format.TheVariants.{One, Two}
 use Rattle.steps.specs.declared.header.StepsHeader.{StepsHeader}

@@ -1,9 +1,7 @@
 -- What the readers of steps return: what they read, and the words that are left.
 use Rattle.std.specs.Prelude.{ℕ, ◌-◌, List, [], ◌∷◌, Option, None, Some, codes, bytes_eq, if◌then◌else◌}
-use Rattle.history.specs.Reading.{Words, ◌>>=◌, number_at, mode_at}
-use Rattle.history.specs.declared.entry.Mode.{Mode}
-use Rattle.history.specs.declared.step.Step.{Step}
-use Rattle.history.specs.declared.step.Step.TheVariants.{Acquire, Try, TryFair, EntryInterrupt, Give, Look, Expire, Interrupt, Await, Signal, SignalAll, Drain}
+use Rattle.history.specs.Reading.{◌>>=◌}
+use Rattle.steps.specs.Below.{Words, number_at, mode_at, Mode, Step, Acquire, Try, TryFair, EntryInterrupt, Give, Look, Expire, Interrupt, Await, Signal, SignalAll, Drain}
 
 unfoldable pub asked_at : Words → Option ((Mode × ℕ) × Words)
 asked_at words = do

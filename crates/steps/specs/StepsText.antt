@@ -1,12 +1,7 @@
 -- Steps texts: their form, and what reading one returns.
 use Rattle.std.specs.Prelude.{ℕ, ◌<◌, ◌^◌, List, length, Result, Ok}
-use Rattle.frame.specs.declared.acts.Act.{Act}
-use Rattle.history.specs.Header.{IsInRange}
-use Rattle.line_text.specs.declared.fault.ReadFault.{ReadFault}
-use Rattle.line_text.specs.Form.{Form}
-use Rattle.line_text.specs.Reading.{IsReading}
+use Rattle.steps.specs.Below.{Act, IsInRange, ReadFault, Form, IsReading, SoFar}
 use Rattle.line_text.specs.Reading as reading
-use Rattle.line_text.specs.UnderWay.{SoFar}
 use Rattle.steps.specs.declared.header.StepsHeader.{StepsHeader}
 use Rattle.steps.specs.declared.steps_text.StepsText.{StepsText}
 use Rattle.steps.specs.StepLines.{header_line, act_line, end_line, IsAct}

@@ -1,8 +1,8 @@
 -- What stands in a window behind a read, and when it moves on.
-use Rattle.std.proofs.Common.{◌≡◌, ℕ, ◌+◌, ◌-◌, ◌<◌, ◌≤◌, ◌⊎◌, inl, inr, min, List, ◌++◌, length, take, drop, slice_range, sym, ap, ◌∙◌, arith, append_assoc}
+use Rattle.std.proofs.Common.{◌≡◌, ℕ, ◌+◌, ◌-◌, ◌<◌, ◌≤◌, ◌⊎◌, inl, inr, min, List, ◌++◌, length, take, drop, slice_range, sym, ap, ◌∙◌, arith, append_assoc, take-take, drop-drop, length-take, length-take-le, length-drop, take_all}
 use Rattle.std.proofs.Math.Seq.{take-append-add}
 use Rattle.std.proofs.lemmas.Bool.{cases_order}
-use Rattle.std.proofs.lemmas.List.{take-append-le, take-take, drop-append-le, drop-take, drop-drop, length-take, length-take-le, length-drop, take_all}
+use Rattle.std.proofs.lemmas.List.{take-append-le, drop-append-le, drop-take}
 
 ranged : (xs : List ℕ) (at end : ℕ) → at ≤ end → slice_range xs at end ≡ drop at (take end xs)
 ranged xs at end ordered =

@@ -4,6 +4,7 @@ pub mod ReadingOn
 pub mod Streams
 pub mod Turns
 pub mod UntilEnd
+pub mod Watched
 pub mod Writing
 pub mod Window
 pub mod inner

@@ -1,14 +1,10 @@
 -- That the tallies of conditions follow each entry.
-use Rattle.std.proofs.Common.{◌≡◌, ℕ, zero, suc, ◌<◌, ◌≤◌, Bool, true, false, ◌&&◌, not, cond, eqb, ltb, List, [], ◌∷◌, ◌++◌, length, get_or, set, take, refl, ap, ◌∙◌, sym, subst, arith, add-one}
+use Rattle.std.proofs.Common.{◌≡◌, ℕ, zero, suc, ◌<◌, ◌≤◌, Bool, true, false, ◌&&◌, not, cond, eqb, ltb, List, [], ◌∷◌, ◌++◌, length, get_or, set, take, refl, ap, ◌∙◌, sym, subst, arith, add-one, eqb-true, ltb-true, ltb-false, ne_eqb, length-set, take_all}
 use Rattle.std.specs.List.{All}
-use Rattle.std.proofs.lemmas.Bool.{eqb-true, ltb-true, ltb-false, ne_eqb}
-use Rattle.std.proofs.lemmas.List.{get_or_default, length-set, take_all, take_more}
+use Rattle.std.proofs.lemmas.List.{get_or_default, take_more}
 use Rattle.deciding.proofs.HoldsFollow.{at_set}
 use Rattle.history.specs.declared.entry.Entry.{Entry}
-use Rattle.summing.specs.declared.tally.ConditionTally.{ConditionTally}
-use Rattle.summing.specs.Counting.{is_await, is_signal, more, moves_nobody, on_condition}
-use Rattle.summing.specs.Summary.{conditions_below}
-use Rattle.summing.specs.Tallies.{condition_after, condition_tally, no_condition_tally}
+use Rattle.summing.specs.Prelude.{ConditionTally, is_await, is_signal, more, moves_nobody, on_condition, conditions_below, condition_after, condition_tally, no_condition_tally}
 use Rattle.summing.specs.inner.Tables.{IsFewCondition, condition_noted}
 use Rattle.summing.proofs.SeatsFollow.{count_few}
 

@@ -1,15 +1,8 @@
 -- That it is followed how often a seat was passed.
-use Rattle.std.proofs.Common.{◌≡◌, ℕ, ◌+◌, ◌<◌, ◌≤◌, Bool, true, false, ◌&&◌, not, cond, eqb, List, [], ◌∷◌, length, get_or, set, None, Some, refl, ap, ◌∙◌, sym, subst, arith}
+use Rattle.std.proofs.Common.{◌≡◌, ℕ, ◌+◌, ◌<◌, ◌≤◌, Bool, true, false, ◌&&◌, not, cond, eqb, List, [], ◌∷◌, length, get_or, set, None, Some, refl, ap, ◌∙◌, sym, subst, arith, eqb-true, is_some}
 use Rattle.deciding.proofs.HoldsFollow.{at_set}
-use Rattle.std.proofs.lemmas.Bool.{eqb-true}
-use Rattle.std.specs.Prelude.{is_some}
-use Rattle.history.specs.declared.entry.Entry.{Entry}
-use Rattle.history.specs.Start.{Start}
-use Rattle.summing.specs.declared.passing.Passing.{Passing}
-use Rattle.summing.specs.Counting.{is_queued, more}
-use Rattle.summing.specs.Passing.{is_passed, passed, taken_anew, takes_anew}
-use Rattle.summing.specs.Summing.{IsPassing}
-use Rattle.summing.specs.Waits.{begun}
+use Rattle.summing.specs.Below.{Entry, Start}
+use Rattle.summing.specs.Prelude.{Passing, is_queued, more, is_passed, passed, taken_anew, takes_anew, IsPassing, begun}
 
 more_few : (n m : ℕ) (b : Bool) → n ≤ m → more n b ≤ m + 1
 more_few n m true le = omega (arith, le)

@@ -1,16 +1,9 @@
 -- That the tallies of seats follow each entry.
-use Rattle.std.proofs.Common.{◌≡◌, ℕ, ◌+◌, ◌<◌, ◌≤◌, Bool, true, false, cond, eqb, List, [], ◌∷◌, length, get_or, set, Option, None, Some, IfSome, refl, ap, ◌∙◌, sym, arith}
-use Rattle.std.proofs.lemmas.Bool.{eqb-true}
+use Rattle.std.proofs.Common.{◌≡◌, ℕ, ◌+◌, ◌<◌, ◌≤◌, Bool, true, false, cond, eqb, List, [], ◌∷◌, length, get_or, set, Option, None, Some, IfSome, refl, ap, ◌∙◌, sym, arith, eqb-true}
 use Rattle.deciding.proofs.HoldsFollow.{at_set}
-use Rattle.history.specs.declared.entry.Entry.{Entry}
-use Rattle.history.specs.Entry.{ends_call}
-use Rattle.history.specs.Line.{line, place_of}
-use Rattle.history.specs.Start.{Start}
-use Rattle.summing.specs.declared.tally.SeatTally.{SeatTally}
+use Rattle.summing.specs.Below.{Entry, ends_call, line, place_of, Start}
+use Rattle.summing.specs.Prelude.{SeatTally, count, is_broken_off, is_queued, is_take, more, of_seat, times_out, any, longest_with, tally, tally_after, asks, begun, ended, longest_of, under_way, with_wait}
 use Rattle.summing.specs.declared.tally.Wait.{Wait}
-use Rattle.summing.specs.Counting.{count, is_broken_off, is_queued, is_take, more, of_seat, times_out}
-use Rattle.summing.specs.Tallies.{any, longest_with, tally, tally_after}
-use Rattle.summing.specs.Waits.{asks, begun, ended, longest_of, under_way, with_wait}
 use Rattle.summing.specs.inner.Tables.{IsFewTally}
 
 -- the longest wait, with one more

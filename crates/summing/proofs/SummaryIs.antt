@@ -1,13 +1,8 @@
 -- The summary that is made of the numbers and tables.
 use Rattle.std.proofs.Common.{◌≡◌, ℕ, List, length, ap, ◌∙◌}
-use Rattle.history.specs.declared.entry.Entry.{Entry}
-use Rattle.history.specs.Start.{Start}
-use Rattle.summing.specs.declared.peak.Peak.{Peak}
+use Rattle.summing.specs.Below.{Entry, Start}
+use Rattle.summing.specs.Prelude.{Peak, ConditionTally, count, is_grant, peak, SummaryView, conditions_below, rows_below, summary}
 use Rattle.summing.specs.declared.row.Row.{Row}
-use Rattle.summing.specs.declared.tally.ConditionTally.{ConditionTally}
-use Rattle.summing.specs.Counting.{count, is_grant}
-use Rattle.summing.specs.Peak.{peak}
-use Rattle.summing.specs.Summary.{SummaryView, conditions_below, rows_below, summary}
 
 abbrev pub view_of : ℕ → ℕ → Peak → List Row → List ConditionTally → SummaryView
 view_of entries grants high rows conditions =

@@ -1,11 +1,6 @@
 -- What is known of the entries so far, of a history that is judged and summed up.
 use Rattle.std.specs.Prelude.{◌≡◌, ◌<◌, ◌+◌, ◌^◌, ℕ, List, length, Option, None, Some}
-use Rattle.audit.specs.Verdict.{IsFirstWrong, front}
-use Rattle.audit.specs.declared.verdict.Verdict.{Verdict}
-use Rattle.audit.specs.declared.verdict.Verdict.TheVariants.{Legal, NotLegal}
-use Rattle.history.specs.declared.entry.Entry.{Entry}
-use Rattle.history.specs.Legal.{IsLegal}
-use Rattle.history.specs.Start.{Start}
+use Rattle.summing.specs.Below.{IsFirstWrong, front, Verdict, Legal, NotLegal, Entry, IsLegal, Start}
 use Rattle.summing.specs.declared.judging.JudgingSumming.{JudgingSumming}
 use Rattle.summing.specs.declared.summing.Summing.{Summing}
 use Rattle.summing.specs.Summing.{HasSummed}

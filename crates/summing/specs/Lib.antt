@@ -1,3 +1,5 @@
+pub mod Below
+pub mod Prelude
 pub mod Counting
 pub mod Waits
 pub mod Passing

@@ -1,10 +1,6 @@
 -- Who is passed by a thread that barges.
 use Rattle.std.specs.Prelude.{ℕ, ◌==◌, nat_lt, Bool, ◌&&◌, ◌||◌, not, List, [], ◌∷◌, is_some}
-use Rattle.history.specs.declared.entry.Entry.{Entry}
-use Rattle.history.specs.declared.entry.Mode.TheVariants.{X}
-use Rattle.history.specs.Counts.{held}
-use Rattle.history.specs.Object.{is_lock}
-use Rattle.history.specs.Start.{Start}
+use Rattle.summing.specs.Below.{Entry, X, held, is_lock, Start}
 use Rattle.summing.specs.Counting.{is_take, more}
 use Rattle.summing.specs.Waits.{begun}
 

@@ -1,8 +1,6 @@
 -- When the queue was longest.
 use Rattle.std.specs.Prelude.{ℕ, nat_lt, if◌then◌else◌, List, [], ◌∷◌, length, Some, None}
-use Rattle.history.specs.declared.entry.Entry.{Entry}
-use Rattle.history.specs.Line.{line}
-use Rattle.history.specs.Start.{Start}
+use Rattle.summing.specs.Below.{Entry, line, Start}
 use Rattle.summing.specs.declared.peak.Peak.{Peak}
 
 -- the longest so far, or the one after this entry if it is longer

@@ -1,10 +1,6 @@
 -- The summary of a history.
 use Rattle.std.specs.Prelude.{ℕ, zero, suc, nat_lt, if◌then◌else◌, List, [], ◌∷◌, ◌++◌, length}
-use Rattle.history.specs.declared.entry.Entry.{Entry}
-use Rattle.history.specs.declared.entry.Mode.TheVariants.{X, S}
-use Rattle.history.specs.Counts.{held}
-use Rattle.history.specs.Entry.{ends_call}
-use Rattle.history.specs.Start.{Start}
+use Rattle.summing.specs.Below.{Entry, X, S, held, ends_call, Start}
 use Rattle.summing.specs.declared.peak.Peak.{Peak}
 use Rattle.summing.specs.declared.row.Row.{Row}
 use Rattle.summing.specs.declared.tally.ConditionTally.{ConditionTally}

@@ -1,8 +1,6 @@
 -- What is known of the entries so far.
 use Rattle.std.specs.Prelude.{◌≡◌, ◌<◌, ◌≤◌, ◌+◌, ◌^◌, ℕ, Bool, true, false, List, length, slice_index_or, None, is_some}
-use Rattle.audit.specs.Ledger.{IsNext, LedgerStand}
-use Rattle.history.specs.declared.entry.Entry.{Entry}
-use Rattle.history.specs.Start.{Start}
+use Rattle.summing.specs.Below.{IsNext, LedgerStand, Entry, Start}
 use Rattle.summing.specs.declared.passing.Passing.{Passing}
 use Rattle.summing.specs.declared.summary.Summary.{Summary}
 use Rattle.summing.specs.declared.summing.Summing.{Summing}

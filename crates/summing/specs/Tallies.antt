@@ -1,8 +1,6 @@
 -- What is counted for a seat, and for a condition.
 use Rattle.std.specs.Prelude.{ℕ, ◌+◌, Bool, true, if◌then◌else◌, List, Option, Some, None}
-use Rattle.history.specs.declared.entry.Entry.{Entry}
-use Rattle.history.specs.Entry.{ends_call}
-use Rattle.history.specs.Start.{Start}
+use Rattle.summing.specs.Below.{Entry, ends_call, Start}
 use Rattle.summing.specs.declared.tally.ConditionTally.{ConditionTally}
 use Rattle.summing.specs.declared.tally.SeatTally.{SeatTally}
 use Rattle.summing.specs.declared.tally.Wait.{Wait}

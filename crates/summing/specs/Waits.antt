@@ -3,10 +3,7 @@
 -- A wait begins with an entry by which the seat queues, and ends with the seat's next entry. A waiter in the
 -- queue makes no other entry than the one that ends its wait.
 use Rattle.std.specs.Prelude.{ℕ, ◌-◌, ◌==◌, nat_lt, Bool, false, not, if◌then◌else◌, List, [], ◌∷◌, length, Option, Some, None}
-use Rattle.history.specs.declared.arrival.Arrival.{Arrival}
-use Rattle.history.specs.declared.entry.Entry.{Entry}
-use Rattle.history.specs.Line.{line, place_of}
-use Rattle.history.specs.Start.{Start}
+use Rattle.summing.specs.Below.{Arrival, Entry, line, place_of, Start}
 use Rattle.summing.specs.declared.tally.Wait.{Wait}
 use Rattle.summing.specs.Counting.{is_queued}
 

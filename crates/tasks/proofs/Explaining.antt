@@ -1,6 +1,5 @@
 -- What explaining a text leads to.
-use Rattle.std.proofs.Common.{◌≡◌, ℕ, List, ◌++◌, Option, Some, None, Result, ap, sym, ◌∙◌, subst, append-nil, inr}
-use Rattle.std.specs.Prelude.{IfSome}
+use Rattle.std.proofs.Common.{◌≡◌, ℕ, List, ◌++◌, Option, Some, None, Result, ap, sym, ◌∙◌, subst, append-nil, inr, IfSome}
 use Rattle.std.specs.Io.KnownBytes.{Consumes, IsAtEnd}
 use Rattle.std.proofs.lemmas.Option.{IfSome_then}
 use Rattle.fault_places.specs.Reports.{IsReport}

@@ -1,8 +1,7 @@
 -- A gate that lets each call through stops nobody.
 use Rattle.std.proofs.Common.{◌≡◌, ℕ, suc, Bool, true, List, [], ◌∷◌, inl, inr}
 use Rattle.std.proofs.lemmas.Bool.{false≢true}
-use Rattle.script.specs.Script.{WorkerView}
-use Rattle.workers.specs.Gates.{StopsFirst}
+use Rattle.tasks.specs.Below.{WorkerView, StopsFirst}
 
 abbrev pub lets : ℕ → ℕ → Bool → Type 0
 lets worker call answer = answer ≡ true

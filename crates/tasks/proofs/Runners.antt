@@ -1,9 +1,7 @@
 -- What a run of a script's threads returns.
 use Rattle.std.proofs.Common.{List}
-use Rattle.script.specs.Script.{WorkerView}
-use Rattle.workers.specs.declared.fault.RunFault.{RunFault}
-use Rattle.workers.specs.declared.fault.RunFault.TheVariants.{GateShut, NotStarted, Memory as RunMemory}
-use Rattle.workers.specs.Gates.{IsFaultOfRun}
+use Rattle.tasks.specs.Below.{WorkerView, RunFault, GateShut, NotStarted, IsFaultOfRun}
+use Rattle.workers.specs.declared.fault.RunFault.TheVariants.{Memory as RunMemory}
 use Rattle.tasks.specs.declared.fault.Fault.TheVariants.{Run}
 use Rattle.tasks.specs.Ran.{IsFaultOfThreads}
 use Rattle.tasks.proofs.OpenGates.{lets, stops_nobody}

@@ -1,17 +1,11 @@
 -- What the run of a script returns.
-use Rattle.std.proofs.Common.{ℕ, List, ◌++◌, Option, Ok, Err, ap, subst}
-use Rattle.std.specs.Prelude.{IfSome}
+use Rattle.std.proofs.Common.{ℕ, List, ◌++◌, Option, Ok, Err, ap, subst, IfSome}
 use Rattle.std.proofs.lemmas.Option.{IfSome_then}
 use Rattle.std.proofs.KnownBytes.{Keeps-refl}
-use Rattle.run_text.specs.RunText.{last_lines, parts_text, report_text}
-use Rattle.script.specs.Reading.{Reads}
-use Rattle.script.specs.Script.{ScriptView}
-use Rattle.workers.specs.declared.fault.RunFault.{RunFault}
-use Rattle.workers.specs.declared.fault.RunFault.TheVariants.{GateShut, NotStarted, Memory as RunMemory}
-use Rattle.workers.specs.declared.report.Report.{Report}
-use Rattle.workers.specs.Reports.{IsListed, IsReport}
+use Rattle.tasks.specs.Below.{last_lines, parts_text, report_text, Reads, ScriptView, RunFault, GateShut, NotStarted, Report, IsListed, IsFaultOfRun}
+use Rattle.workers.specs.declared.fault.RunFault.TheVariants.{Memory as RunMemory}
+use Rattle.workers.specs.Reports.{IsReport}
 use Rattle.workers.specs.declared.unrecorded.Keep.TheVariants.{Count}
-use Rattle.workers.specs.Gates.{IsFaultOfRun}
 use Rattle.tasks.specs.declared.fault.Fault.TheVariants.{Run}
 use Rattle.tasks.specs.RunScript.{IsRun, Runs}
 use Rattle.tasks.proofs.OpenGates.{lets, stops_nobody}

@@ -4,8 +4,7 @@ use Rattle.std.specs.Io.KnownBytes.{Appends, Keeps}
 use Rattle.fault_places.specs.Reports.{IsReport}
 use Rattle.fault_places.specs.declared.report.Report.{Report}
 use Rattle.fault_places.specs.declared.report.Report.TheVariants.{History, Right, Wrong}
-use Rattle.streams.specs.declared.stream_fault.StreamFault.TheVariants.{ReadFailed, WriteFailed, Memory as StreamMemory}
-use Rattle.streams.specs.Writing.{AppendsFront}
+use Rattle.tasks.specs.Below.{ReadFailed, WriteFailed, Memory as StreamMemory, AppendsFront}
 use Rattle.tasks.specs.declared.fault.Fault.{Fault}
 use Rattle.tasks.specs.declared.fault.Fault.TheVariants.{Memory, Stream}
 use Rattle.tasks.specs.declared.task.Task.TheVariants.{Explain}

@@ -1,11 +1,9 @@
 -- The exit statuses of faults.
 use Rattle.std.specs.Prelude.{ℕ}
-use Rattle.script.specs.declared.fault.ScriptFault.{ScriptFault}
-use Rattle.script.specs.declared.fault.ScriptFault.TheVariants.{NotJson, BadTop, BadObject, BadThread, BadCall, OutOfMemory}
+use Rattle.tasks.specs.Below.{ScriptFault, NotJson, BadTop, BadObject, BadThread, BadCall, OutOfMemory, RunFault}
 use Rattle.tasks.specs.declared.fault.Fault.{Fault}
 use Rattle.tasks.specs.declared.fault.Fault.TheVariants.{Usage, BadFrom, BadTo, BadAt, BadRunOption, BadNaming, Memory, Stream, Script, Run}
 use Rattle.tasks.specs.StreamFault.{stream_status}
-use Rattle.workers.specs.declared.fault.RunFault.{RunFault}
 use Rattle.workers.specs.declared.fault.RunFault.TheVariants as run
 
 -- 3 for a script, 5 for memory

@@ -1,3 +1,4 @@
+pub mod Below
 pub mod Explain
 pub mod ExplainJson
 pub mod Fault

@@ -1,16 +1,7 @@
 -- What the program does for a task, and its exit status.
 use Rattle.std.specs.Prelude.{◌≡◌, ℕ, List, [], Option, Result, Ok, Err}
 use Rattle.std.specs.Io.KnownBytes.{IsAtEnd}
-use Rattle.audit.specs.declared.verdict.Verdict.{Verdict}
-use Rattle.audit.specs.declared.verdict.Verdict.TheVariants.{Legal, NotLegal}
-use Rattle.driver.specs.AuditStream.{AuditsIn, HistoryReadOut}
-use Rattle.driver.specs.DrawStream.{DrawsWith}
-use Rattle.driver.specs.ExplainStream.{Explains}
-use Rattle.driver.specs.PageStream.{PagesWith}
-use Rattle.driver.specs.ReplayStream.{Replays, StepsReadOut}
-use Rattle.driver.specs.SummaryStream.{SummarisesIn}
-use Rattle.naming.specs.Names.{Given}
-use Rattle.streams.specs.declared.stream_fault.StreamFault.{StreamFault}
+use Rattle.tasks.specs.Below.{Verdict, Legal, NotLegal, AuditsIn, HistoryReadOut, DrawsWith, Explains, PagesWith, Replays, StepsReadOut, SummarisesIn, Given, StreamFault}
 use Rattle.tasks.specs.declared.task.Task.{Task}
 use Rattle.tasks.specs.declared.task.Task.TheVariants.{Replay, Audit, Draw, Explain, Page, Summary}
 use Rattle.tasks.specs.declared.fault.Fault.{Fault}

@@ -1,15 +1,10 @@
 -- A script, what a run of its threads left, and what is written of it.
 use Rattle.std.specs.Prelude.{◌≡◌, ◌<◌, ℕ, List, Option, Result, Ok, Err, length}
 use Rattle.std.specs.Io.KnownBytes.{Appends, Keeps}
-use Rattle.run_text.specs.RunText.{report_text}
-use Rattle.script.specs.Script.{ScriptView, WorkerView}
-use Rattle.streams.specs.declared.stream_fault.StreamFault.TheVariants.{Text, ReadFailed, WriteFailed, Memory as StreamMemory}
-use Rattle.streams.specs.Writing.{AppendsFront}
+use Rattle.tasks.specs.Below.{report_text, ScriptView, WorkerView, Text, ReadFailed, WriteFailed, Memory as StreamMemory, AppendsFront, GateShut, NotStarted, Report, WasRefused}
 use Rattle.tasks.specs.declared.fault.Fault.{Fault}
 use Rattle.tasks.specs.declared.fault.Fault.TheVariants.{Usage, BadFrom, BadTo, BadAt, BadRunOption, BadNaming, Memory, Stream, Script, Run}
-use Rattle.workers.specs.declared.fault.RunFault.TheVariants.{GateShut, NotStarted, Memory as RunMemory}
-use Rattle.workers.specs.declared.report.Report.{Report}
-use Rattle.workers.specs.Refused.{WasRefused}
+use Rattle.workers.specs.declared.fault.RunFault.TheVariants.{Memory as RunMemory}
 
 pub record RanView : Type 0 where
   pub script : ScriptView

@@ -1,16 +1,10 @@
 -- What the run of a script reads, writes and returns.
 use Rattle.std.specs.Prelude.{◌≡◌, ◌<◌, ℕ, List, Option, Result, Ok, Err, IfSome, length}
 use Rattle.std.specs.Io.KnownBytes.{Appends, IsAtEnd, Keeps}
-use Rattle.run_text.specs.RunText.{run_text}
-use Rattle.script.specs.Reading.{IsFault, Reads}
-use Rattle.script.specs.Script.{ScriptView}
-use Rattle.streams.specs.declared.stream_fault.StreamFault.TheVariants.{Text, ReadFailed, WriteFailed, Memory as StreamMemory}
-use Rattle.streams.specs.Writing.{AppendsFront}
+use Rattle.tasks.specs.Below.{run_text, IsFault, Reads, ScriptView, Text, ReadFailed, WriteFailed, Memory as StreamMemory, AppendsFront, GateShut, NotStarted, WasRefused, Report}
 use Rattle.tasks.specs.declared.fault.Fault.{Fault}
 use Rattle.tasks.specs.declared.fault.Fault.TheVariants.{Usage, BadFrom, BadTo, BadAt, BadRunOption, BadNaming, Memory, Stream, Script, Run}
-use Rattle.workers.specs.declared.fault.RunFault.TheVariants.{GateShut, NotStarted, Memory as RunMemory}
-use Rattle.workers.specs.Refused.{WasRefused}
-use Rattle.workers.specs.declared.report.Report.{Report}
+use Rattle.workers.specs.declared.fault.RunFault.TheVariants.{Memory as RunMemory}
 use Rattle.workers.specs.Reports.{IsReport}
 
 -- The text is that of a script, a run of it has this report, and this is written for the report.

@@ -1,7 +1,6 @@
 -- The exit statuses of a stream's faults.
 use Rattle.std.specs.Prelude.{ℕ}
-use Rattle.streams.specs.declared.stream_fault.StreamFault.{StreamFault}
-use Rattle.streams.specs.declared.stream_fault.StreamFault.TheVariants.{Text, ReadFailed, WriteFailed, Memory}
+use Rattle.tasks.specs.Below.{StreamFault, Text, ReadFailed, WriteFailed, Memory}
 
 -- 3 for a text, 4 for a device, 5 for memory
 abbrev pub stream_status : StreamFault → ℕ

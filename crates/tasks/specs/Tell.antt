@@ -3,8 +3,7 @@ use Rattle.std.specs.Prelude.{◌≡◌, ℕ, List, Option, Result, Ok, Err}
 use Rattle.std.specs.Io.KnownBytes.{Appends}
 use Rattle.manual.specs.declared.page.Page.{Page}
 use Rattle.manual.specs.Pages.{page_text}
-use Rattle.streams.specs.declared.stream_fault.StreamFault.TheVariants.{Text, ReadFailed, WriteFailed, Memory as StreamMemory}
-use Rattle.streams.specs.Writing.{AppendsFront}
+use Rattle.tasks.specs.Below.{Text, ReadFailed, WriteFailed, Memory as StreamMemory, AppendsFront}
 use Rattle.tasks.specs.declared.fault.Fault.{Fault}
 use Rattle.tasks.specs.declared.fault.Fault.TheVariants.{Usage, BadFrom, BadTo, BadAt, BadRunOption, BadNaming, Memory, Stream, Script, Run}
 

@@ -1,13 +1,12 @@
 -- What a run for a limited time leaves.
 use Rattle.std.specs.Prelude.{◌≡◌, ℕ, List, length}
-use Rattle.script.specs.Script.{ScriptView, WorkerView}
+use Rattle.tasks.specs.Below.{ScriptView, WorkerView, IsListed}
 use Rattle.standing_text.specs.StandingText.{IsStandingText}
 use Rattle.tasks.specs.declared.fault.Fault.{Fault}
 use Rattle.tasks.specs.declared.fault.Fault.TheVariants.{Usage, BadFrom, BadTo, BadAt, BadRunOption, BadNaming, Memory, Stream, Script, Run}
 use Rattle.tasks.specs.declared.timed.Timed.{Timed}
 use Rattle.tasks.specs.declared.timed.Timed.TheVariants.{Ended, Late}
 use Rattle.tasks.specs.Ran.{IsFaultOfThreads}
-use Rattle.workers.specs.Reports.{IsListed}
 use Rattle.workers.specs.declared.standing.Standing.{Standing}
 use Rattle.workers.specs.declared.unrecorded.Keep.{Keep}
 

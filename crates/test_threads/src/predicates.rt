@@ -10,13 +10,23 @@ use std::process::Abort;
 use std::sync::Wait;
 use std::time::Clock;
 
+/// How long all waits together may last.
+#[derive(Clone, Copy)]
+enum Time {
+    Endless,
+    /// This number of milliseconds.
+    For(u32),
+    /// Until this moment.
+    Until(u64),
+}
+
 /// A wait of a thread that has a lock with the value 7, and what comes of it.
 struct Tale {
     name: &'static str,
     /// It waits while the value is below this number,
     below: u64,
-    /// and for this number of milliseconds at most.
-    milliseconds: Option<u32>,
+    /// and for this time at most.
+    time: Time,
     /// How its parks end. Meanwhile the clock goes on by this number of milliseconds each time it is read.
     answers: &'static [Woke],
     tick: u64,
@@ -27,11 +37,11 @@ struct Tale {
 
 const VALUE: u64 = 7;
 
-const TALES: [Tale; 7] = [
+const TALES: [Tale; 10] = [
     Tale {
         name: "no wait if the predicate is false",
         below: VALUE,
-        milliseconds: None,
+        time: Time::Endless,
         answers: &[],
         tick: 0,
         answer: Ok(true),
@@ -40,7 +50,7 @@ const TALES: [Tale; 7] = [
     Tale {
         name: "no wait with time if the predicate is false",
         below: VALUE,
-        milliseconds: Some(5),
+        time: Time::For(5),
         answers: &[],
         tick: 1,
         answer: Ok(true),
@@ -49,7 +59,7 @@ const TALES: [Tale; 7] = [
     Tale {
         name: "an interrupt ends it, behind a permit that comes early",
         below: VALUE + 1,
-        milliseconds: None,
+        time: Time::Endless,
         answers: &[Woke::Permit, Woke::Interrupted],
         tick: 0,
         answer: Err(Fault::Interrupted),
@@ -58,7 +68,7 @@ const TALES: [Tale; 7] = [
     Tale {
         name: "an interrupt ends one with time",
         below: VALUE + 1,
-        milliseconds: Some(5),
+        time: Time::For(5),
         answers: &[Woke::Interrupted],
         tick: 0,
         answer: Err(Fault::Interrupted),
@@ -67,7 +77,7 @@ const TALES: [Tale; 7] = [
     Tale {
         name: "each wait has the time that is left",
         below: VALUE + 1,
-        milliseconds: Some(5),
+        time: Time::For(5),
         answers: &[Woke::Deadline, Woke::Deadline],
         tick: 1,
         answer: Ok(false),
@@ -76,7 +86,7 @@ const TALES: [Tale; 7] = [
     Tale {
         name: "an interrupt ends a later wait",
         below: VALUE + 1,
-        milliseconds: Some(5),
+        time: Time::For(5),
         answers: &[Woke::Deadline, Woke::Interrupted],
         tick: 1,
         answer: Err(Fault::Interrupted),
@@ -85,11 +95,38 @@ const TALES: [Tale; 7] = [
     Tale {
         name: "no wait without time",
         below: VALUE + 1,
-        milliseconds: Some(0),
+        time: Time::For(0),
         answers: &[],
         tick: 0,
         answer: Ok(false),
         parks: &[],
+    },
+    Tale {
+        name: "each wait has the time that is left until a moment",
+        below: VALUE + 1,
+        time: Time::Until(5),
+        answers: &[Woke::Deadline, Woke::Deadline, Woke::Deadline],
+        tick: 1,
+        answer: Ok(false),
+        parks: &[Some(6), Some(6), Some(6)],
+    },
+    Tale {
+        name: "no wait until a moment that has come",
+        below: VALUE + 1,
+        time: Time::Until(0),
+        answers: &[],
+        tick: 1,
+        answer: Ok(false),
+        parks: &[],
+    },
+    Tale {
+        name: "an interrupt ends one until a moment",
+        below: VALUE + 1,
+        time: Time::Until(5),
+        answers: &[Woke::Interrupted],
+        tick: 0,
+        answer: Err(Fault::Interrupted),
+        parks: &[Some(5)],
     },
 ];
 
@@ -105,9 +142,10 @@ fn wait<R: Wait + Clock>(
 {
     let below = tale.below;
     let mut guard = Mutex::lock(pass, lock, rt, parking)?;
-    match tale.milliseconds {
-        Some(ms) => guard.wait_while_for(0, ms, |value: &u64| *value < below),
-        None => match guard.wait_while(0, |value: &u64| *value < below) {
+    match tale.time {
+        Time::For(ms) => guard.wait_while_for(0, ms, |value: &u64| *value < below),
+        Time::Until(moment) => guard.wait_while_until(0, moment, |value: &u64| *value < below),
+        Time::Endless => match guard.wait_while(0, |value: &u64| *value < below) {
             Ok(()) => Ok(true),
             Err(fault) => Err(fault),
         },

@@ -7,9 +7,7 @@ use prog.Atomic.{either}
 use Rattle.atomic_table.specs.Table.{State, Me, step, keeps, takes, stepped, Allows}
 use Rattle.atomic_table.proofs.Lists.{set_again}
 use Rattle.history.specs.declared.point.Point.{Point}
-use Rattle.word_lock.specs.declared.view.View.{View}
-use Rattle.word_lock.specs.Point.{Before}
-use Rattle.word_lock.specs.Rule.{view_after_take, AllAgree, IsKnownBy, IsFree, RuleHolds, TellsTake}
+use Rattle.word_lock.specs.Prelude.{View, Before, view_after_take, AllAgree, IsKnownBy, IsFree, RuleHolds, TellsTake}
 use Rattle.word_lock.proofs.Lists.{stays_set, set_there}
 use Rattle.word_lock.proofs.PointLaws.{before_refl, before_header}
 

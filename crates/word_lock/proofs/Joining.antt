@@ -7,9 +7,7 @@ use Rattle.atomic_table.specs.Table.{Joins}
 use Rattle.atomic_table.proofs.Lists.{set_else}
 use Rattle.std.proofs.lemmas.Bool.{cond-true, cond-false}
 use Rattle.history.specs.declared.point.Point.{Point}
-use Rattle.word_lock.specs.declared.view.View.{View}
-use Rattle.word_lock.specs.Point.{Before}
-use Rattle.word_lock.specs.Rule.{joined_view, spent_view, AllBefore, IsKnownBy, RuleHolds}
+use Rattle.word_lock.specs.Prelude.{View, Before, joined_view, spent_view, AllBefore, IsKnownBy, RuleHolds}
 use Rattle.word_lock.proofs.Lists.{stays_set, one_at, at_join}
 use Rattle.word_lock.proofs.Rules.{word_stays}
 

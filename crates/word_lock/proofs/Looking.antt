@@ -6,8 +6,7 @@ use lib.ListN.{get_elem?}
 use Rattle.atomic_table.specs.Table.{Me, step, keeps, Allows}
 use Rattle.atomic_table.proofs.Lists.{set_else}
 use Rattle.history.specs.declared.point.Point.{Point}
-use Rattle.word_lock.specs.declared.view.View.{View}
-use Rattle.word_lock.specs.Rule.{view_after_look, IsKnownBy, RuleHolds, TellsLook}
+use Rattle.word_lock.specs.Prelude.{View, view_after_look, IsKnownBy, RuleHolds, TellsLook}
 use Rattle.word_lock.proofs.Lists.{stays_set, one_at}
 use Rattle.word_lock.proofs.PointLaws.{before_refl}
 use Rattle.word_lock.proofs.Rules.{IsWord, word_stays}

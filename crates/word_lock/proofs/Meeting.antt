@@ -3,9 +3,7 @@ use Rattle.std.proofs.Common.{◌≡◌, List, [], ◌∷◌, ◌+◌, ◌++◌,
 use lib.ListN.{get_elem?}
 use Rattle.atomic_table.proofs.Lists.{at_longer}
 use Rattle.history.specs.declared.point.Point.{Point}
-use Rattle.word_lock.specs.declared.view.View.{View}
-use Rattle.word_lock.specs.Point.{header_of, Before}
-use Rattle.word_lock.specs.Rule.{joined_view, AllAgree, IsLookedAt}
+use Rattle.word_lock.specs.Prelude.{View, header_of, Before, joined_view, AllAgree, IsLookedAt}
 use Rattle.word_lock.proofs.Lists.{at_behind}
 use Rattle.word_lock.proofs.PointLaws.{before_header}
 

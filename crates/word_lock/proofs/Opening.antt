@@ -5,11 +5,7 @@ use lib.ListN.{get_elem?}
 use Rattle.atomic_table.specs.Table.{opening}
 use Rattle.history.specs.declared.entry.Entry.{Entry}
 use Rattle.history.specs.declared.point.Point.{Point}
-use Rattle.word_lock.specs.declared.view.SeatLog.{SeatLog}
-use Rattle.word_lock.specs.declared.view.View.{View}
-use Rattle.word_lock.specs.Point.{Agrees}
-use Rattle.word_lock.specs.Rule.{empty_logs, first_view, dealing_view, front_of_view, rest_of_view, IsKnownBy, RuleHolds}
-use Rattle.word_lock.specs.Ticket.{LockId, Ticket, opening_ticket, opening_tickets}
+use Rattle.word_lock.specs.Prelude.{SeatLog, View, Agrees, empty_logs, first_view, dealing_view, front_of_view, rest_of_view, IsKnownBy, RuleHolds, LockId, Ticket, opening_ticket, opening_tickets}
 use Rattle.word_lock.proofs.Lists.{one_only}
 use Rattle.word_lock.proofs.PointLaws.{before_refl}
 

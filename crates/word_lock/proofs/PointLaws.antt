@@ -1,7 +1,6 @@
 -- The laws of points. The proof of the lock rests on the first six, and on none of the definitions.
-use Rattle.std.proofs.Common.{◌≡◌, ◌≢◌, inl, inr, ℕ, ◌+◌, ◌-◌, List, [], ◌∷◌, ◌++◌, length, take, refl, ap, sym, ◌∙◌, subst, arith}
+use Rattle.std.proofs.Common.{◌≡◌, ◌≢◌, inl, inr, ℕ, ◌+◌, ◌-◌, List, [], ◌∷◌, ◌++◌, length, take, refl, ap, sym, ◌∙◌, subst, arith, append-nil, length-append}
 use Rattle.std.specs.List.{AllByRecursion}
-use Rattle.std.proofs.lemmas.List.{append-nil, length-append}
 use Rattle.std.proofs.Math.Seq.{take-append_seam, take-length}
 use Rattle.history.specs.declared.entry.Entry.{Entry}
 use Rattle.history.specs.declared.header.Header.{Header}
@@ -9,8 +8,7 @@ use Rattle.history.specs.declared.point.Point.{Point}
 use Rattle.history.specs.Base.{Base, folded, opening_base}
 use Rattle.history.specs.Point.{CanFold}
 use Rattle.history.proofs.Points.{agrees_folded, agrees_grown, agrees_opened, all_of, further_point, none_of_other, same_point}
-use Rattle.word_lock.specs.Point.{header_of, Before, Agrees, added, AllOfSeat, Follows}
-use Rattle.word_lock.specs.Point.{fold_of}
+use Rattle.word_lock.specs.Point.{header_of, Before, Agrees, added, AllOfSeat, Follows, fold_of}
 
 -- what stands in front of an old list, where so many entries were folded before
 front_is : {A : Type 0} (n : ℕ) (old new more : List A) → new ≡ more ++ old →

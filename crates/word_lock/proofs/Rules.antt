@@ -6,8 +6,7 @@ use lib.ListN.{get_elem?}
 use Rattle.atomic_table.specs.Table.{State}
 use Rattle.std.proofs.lemmas.Bool.{false_from_ne_true}
 use Rattle.history.specs.declared.point.Point.{Point}
-use Rattle.word_lock.specs.declared.view.View.{View}
-use Rattle.word_lock.specs.Rule.{IsFree, IsTaken}
+use Rattle.word_lock.specs.Prelude.{View, IsFree, IsTaken}
 
 -- each view of the first list that holds stands in the second one
 abbrev pub HoldersIn : List View → List View → Type 0

@@ -3,10 +3,7 @@ use Rattle.std.proofs.Common.{◌≡◌, ℕ, true, List, ◌++◌, length, refl
 use mathlib.Core.Option.{some}
 use lib.ListN.{get_elem?}
 use Rattle.history.specs.declared.point.Point.{Point}
-use Rattle.word_lock.specs.declared.view.SeatLog.{SeatLog}
-use Rattle.word_lock.specs.Point.{Before, Agrees, Follows, added}
-use Rattle.word_lock.specs.Rule.{AllAgree}
-use Rattle.word_lock.specs.Ticket.{Ticket, first_seat, first_entries, after_lock, after_unlock}
+use Rattle.word_lock.specs.Prelude.{SeatLog, Before, Agrees, Follows, added, AllAgree, Ticket, first_seat, first_entries, after_lock, after_unlock}
 use Rattle.word_lock.proofs.PointLaws.{before_trans, follows_before, follows_own}
 use Rattle.word_lock.proofs.Tokens.{one_log}
 

@@ -7,10 +7,7 @@ use Rattle.atomic_table.specs.Table.{State, Me, step, gives, Allows, put_back, r
 use Rattle.std.proofs.lemmas.Bool.{false_from_ne_true}
 use Rattle.history.specs.declared.entry.Entry.{Entry}
 use Rattle.history.specs.declared.point.Point.{Point}
-use Rattle.word_lock.specs.declared.view.SeatLog.{SeatLog}
-use Rattle.word_lock.specs.declared.view.View.{View}
-use Rattle.word_lock.specs.Point.{Before, Agrees, added, Follows}
-use Rattle.word_lock.specs.Rule.{with_added, view_after_give, IsKnownBy, RuleHolds, TellsGive}
+use Rattle.word_lock.specs.Prelude.{SeatLog, View, Before, Agrees, added, Follows, with_added, view_after_give, IsKnownBy, RuleHolds, TellsGive}
 use Rattle.word_lock.proofs.Lists.{stays_set, one_only, one_at}
 use Rattle.word_lock.proofs.PointLaws.{before_refl, before_trans, follows_before, follows_own, follows_other}
 

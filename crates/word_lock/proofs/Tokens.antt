@@ -1,12 +1,10 @@
 -- Tokens with one seat, and the tokens of an opening.
-use Rattle.std.proofs.Common.{◌≡◌, ℕ, zero, suc, ◌+◌, List, [], ◌∷◌, ◌++◌, length, refl, ◌∙◌, sym, arith}
-use Rattle.std.proofs.lemmas.List.{length-append}
+use Rattle.std.proofs.Common.{◌≡◌, ℕ, zero, suc, ◌+◌, List, [], ◌∷◌, ◌++◌, length, refl, ◌∙◌, sym, arith, length-append}
 use Rattle.history.specs.declared.point.Point.{Point}
-use Rattle.word_lock.specs.declared.view.SeatLog.{SeatLog}
+use Rattle.word_lock.specs.Prelude.{SeatLog, LockId, Ticket, first_seat, first_entries, opening_ticket, opening_tickets}
 use Rattle.std.specs.List.{All}
 use Rattle.std.proofs.lemmas.List.Elements.{All-nil, All-cons}
 use Rattle.word_lock.specs.Ready.{IsReady}
-use Rattle.word_lock.specs.Ticket.{LockId, Ticket, first_seat, first_entries, opening_ticket, opening_tickets}
 use Rattle.word_lock.proofs.Opening.{opening_tickets_more}
 
 pub one_log : (logs : List SeatLog) → length logs ≡ 1 →

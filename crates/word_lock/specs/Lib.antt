@@ -1,3 +1,4 @@
+pub mod Prelude
 pub mod Point
 pub mod Rule
 pub mod Ticket

@@ -2,10 +2,7 @@
 use Rattle.std.proofs.Common.{◌≡◌, ℕ, ◌<◌, ◌≤◌, Bool, List, [], ◌∷◌, length, map, ap, sym, subst, arith, ◌∙◌, get_or}
 use Rattle.std.specs.List.{All}
 use Rattle.std.proofs.lemmas.List.Elements.{All-nil, All-cons, All-head, All-tail, All-same, All-weaker}
-use Rattle.history.specs.declared.header.Header.{Header}
-use Rattle.monitor.specs.Shown.{Shown}
-use Rattle.script.specs.Script.{IsObject, IsScript, Named, ScriptView, WorkerView}
-use Rattle.word_lock.specs.Ticket.{LockId}
+use Rattle.workers.specs.Below.{Header, Shown, IsObject, IsScript, Named, ScriptView, WorkerView, LockId}
 use Rattle.workers.specs.declared.work.Worked.{Worked}
 use Rattle.workers.specs.Reports.{header_of, headers_of, opening_rows}
 use Rattle.workers.specs.inner.Homes.{lock_of}

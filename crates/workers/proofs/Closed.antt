@@ -1,12 +1,6 @@
 -- What a closed object leaves is a history as an audit asks for it.
 use Rattle.std.proofs.Common.{◌≡◌, ◌∙◌, refl, sym, subst}
-use Rattle.history.specs.declared.header.Header.{Header}
-use Rattle.history.specs.Entries.{HistoryView, base_on, start_on}
-use Rattle.history.specs.Header.{IsInRange}
-use Rattle.deciding.specs.ObjectState.{IsHistory}
-use Rattle.monitor.specs.Closing.{IsBased, left_by}
-use Rattle.monitor.specs.Lawful.{IsLawful}
-use Rattle.word_lock.specs.Ticket.{LockId}
+use Rattle.workers.specs.Below.{Header, HistoryView, base_on, start_on, IsInRange, IsHistory, IsBased, left_by, IsLawful, LockId}
 
 pub closed_history : (lock : LockId) (kept : HistoryView) (k : Header) → k ≡ lock.header → IsInRange k →
     IsBased lock kept → IsLawful (left_by lock kept) → IsHistory (start_on lock.header kept) kept.entries

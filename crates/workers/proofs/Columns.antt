@@ -1,22 +1,13 @@
 -- Rows of passes, and the columns of their objects.
-use Rattle.std.proofs.Common.{◌≡◌, ℕ, zero, suc, ◌+◌, ◌<◌, ◌≤◌, List, [], ◌∷◌, ◌++◌, length, map, replicate, take, Some, get_or, refl, ap, sym, subst, arith, ◌∙◌, eqb, cond, Bool, true, false}
+use Rattle.std.proofs.Common.{◌≡◌, ℕ, zero, suc, ◌+◌, ◌<◌, ◌≤◌, List, [], ◌∷◌, ◌++◌, length, map, replicate, take, Some, get_or, refl, ap, sym, subst, arith, ◌∙◌, eqb, cond, Bool, true, false, append-nil, append_assoc}
 use Rattle.std.specs.List.{All, slice_get}
-use Rattle.std.proofs.lemmas.List.{append-nil, append_assoc, length-map, map-append, take_more}
+use Rattle.std.proofs.lemmas.List.{length-map, map-append, take_more}
 use Rattle.std.proofs.lemmas.Option.{slice_get_within, get_or_from_slice_get}
 use Rattle.std.proofs.lemmas.List.Elements.{All-nil, All-cons, All-head, All-tail, All-push, All-same}
 use Rattle.std.proofs.lemmas.Bool.Decides.{nat_tests}
-use Rattle.history.specs.declared.header.Header.{Header}
-use Rattle.history.specs.Legal.{IsLegal}
-use Rattle.history.specs.Entries.{HistoryView, IsBasedWell, start_on}
-use Rattle.monitor.specs.Closing.{IsBased, left_by, passes_of}
-use Rattle.monitor.specs.Lawful.{IsLawful, blank}
-use Rattle.monitor.specs.Shown.{Shown, opening_pass, opening_passes}
-use Rattle.script.specs.Script.{WorkerView}
-use Rattle.word_lock.specs.Ticket.{LockId}
-use Rattle.workers.specs.declared.report.ObjectReport.{ObjectReport}
+use Rattle.workers.specs.Below.{Header, IsLegal, HistoryView, IsBasedWell, start_on, IsBased, left_by, passes_of, IsLawful, blank, Shown, opening_pass, opening_passes, WorkerView, LockId}
+use Rattle.workers.specs.Prelude.{ObjectReport, AreParts, IsPart, IsSound, dealt_all, header_of, opening_row, opening_rows, dealt}
 use Rattle.workers.specs.declared.work.Worked.{Worked}
-use Rattle.workers.specs.Reports.{AreParts, IsPart, IsSound, dealt_all, header_of, opening_row, opening_rows}
-use Rattle.workers.specs.Rows.{dealt}
 use Rattle.workers.specs.inner.Homes.{HaveColumns, home_of, homes, homes_below, lock_of}
 use Rattle.workers.specs.inner.Results.{passes_left}
 use Rattle.workers.proofs.Working.{AllWorked}

@@ -1,14 +1,9 @@
 -- What is kept of answers that no history records.
-use Rattle.std.proofs.Common.{◌≡◌, ℕ, ◌+◌, ◌<◌, List, [], ◌∷◌, ◌++◌, Option, None, Some, append-nil, append_assoc, ap, arith, get_or, length, reverse, sym, subst, take, ◌∙◌}
-use Rattle.std.specs.Prelude.{IfSome}
+use Rattle.std.proofs.Common.{◌≡◌, ℕ, ◌+◌, ◌<◌, List, [], ◌∷◌, ◌++◌, Option, None, Some, append-nil, append_assoc, ap, arith, get_or, length, reverse, sym, subst, take, ◌∙◌, IfSome, length-append}
 use Rattle.std.specs.Global.{Vec}
-use Rattle.std.proofs.lemmas.List.{length-append}
-use Rattle.history.specs.declared.fault.Fault.{Fault}
-use Rattle.monitor.specs.Shown.{Shown}
-use Rattle.script.specs.declared.call.Call.{Call}
+use Rattle.workers.specs.Below.{Fault, Shown, Call}
 use Rattle.workers.specs.declared.kept.Kept.{Kept}
-use Rattle.workers.specs.declared.unrecorded.Unrecorded.{Unrecorded}
-use Rattle.workers.specs.Calls.{IsCalled, Made, unrecorded_by}
+use Rattle.workers.specs.Prelude.{Unrecorded, IsCalled, Made, unrecorded_by}
 use Rattle.workers.specs.inner.Keeping.{Adds, Extends, IsKept, Joins}
 use Rattle.workers.proofs.Passing.{made_next}
 

@@ -1,18 +1,11 @@
 -- The passes of a worker after its calls.
-use Rattle.std.proofs.Common.{◌≡◌, ℕ, zero, suc, ◌+◌, ◌*◌, ◌<◌, List, [], ◌∷◌, ◌++◌, length, map, reverse, take, Option, refl, ap, sym, subst, arith, ◌∙◌, get_or, set}
-use Rattle.std.proofs.lemmas.List.{append-nil, append_assoc, length-append, length-map, length-reverse, length-take-le, reverse-append, take_more}
+use Rattle.std.proofs.Common.{◌≡◌, ℕ, zero, suc, ◌+◌, ◌*◌, ◌<◌, List, [], ◌∷◌, ◌++◌, length, map, reverse, take, Option, refl, ap, sym, subst, arith, ◌∙◌, get_or, set, append-nil, append_assoc, length-append, length-take-le}
+use Rattle.std.proofs.lemmas.List.{length-map, length-reverse, reverse-append, take_more}
 use Rattle.std.proofs.lemmas.Option.{slice_get_read}
 use Rattle.std.proofs.Math.Nat.{suc-mul, zero-mul}
-use Rattle.history.specs.declared.fault.Fault.{Fault}
-use Rattle.monitor.specs.Shown.{Shown, IsSound}
-use Rattle.monitor.specs.Stepping.{IsSame}
-use Rattle.script.specs.declared.action.Action.{Action}
-use Rattle.script.specs.declared.call.Call.{Call}
-use Rattle.script.specs.declared.call.Call.TheVariants.{On}
-use Rattle.word_lock.specs.Ticket.{LockId}
+use Rattle.workers.specs.Below.{Fault, Shown, IsSound, IsSame, Action, Call, On, LockId}
 use Rattle.workers.specs.declared.reply.Reply.{Reply}
-use Rattle.workers.specs.declared.unrecorded.Unrecorded.{Unrecorded}
-use Rattle.workers.specs.Calls.{IsActed, IsCalled, Made, fault_of, rounds, unrecorded_by}
+use Rattle.workers.specs.Prelude.{Unrecorded, IsActed, IsCalled, Made, fault_of, rounds, unrecorded_by}
 use Rattle.workers.specs.inner.Homes.{homes, home_of, lock_of}
 
 -- one pass that is of the same monitor and seat

@@ -1,16 +1,11 @@
 -- What the workers left, put together one by one.
-use Rattle.std.proofs.Common.{◌≡◌, ℕ, ◌+◌, ◌*◌, ◌≤◌, List, [], ◌∷◌, ◌++◌, length, IfOk, Ok, Err, Result, refl, ap, sym, subst, arith, ◌∙◌, inl, inr}
+use Rattle.std.proofs.Common.{◌≡◌, ℕ, ◌+◌, ◌*◌, ◌≤◌, List, [], ◌∷◌, ◌++◌, length, IfOk, Ok, Err, Result, refl, ap, sym, subst, arith, ◌∙◌, inl, inr, append-nil, append_assoc}
 use Rattle.std.specs.List.{All}
-use Rattle.std.proofs.lemmas.List.{append-nil, append_assoc}
 use Rattle.std.proofs.lemmas.List.Elements.{All-head, All-rest, All-same}
-use Rattle.monitor.specs.Shown.{Shown}
-use Rattle.script.specs.declared.limits.TheConstants.{MOST_THREADS}
-use Rattle.workers.specs.declared.fault.RunFault.{RunFault}
+use Rattle.workers.specs.Below.{Shown, MOST_THREADS}
+use Rattle.workers.specs.Prelude.{RunFault, Unrecorded, dealt_all, dealt}
 use Rattle.workers.specs.declared.kept.Kept.{Kept}
-use Rattle.workers.specs.declared.unrecorded.Unrecorded.{Unrecorded}
 use Rattle.workers.specs.declared.work.Worked.{Worked}
-use Rattle.workers.specs.Reports.{dealt_all}
-use Rattle.workers.specs.Rows.{dealt}
 use Rattle.workers.specs.inner.Keeping.{HaveKept, IsKept, Joins}
 use Rattle.workers.specs.inner.Results.{HasStopped, HaveEnded, most_calls, passes_left}
 use Rattle.workers.proofs.Dealing.{dealt_length}

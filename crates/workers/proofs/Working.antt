@@ -2,17 +2,10 @@
 use Rattle.std.proofs.Common.{◌≡◌, ℕ, suc, ◌+◌, ◌*◌, ◌<◌, ◌≤◌, ◌⊎◌, Bool, true, List, [], ◌∷◌, ◌++◌, length, IfOk, Ok, Err, Result, refl, ap, sym, subst, arith, ◌∙◌, inl, inr, ⊎_elim, get_or}
 use Rattle.std.proofs.lemmas.Option.{same_Some}
 use Rattle.std.proofs.Math.Nat.{eq-or-lt_of_le, mul-le-mul_right, suc-mul}
-use Rattle.monitor.specs.Shown.{Shown}
-use Rattle.script.specs.Script.{WorkerView}
-use Rattle.workers.specs.declared.fault.RunFault.{RunFault}
-use Rattle.workers.specs.declared.fault.RunFault.TheVariants.{Memory, GateShut, NotStarted}
+use Rattle.workers.specs.Below.{Shown, WorkerView}
+use Rattle.workers.specs.Prelude.{RunFault, Memory, GateShut, NotStarted, Unrecorded, Made, rounds, AllMade, WasRefused, IsFaultOfRun, LetsAll, LetsBelow, StopsBelow, StopsFirst, calls_of}
 use Rattle.workers.specs.declared.kept.Kept.{Kept}
-use Rattle.workers.specs.declared.unrecorded.Unrecorded.{Unrecorded}
 use Rattle.workers.specs.declared.work.Worked.{Worked}
-use Rattle.workers.specs.Calls.{Made, rounds}
-use Rattle.workers.specs.Reports.{AllMade}
-use Rattle.workers.specs.Refused.{WasRefused}
-use Rattle.workers.specs.Gates.{IsFaultOfRun, LetsAll, LetsBelow, StopsBelow, StopsFirst, calls_of}
 use Rattle.workers.specs.inner.Keeping.{HaveKept, IsKept}
 use Rattle.workers.specs.inner.Results.{Ends, HasStopped, HasWorked, HaveEnded, WorksAt, passes_left}
 

@@ -1,16 +1,7 @@
 -- How the calls of a worker change its passes.
 use Rattle.std.specs.Prelude.{◌≡◌, ℕ, zero, suc, ◌+◌, List, [], ◌∷◌, ◌++◌, Option, None, Some, Ok, Err, length, reverse, slice_get, slice_set}
-use Rattle.history.specs.declared.fault.Fault.{Fault}
+use Rattle.workers.specs.Below.{Fault, IsAcquire, IsAwait, Shown, IsSound, IsEntered, IsSame, IsTrim, IsDone, interrupted, Action, Acquire, TryAcquire, Release, AwaitOn, Signal, SignalAll, Drain, Trim, Call, On, Interrupt}
 use Rattle.history.specs.declared.step.Step.TheVariants as step
-use Rattle.monitor.specs.Acquire.{IsAcquire}
-use Rattle.monitor.specs.AwaitOn.{IsAwait}
-use Rattle.monitor.specs.Shown.{Shown, IsSound}
-use Rattle.monitor.specs.Stepping.{IsEntered, IsSame, IsTrim}
-use Rattle.permit.specs.Deed.{IsDone, interrupted}
-use Rattle.script.specs.declared.action.Action.{Action}
-use Rattle.script.specs.declared.action.Action.TheVariants.{Acquire, TryAcquire, Release, AwaitOn, Signal, SignalAll, Drain, Trim}
-use Rattle.script.specs.declared.call.Call.{Call}
-use Rattle.script.specs.declared.call.Call.TheVariants.{On, Interrupt}
 use Rattle.workers.specs.declared.reply.Reply.{Reply}
 use Rattle.workers.specs.declared.reply.Reply.TheVariants.{Entered, Trimmed}
 use Rattle.workers.specs.declared.unrecorded.Unrecorded.{Unrecorded}

@@ -1,3 +1,5 @@
+pub mod Prelude
+pub mod Below
 pub mod Calls
 pub mod Rows
 pub mod Gates

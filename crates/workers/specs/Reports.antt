@@ -1,17 +1,6 @@
 -- The report of a run.
 use Rattle.std.specs.Prelude.{◌≡◌, ℕ, zero, suc, Bool, true, false, Option, None, IfSome, IsSome, List, [], ◌∷◌, ◌++◌, All, map, length, replicate}
-use Rattle.audit.specs.declared.verdict.Judgement.{Judgement}
-use Rattle.audit.specs.declared.verdict.Judgement.TheVariants.{Legal, NotLegal}
-use Rattle.audit.specs.Totals.{totals_of}
-use Rattle.history.specs.declared.header.Header.{Header}
-use Rattle.history.specs.Entries.{IsBasedWell, start_on}
-use Rattle.history.specs.Header.{IsInRange}
-use Rattle.history.specs.Legal.{IsLegal, calls}
-use Rattle.monitor.specs.Closing.{IsBased, IsWithin, left_by, shares}
-use Rattle.monitor.specs.Lawful.{IsLawful, blank}
-use Rattle.monitor.specs.Shown.{Shown, opening_pass}
-use Rattle.script.specs.Script.{ScriptView, WorkerView}
-use Rattle.word_lock.specs.Ticket.{LockId}
+use Rattle.workers.specs.Below.{Judgement, Legal, NotLegal, totals_of, Header, IsBasedWell, start_on, IsInRange, IsLegal, calls, IsBased, IsWithin, left_by, shares, IsLawful, blank, Shown, opening_pass, ScriptView, WorkerView, LockId}
 use Rattle.workers.specs.declared.report.ObjectReport.{ObjectReport}
 use Rattle.workers.specs.declared.report.Report.{Report}
 use Rattle.workers.specs.declared.unrecorded.Keep.{Keep}

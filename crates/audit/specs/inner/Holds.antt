@@ -1,10 +1,6 @@
 -- The owner, and how an entry changes who it is.
 use Rattle.std.specs.Prelude.{◌≡◌, ◌≢◌, ℕ, ◌<◌, List, Option, Some, None, nat_lt, if◌then◌else◌}
-use Rattle.history.specs.declared.entry.Entry.{Entry}
-use Rattle.history.specs.declared.entry.Mode.TheVariants.{X}
-use Rattle.history.specs.Could.{is_seat}
-use Rattle.history.specs.Counts.{held}
-use Rattle.history.specs.Start.{Start}
+use Rattle.audit.specs.Below.{Entry, X, is_seat, held, Start}
 
 -- a seat that has exclusive holds is the only one
 abbrev pub IsOnlyOwner : Start → List Entry → Type 0

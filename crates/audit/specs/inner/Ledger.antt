@@ -1,7 +1,6 @@
 -- A ledger whose entries are added up.
 use Rattle.std.specs.Prelude.{◌<◌, ◌^◌, List, length}
-use Rattle.history.specs.declared.entry.Entry.{Entry}
-use Rattle.history.specs.Start.{Start}
+use Rattle.audit.specs.Below.{Entry, Start}
 use Rattle.audit.specs.declared.ledger.Ledger.{Ledger}
 use Rattle.audit.specs.Ledger.{LedgerStand}
 

@@ -1,18 +1,9 @@
 -- How an entry, or a base, changes the audit's queue and waiters.
 use Rattle.std.specs.Prelude.{◌≡◌, ◌<◌, ◌≤◌, ℕ, true, List, [], length, map, slice_index_or, slice_set, Option, Some, None}
 use Rattle.std.specs.List.{AllByRecursion}
-use Rattle.history.specs.declared.entry.Entry.{Entry}
-use Rattle.history.specs.declared.entry.End.{End}
+use Rattle.audit.specs.Below.{Entry, End, Word, Header, Lapse, Base, sleepers_of, has, Sleep, times, Sleepers, asleep_on, sleeper_of, LastSleep}
 use Rattle.history.specs.declared.entry.End.TheVariants as end
-use Rattle.history.specs.declared.entry.Word.{Word}
-use Rattle.history.specs.declared.header.Header.{Header}
-use Rattle.history.specs.declared.entry.Word.TheVariants.{Await, Lapse}
-use Rattle.history.specs.Base.{Base, sleepers_of}
-use Rattle.history.specs.Sleepers.{has}
-use Rattle.history.specs.Start.{Sleep}
-use Rattle.history.specs.Waiting.{times}
-use Rattle.condition_queue.specs.Sleepers.{Sleepers, asleep_on, sleeper_of}
-use Rattle.deciding.specs.declared.sleep.LastSleep.{LastSleep}
+use Rattle.history.specs.declared.entry.Word.TheVariants.{Await}
 use Rattle.audit.specs.declared.waiting.Waiting.{Waiting}
 use Rattle.audit.specs.Waiting.{never_slept}
 use Rattle.history.specs.inner.BaseSleepers.{sleeping_seats}

@@ -1,12 +1,6 @@
 -- The first fault of a step, and what a step makes in its seat's phase.
 use Rattle.std.specs.Prelude.{ℕ, not, if◌then◌else◌, List, Option, Result, Ok, Err}
-use Rattle.history.specs.declared.entry.Entry.{Entry}
-use Rattle.history.specs.declared.fault.Fault.{Fault}
-use Rattle.history.specs.declared.fault.Fault.TheVariants.{OutOfPhase}
-use Rattle.history.specs.declared.step.Step.{Step}
-use Rattle.history.specs.Phase.{Phase, suits}
-use Rattle.history.specs.Start.{Start}
-use Rattle.history.specs.Steps.{phase_entry}
+use Rattle.deciding.specs.Below.{Entry, Fault, OutOfPhase, Step, Phase, suits, Start, phase_entry}
 
 -- a step that suits its seat's phase makes the phase's entry
 abbrev pub in_phase : Start → List Entry → ℕ → Step → Phase → Result (Option Entry) Fault

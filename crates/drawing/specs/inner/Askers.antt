@@ -1,10 +1,6 @@
 -- The table of seats that wait for a first acquire.
 use Rattle.std.specs.Prelude.{ℕ, zero, suc, ◌==◌, Bool, false, ◌&&◌, not, List, Option, Some, None, is_some, slice_index_or}
-use Rattle.history.specs.declared.arrival.Arrival.{Arrival}
-use Rattle.history.specs.declared.entry.Entry.{Entry}
-use Rattle.history.specs.Start.{Start}
-use Rattle.summing.specs.Counting.{more}
-use Rattle.summing.specs.Waits.{begun}
+use Rattle.drawing.specs.Below.{Arrival, Entry, Start, more, begun}
 
 -- whether a seat waits so, by its place in a queue; one without a place does what it did
 abbrev pub asks_or : Bool → Option Arrival → Bool

@@ -1,12 +1,7 @@
 -- Which stretches an entry can change, by their places in the list of all stretches.
 use Rattle.std.specs.Prelude.{◌≡◌, ◌≢◌, ℕ, ◌+◌, ◌*◌, ◌<◌, nat_lt, Bool, true, false, ◌&&◌, if◌then◌else◌, List, [], ◌∷◌, length, take, slice_index, slice_index_or}
 use Rattle.std.specs.List.{flat_map}
-use Rattle.history.specs.declared.entry.Entry.{Entry}
-use Rattle.history.specs.declared.entry.Mode.{Mode}
-use Rattle.history.specs.declared.entry.Mode.TheVariants.{X, S}
-use Rattle.history.specs.declared.entry.Word.{Word}
-use Rattle.history.specs.declared.entry.Word.TheVariants.{Await, Lapse, Signal, SignalAll}
-use Rattle.history.specs.Start.{Start}
+use Rattle.drawing.specs.Below.{Entry, Mode, X, S, Word, Await, Lapse, Signal, SignalAll, Start}
 use Rattle.drawing.specs.declared.bar.Stretch.{Stretch}
 use Rattle.drawing.specs.declared.kind.Kind.{Kind}
 use Rattle.drawing.specs.declared.kind.Kind.TheVariants.{Exclusive, Shared, InLine, Asleep}

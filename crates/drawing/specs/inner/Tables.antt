@@ -1,12 +1,6 @@
 -- How an entry changes the tables of holds, of the queue and of waiters.
 use Rattle.std.specs.Prelude.{ℕ, Bool, true, false, List, [], take, if◌then◌else◌, slice_index, slice_set}
-use Rattle.history.specs.declared.entry.Entry.{Entry}
-use Rattle.history.specs.declared.entry.Mode.{Mode}
-use Rattle.history.specs.declared.entry.Word.{Word}
-use Rattle.history.specs.declared.entry.Word.TheVariants.{Queued, Lapse, Granted, Left, Back, Signal, SignalAll}
-use Rattle.history.specs.declared.header.Object.{Object}
-use Rattle.history.specs.Counts.{holds_after}
-use Rattle.history.specs.Entry.{same_mode}
+use Rattle.drawing.specs.Below.{Entry, Mode, Word, Queued, Lapse, Granted, Left, Back, Signal, SignalAll, Object, holds_after, same_mode}
 
 -- a table of holds after an entry of its mode, and a table of a mode after any entry
 abbrev pub table_by : Object → Entry → List ℕ → List ℕ

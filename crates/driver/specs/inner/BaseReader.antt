@@ -1,16 +1,7 @@
 -- Reading the lines of a base, one after another.
 use Rattle.std.specs.Prelude.{◌≡◌, ℕ, ◌+◌, Bool, true, false, List, [], length, map, Option, Result, Ok, Err}
 use Rattle.std.specs.Io.KnownBytes.{Keeps, prepend_known}
-use Rattle.history.specs.Base.{Base}
-use Rattle.history.specs.Entries.{or_opening}
-use Rattle.history_text.specs.declared.place.Head.{Head}
-use Rattle.history_text.specs.declared.place.Place.{Place}
-use Rattle.history_text.specs.HistoryText.{history_form}
-use Rattle.history_text.specs.NextLine.{HasShortLine, LacksBaseLine, LinesRead}
-use Rattle.history_text.specs.TextLines.{Based, Line}
-use Rattle.history_text.specs.ToldBases.{GoodHas}
-use Rattle.line_text.specs.UnderWay.{SoFar}
-use Rattle.streams.specs.declared.stream_fault.StreamFault.{StreamFault}
+use Rattle.driver.specs.Below.{Base, or_opening, Head, Place, history_form, HasShortLine, LacksBaseLine, LinesRead, Based, Line, GoodHas, SoFar, StreamFault}
 use Rattle.driver.specs.TextReader.{IsFaultOf, WereRead, reader_at}
 use Rattle.driver.specs.BaseReader.{EntriesBehind}
 

@@ -1,10 +1,7 @@
 -- Which entries are kept to explain one, and what is known of the one that is explained.
 use Rattle.std.specs.Prelude.{◌≡◌, ◌<◌, ℕ, ◌+◌, ◌-◌, ◌^◌, Bool, true, min, List, [], Option, Some, None, reverse, take, IfSome}
 use Rattle.std.specs.List.{slice_get}
-use Rattle.audit.specs.declared.verdict.Verdict.{Verdict}
-use Rattle.audit.specs.Ledger.{IsNext}
-use Rattle.history.specs.declared.entry.Entry.{Entry}
-use Rattle.history.specs.Base.{Base, based}
+use Rattle.driver.specs.Below.{Verdict, IsNext, Entry, Base, based}
 use Rattle.driver.specs.ExplainStream.{is_legal_at}
 
 -- how many entries are kept

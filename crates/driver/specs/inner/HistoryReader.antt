@@ -1,9 +1,6 @@
 -- What a reader of entries has after each step.
 use Rattle.std.specs.Prelude.{◌-◌, ℕ, List, [], drop, length, Option, IfSome}
-use Rattle.history.specs.declared.entry.Entry.{Entry}
-use Rattle.history_text.specs.HistoryText.{history_form}
-use Rattle.history_text.specs.NextLine.{behind}
-use Rattle.streams.specs.declared.stream_fault.StreamFault.{StreamFault}
+use Rattle.driver.specs.Below.{Entry, history_form, behind, StreamFault}
 use Rattle.driver.specs.TextReader.{IsFaultOf}
 use Rattle.driver.specs.HistoryReader.{EntriesHeld, EntriesRead}
 

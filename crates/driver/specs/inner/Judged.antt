@@ -1,11 +1,7 @@
 -- Judging the entries of a history text as they are read.
 use Rattle.std.specs.Prelude.{◌≡◌, ℕ, ◌<◌, ◌^◌, nat_lt, if◌then◌else◌, List, [], ◌∷◌, ◌++◌, length, reverse, take, Option}
 use Rattle.std.specs.List.{All}
-use Rattle.audit.specs.Verdict.{IsJudgement}
-use Rattle.history.specs.declared.entry.Entry.{Entry}
-use Rattle.history.specs.Base.{based}
-use Rattle.history.specs.Legal.{calls}
-use Rattle.history_text.specs.HistoryText.{IsHistoryText}
+use Rattle.driver.specs.Below.{IsJudgement, Entry, based, calls, IsHistoryText}
 use Rattle.driver.specs.declared.judged.Judged.{Judged}
 use Rattle.driver.specs.HistoryReader.{EntriesHeld, base_held}
 use Rattle.driver.specs.inner.HistoryReader.{OfHistory}

@@ -1,13 +1,6 @@
 -- What is kept of the answers to acts, besides the core's history.
 use Rattle.std.specs.Prelude.{◌≡◌, ◌≢◌, ◌+◌, ℕ, List, [], ◌∷◌, ◌++◌, length, reverse, Option, Some, None, Result, Ok, Err}
-use Rattle.frame.specs.declared.acts.Act.{Act}
-use Rattle.frame.specs.declared.acts.Act.TheVariants.{Do, Trim}
-use Rattle.frame.specs.Core.{CoreView, IsAnswered, IsTrimmed}
-use Rattle.history.specs.declared.entry.Entry.{Entry}
-use Rattle.history.specs.declared.fault.Fault.{Fault}
-use Rattle.history.specs.declared.fault.Fault.TheVariants.{OutOfMemory}
-use Rattle.history.specs.declared.step.Answer.{Answer}
-use Rattle.history.specs.declared.step.Step.{Step}
+use Rattle.driver.specs.Below.{Act, Do, Trim, CoreView, IsAnswered, IsTrimmed, Entry, Fault, OutOfMemory, Answer, Step}
 use Rattle.driver.specs.declared.replay.Log.{Log}
 use Rattle.driver.specs.declared.remark.Remark.{Remark}
 use Rattle.driver.specs.Remarks.{remark_of, trim_remark}

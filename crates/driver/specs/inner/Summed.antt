@@ -1,11 +1,8 @@
 -- Judging and summing up the entries of a history text as they are read.
 use Rattle.std.specs.Prelude.{◌≡◌, ℕ, ◌<◌, ◌^◌, List, length, reverse, Option}
-use Rattle.history.specs.declared.entry.Entry.{Entry}
-use Rattle.history.specs.Base.{based}
-use Rattle.history_text.specs.HistoryText.{IsHistoryText}
+use Rattle.driver.specs.Below.{Entry, based, IsHistoryText, JudgingSumming}
 use Rattle.driver.specs.HistoryReader.{EntriesHeld, base_held}
 use Rattle.driver.specs.inner.HistoryReader.{OfHistory}
-use Rattle.summing.specs.declared.judging.JudgingSumming.{JudgingSumming}
 use Rattle.summing.specs.Judging.{HasJudged}
 
 -- The text is a history text on the base that was read, and its entries were judged and summed up.

@@ -1,12 +1,7 @@
 -- What follows the end line of a text.
 use Rattle.std.specs.Prelude.{◌≡◌, ◌≢◌, ◌+◌, ℕ, List, [], Option, Some, None, Result, Ok, Err, IfSome}
 use Rattle.std.specs.Io.KnownBytes.{IsAtEnd}
-use Rattle.line_text.specs.declared.fault.TextFault.TheVariants.{BadLine}
-use Rattle.streams.specs.declared.stream_fault.StreamFault.{StreamFault}
-use Rattle.streams.specs.declared.stream_fault.StreamFault.TheVariants.{Text, ReadFailed, WriteFailed, Memory}
-use Rattle.std.specs.Prelude.{ℕ, List, [], Option}
-use Rattle.line_text.specs.Form.{Form}
-use Rattle.streams.specs.declared.stream_fault.StreamFault.{StreamFault}
+use Rattle.driver.specs.Below.{BadLine, StreamFault, Text, ReadFailed, WriteFailed, Memory, Form}
 use Rattle.driver.specs.TextReader.{IsFaultOf, Progress, WereRead}
 
 -- what follows the end line after `count` items: nothing, or what makes the next line a bad one

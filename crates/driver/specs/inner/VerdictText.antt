@@ -1,8 +1,6 @@
 -- The text that is written for a verdict.
 use Rattle.std.specs.Prelude.{◌≡◌, ℕ, List, Option, IfSome}
-use Rattle.audit.specs.declared.verdict.Verdict.{Verdict}
-use Rattle.history.specs.declared.entry.Entry.{Entry}
-use Rattle.history.specs.Base.{Base}
+use Rattle.driver.specs.Below.{Verdict, Entry, Base}
 use Rattle.driver.specs.declared.verdict_text.VerdictText.{VerdictText}
 use Rattle.driver.specs.AuditStream.{IsToldOf}
 

@@ -1,14 +1,7 @@
 -- What is done at once: entries that move nobody, while the queue is empty; and steps past those who wait.
 use Rattle.std.specs.Prelude.{◌≡◌, ℕ, Bool, true, false, not, ◌&&◌, ◌||◌, is_none, [], None, Ok, Some}
-use Rattle.deciding.specs.Checks.{refused_as}
-use Rattle.history.specs.declared.entry.Mode.{Mode}
-use Rattle.history.specs.declared.entry.Word.{Word}
+use Rattle.frame.specs.Below.{refused_as, Mode, Word, Step, could, held_back, limit, line, Idle, phase, entry_for}
 use Rattle.history.specs.declared.entry.Word.TheVariants as word
-use Rattle.history.specs.declared.step.Step.{Step}
-use Rattle.history.specs.Could.{could, held_back, limit}
-use Rattle.history.specs.Line.{line}
-use Rattle.history.specs.Phase.{Idle, phase}
-use Rattle.history.specs.Steps.{entry_for}
 use Rattle.frame.specs.AtOnce.{entry_at_once}
 use Rattle.frame.specs.Core.{CoreView, counts_of, start_of}
 use Rattle.frame.specs.inner.Core.{first_mode_of}

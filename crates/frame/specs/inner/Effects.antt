@@ -1,7 +1,6 @@
 -- How an entry changes the counts, and what it requires of them.
 use Rattle.std.specs.Prelude.{Bool, true, false}
-use Rattle.history.specs.declared.entry.Word.{Word}
-use Rattle.history.specs.declared.entry.Word.TheVariants.{Gave, Counted, Await, Left}
+use Rattle.frame.specs.Below.{Word, Gave, Counted, Await, Left}
 
 -- The words for which it matters who was ready before. Before a grant it is the seat that is granted.
 abbrev pub asks_before : Word → Bool

@@ -7,15 +7,18 @@
 //! the waiter that the step names. There an acquire that succeeds past those who wait is done at once too, and
 //! so is a release while somebody waits.
 
-ghost use Rattle.std.specs.Prelude.{◌≡◌, ◌<◌, [], true, not, is_none, int_lt, pos, ◌+ℤ◌, Ok, IfSome, IfNone, IsTrue};
+ghost use Rattle.std.specs.Prelude.{◌≡◌, ◌<◌, [], true, false, not, is_none, int_lt, pos, ◌+ℤ◌, Ok, IfSome, IfNone, IsTrue};
 ghost use Rattle.deciding.specs.Balance.{available};
 ghost use Rattle.deciding.specs.Checks.{refused_as};
+ghost use Rattle.history.specs.Could.{could, limit};
 ghost use Rattle.history.specs.Faults.{max_amount};
 ghost use Rattle.history.specs.Line.{line};
+ghost use Rattle.history.specs.Steps.{gave};
+ghost use Rattle.history.specs.declared.entry.Word.TheVariants.{Gave};
 ghost use Rattle.history.specs.declared.step.Answer.TheVariants.{Recorded};
 ghost use Rattle.frame.specs.AtOnce.{Gives, IsAtOnce, entry_at_once};
 ghost use Rattle.frame.specs.inner.AtOnce.{IsAlone, MakesAtOnce, Takes, moves_nobody};
-ghost use Rattle.frame.specs.Core.{start_of, IsAdded, IsNext, IsStepped};
+ghost use Rattle.frame.specs.Core.{counts_of, start_of, IsAdded, IsNext, IsStepped};
 
 use super::Core;
 use crate::effects::change;
@@ -84,7 +87,7 @@ impl<H: Hooks + Drop> Core<H> {
     }
 
     /// Returns the entry of a step that was done at once while the queue is empty. `None` changes nothing.
-    // In each arm the entry is known.
+    // Whether the object has the step is asked once, and in each arm the entry is known.
     #[inline(always)]
     pub(super) fn step_alone(&mut self, seat: u16, step: Step) -> Option<Entry>
         requires { seat < self.old.header.seats }
@@ -94,17 +97,17 @@ impl<H: Hooks + Drop> Core<H> {
         if !self.is_alone(seat) {
             return None;
         }
+        if !self.admits(step) {
+            return None;
+        }
         match step {
-            Step::Acquire(mode, n) if self.takes(seat, step, mode, n) => {
+            Step::Acquire(mode, n) | Step::TryFair(mode, n) if self.may_take(seat, mode, n) => {
                 self.enter(plain(seat, Word::Got, mode, n))
             }
-            Step::TryFair(mode, n) if self.takes(seat, step, mode, n) => {
-                self.enter(plain(seat, Word::Got, mode, n))
-            }
-            Step::Try(mode, n) if self.takes(seat, step, mode, n) => {
+            Step::Try(mode, n) if self.may_take(seat, mode, n) => {
                 self.enter(plain(seat, Word::TryGot, mode, n))
             }
-            Step::Give(mode, n) if self.gives(seat, step, mode, n) => {
+            Step::Give(mode, n) if self.may_give(seat, mode, n) => {
                 self.enter(plain(seat, Word::Gave, mode, n))
             }
             _ => None,
@@ -147,20 +150,35 @@ impl<H: Hooks + Drop> Core<H> {
     pub(super) fn takes(&self, seat: u16, step: Step, mode: Mode, n: u32) -> bool
         ensures { IsTrue result → Takes self.now seat step mode n }
     {
-        self.admits(step) && !self.hooks.at_limit(seat, mode) && self.hooks.could(seat, mode, n)
+        self.admits(step) && self.may_take(seat, mode, n)
     }
 
-    /// Returns whether the object has such a step, and a hold or permits are released. A latch is counted
-    /// down on the general path.
+    /// Returns whether the seat could acquire. Whether the object has such a step isn't asked here.
+    #[inline(always)]
+    fn may_take(&self, seat: u16, mode: Mode, n: u32) -> bool
+        ensures below { IsTrue result → limit (counts_of self.now) seat mode ≡ false }
+        ensures could { IsTrue result → could (counts_of self.now) seat mode n ≡ true }
+    {
+        !self.hooks.at_limit(seat, mode) && self.hooks.could(seat, mode, n)
+    }
+
+    /// Returns whether the object has such a step, and a hold or permits are released.
     #[inline(always)]
     pub(super) fn gives(&self, seat: u16, step: Step, mode: Mode, n: u32) -> bool
         requires { seat < self.now.header.seats }
         ensures { IsTrue result → Gives self.now seat step mode n }
     {
+        self.admits(step) && self.may_give(seat, mode, n)
+    }
+
+    /// Returns whether a hold or permits are released. Whether the object has such a step isn't asked here. A
+    /// latch is counted down on the general path.
+    #[inline(always)]
+    fn may_give(&self, seat: u16, mode: Mode, n: u32) -> bool
+        requires { seat < self.now.header.seats }
+        ensures { IsTrue result → gave self.now.header.object (counts_of self.now) seat mode n ≡ Gave }
+    {
         let _header = &self.header;
-        if !self.admits(step) {
-            return false;
-        }
         match self.object() {
             Object::Lock(_) | Object::ReadWrite(_) => self.holds(seat, mode) > 0,
             Object::Semaphore(_, _) => self.may_free(n),

@@ -2,7 +2,7 @@
 
 ghost use Rattle.std.specs.Prelude.{◌≡◌, ◌++◌, ◌<◌, true, if◌then◌else◌, None, Ok, IsOk, IfOk, IfSome, IfNone, OnErr};
 ghost use Rattle.frame.specs.Core.{made_by, places_behind};
-ghost use Rattle.frame.specs.inner.Core.{ready_of};
+ghost use Rattle.frame.specs.inner.Core.{IsEntered, ready_of};
 ghost use Rattle.frame.specs.Core.{IsAdded, IsNext, IsOf, IsRecorded, IsTold, KeepsHolds, NamesBelow};
 ghost use Rattle.frame.specs.inner.Effects.{asks_before};
 ghost use Rattle.frame.specs.Tidied.{HasTidied};
@@ -58,18 +58,7 @@ impl<H: Hooks + Drop> Core<H> {
     #[inline(always)]
     pub(super) fn record(&mut self, entry: Entry) -> Result<Answer, Fault>
         requires { IsNext self.old entry }
-        ensures recorded { IsRecorded self.old entry result self.new }
-        ensures told { IsTold self.old entry.seat result self.new }
-        ensures header { self.new.header ≡ self.old.header }
-        ensures base { self.new.base ≡ self.old.base }
-        ensures fault { OnErr result (self.new ≡ self.old) }
-        ensures places { self.new.places ≡ places_behind self.old result }
-        ensures refused { IfOk result (λ answer. KeepsHolds self.old entry.seat answer self.new) }
-        ensures owed { was_owed self.old.header.object entry ≡ true → IsOk result }
-        ensures grown { self.new.entries ≡ made_by result ++ self.old.entries }
-        ensures own { IfOk result (λ answer. IsOf entry.seat answer) }
-        ensures names { IfOk result (λ answer. NamesBelow self.old.header.seats answer) }
-        ensures tidied { IfOk result (λ answer. HasTidied entry.seat answer) }
+        ensures { IsEntered self.old entry result self.new }
     {
         let before = self.ready_before(entry.word);
         let name = self.write(entry, before)?;

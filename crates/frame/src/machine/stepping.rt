@@ -2,10 +2,9 @@
 
 ghost use Rattle.std.specs.Prelude.{◌≡◌, ◌≢◌, ◌<◌, ◌^◌, ◌++◌, IsOk, IfOk, OnErr, Some};
 ghost use Rattle.acquire_queue.specs.Line.{IsTidy};
-ghost use Rattle.frame.specs.Core.{made_by, places_behind, unmarked_at};
+ghost use Rattle.frame.specs.Core.{unmarked_at, IsStepped};
 ghost use Rattle.frame.specs.inner.Core.{ready_of};
-ghost use Rattle.frame.specs.Core.{IsAnswered, IsOf, IsTold, KeepsHolds, MakesOwed, NamesBelow};
-ghost use Rattle.frame.specs.Tidied.{HasTidied, WasTidied};
+ghost use Rattle.frame.specs.Tidied.{WasTidied};
 
 use super::Core;
 use crate::hooks::Hooks;
@@ -65,20 +64,7 @@ impl<H: Hooks + Drop> Core<H> {
     #[inline(always)]
     pub fn step(&mut self, seat: u16, step: Step) -> Result<Answer, Fault>
         requires { seat < self.old.header.seats }
-        ensures answered { IsAnswered self.old seat step result self.new }
-        ensures told { IsTold self.old seat result self.new }
-        ensures header { self.new.header ≡ self.old.header }
-        ensures base { self.new.base ≡ self.old.base }
-        ensures fault { OnErr result (self.new ≡ self.old) }
-        ensures places { self.new.places ≡ places_behind self.old result }
-        ensures refused { IfOk result (λ answer. KeepsHolds self.old seat answer self.new) }
-        ensures owed { MakesOwed self.old seat step → IsOk result }
-        // The new entry comes first in the list. It is the seat's, and the waiter that it names is one of the
-        // seats.
-        ensures grown { self.new.entries ≡ made_by result ++ self.old.entries }
-        ensures own { IfOk result (λ answer. IsOf seat answer) }
-        ensures names { IfOk result (λ answer. NamesBelow self.old.header.seats answer) }
-        ensures tidied { IfOk result (λ answer. HasTidied seat answer) }
+        ensures { IsStepped self.old seat step result self.new }
     {
         match self.step_alone(seat, step) {
             Some(entry) => Ok(Answer::Recorded(entry, None)),
@@ -91,18 +77,7 @@ impl<H: Hooks + Drop> Core<H> {
     #[inline(always)]
     pub fn step_by_kind(&mut self, seat: u16, step: Step) -> Result<Answer, Fault>
         requires { seat < self.old.header.seats }
-        ensures answered { IsAnswered self.old seat step result self.new }
-        ensures told { IsTold self.old seat result self.new }
-        ensures header { self.new.header ≡ self.old.header }
-        ensures base { self.new.base ≡ self.old.base }
-        ensures fault { OnErr result (self.new ≡ self.old) }
-        ensures places { self.new.places ≡ places_behind self.old result }
-        ensures refused { IfOk result (λ answer. KeepsHolds self.old seat answer self.new) }
-        ensures owed { MakesOwed self.old seat step → IsOk result }
-        ensures grown { self.new.entries ≡ made_by result ++ self.old.entries }
-        ensures own { IfOk result (λ answer. IsOf seat answer) }
-        ensures names { IfOk result (λ answer. NamesBelow self.old.header.seats answer) }
-        ensures tidied { IfOk result (λ answer. HasTidied seat answer) }
+        ensures { IsStepped self.old seat step result self.new }
     {
         match step {
             Step::Acquire(mode, n) => self.acquire(seat, mode, n),
@@ -116,18 +91,7 @@ impl<H: Hooks + Drop> Core<H> {
     #[inline(never)]
     pub(super) fn step_in_full(&mut self, seat: u16, step: Step) -> Result<Answer, Fault>
         requires { seat < self.old.header.seats }
-        ensures answered { IsAnswered self.old seat step result self.new }
-        ensures told { IsTold self.old seat result self.new }
-        ensures header { self.new.header ≡ self.old.header }
-        ensures base { self.new.base ≡ self.old.base }
-        ensures fault { OnErr result (self.new ≡ self.old) }
-        ensures places { self.new.places ≡ places_behind self.old result }
-        ensures refused { IfOk result (λ answer. KeepsHolds self.old seat answer self.new) }
-        ensures owed { MakesOwed self.old seat step → IsOk result }
-        ensures grown { self.new.entries ≡ made_by result ++ self.old.entries }
-        ensures own { IfOk result (λ answer. IsOf seat answer) }
-        ensures names { IfOk result (λ answer. NamesBelow self.old.header.seats answer) }
-        ensures tidied { IfOk result (λ answer. HasTidied seat answer) }
+        ensures { IsStepped self.old seat step result self.new }
     {
         let _header = &self.header;
         match self.decide(seat, step) {

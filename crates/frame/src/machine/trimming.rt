@@ -6,11 +6,12 @@ ghost use Rattle.frame.specs.Core.{IsTrimFull, IsTrimmed, trimmed};
 
 use super::Core;
 use crate::hooks::Hooks;
+use crate::snapshot::write_base;
 use history::fault::Fault;
 
 impl<H: Hooks + Drop> Core<H> {
     /// Folds all entries into the base, and returns how many there were. Their places become free. It
-    /// allocates nothing.
+    /// allocates nothing, and looks at no entry: the base is written from the rest of the core.
     ///
     /// Only base and list change. Who holds, who waits and which room is owed stays.
     ///
@@ -23,6 +24,21 @@ impl<H: Hooks + Drop> Core<H> {
         ensures header { self.new.header ≡ self.old.header }
         ensures err { IfErr result (λ fault. (fault ≡ TrimFull) × (self.new ≡ self.old)) }
     {
-        self.history.fold()
+        if !self.history.may_fold() {
+            return Err(Fault::TrimFull);
+        }
+        let totals = self.balance();
+        let count = self.history.len();
+        let mut base = self.history.take_base();
+        write_base(
+            &mut base,
+            count,
+            &totals,
+            &self.queue,
+            &self.waiters,
+            &self.seats,
+        );
+        self.history.begin_on(base);
+        Ok(count)
     }
 }

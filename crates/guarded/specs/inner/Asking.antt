@@ -1,10 +1,6 @@
 -- What the calls of a lock ask of its monitor, and what they return.
 use Rattle.std.specs.Prelude.{ℕ, Result}
-use Rattle.history.specs.declared.entry.Entry.{Entry}
-use Rattle.history.specs.declared.fault.Fault.{Fault}
-use Rattle.monitor_fronts.specs.Holding.{gained}
-use Rattle.monitor_fronts.specs.Returned.{whether_of}
-use Rattle.permit.specs.Deed.{Deed}
+use Rattle.guarded.specs.Below.{Entry, Fault, gained, whether_of, Deed}
 use Rattle.guarded.specs.declared.asking.Asked.{Asked}
 use Rattle.guarded.specs.declared.asking.Asked.TheVariants as asked
 use Rattle.guarded.specs.Full.{Call}

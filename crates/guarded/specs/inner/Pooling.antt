@@ -1,9 +1,6 @@
 -- What the calls of a pool ask of its monitor, and what becomes of the items.
-use Rattle.std.specs.Prelude.{if◌then◌else◌, ℕ}
-use Rattle.std.specs.Prelude.{Bool, Result}
-use Rattle.history.specs.declared.fault.Fault.{Fault}
-use Rattle.monitor_fronts.specs.Returned.{is_done}
-use Rattle.permit.specs.Deed.{Deed}
+use Rattle.std.specs.Prelude.{if◌then◌else◌, ℕ, Bool, Result}
+use Rattle.guarded.specs.Below.{Fault, is_done, Deed}
 use Rattle.guarded.specs.declared.asking.PoolCall.{PoolCall}
 use Rattle.guarded.specs.declared.asking.PoolCall.TheVariants as asks
 use Rattle.guarded.specs.Full.{Call}

@@ -1,7 +1,6 @@
 -- What a base needs to take up an entry in the places that it has.
 use Rattle.std.specs.Prelude.{◌≡◌, ◌<◌, ◌≤◌, ◌+◌, ◌^◌, length}
-use Rattle.history.specs.declared.entry.Entry.{Entry}
-use Rattle.history.specs.declared.entry.Word.TheVariants.{Await}
+use Rattle.history.specs.Types.{Entry, Await}
 use Rattle.history.specs.Base.{Base, seat_of, sleepers_of}
 use Rattle.history.specs.NextBase.{next_base, seat_then}
 

@@ -1,11 +1,6 @@
 -- What the readers of a header's words return.
 use Rattle.std.specs.Prelude.{ℕ, List, [], ◌∷◌, Option, None, Some, codes, bytes_eq, nat_le, ◌==◌, ◌&&◌, if◌then◌else◌, ℤ, pos, neg_ℤ}
-use Rattle.history.specs.declared.header.Header.{Header}
-use Rattle.history.specs.declared.header.Object.{Object}
-use Rattle.history.specs.declared.header.Object.TheVariants.{Lock, ReadWrite, Semaphore, Latch}
-use Rattle.history.specs.declared.header.Policy.{Policy}
-use Rattle.history.specs.declared.header.Policy.TheVariants.{Fair, NonFair, Strict}
-use Rattle.history.specs.declared.limits.TheConstants.{LEAST_CAP, MOST_AMOUNT, MOST_CONDITIONS, MOST_SEATS}
+use Rattle.history.specs.Types.{Header, Object, Lock, ReadWrite, Semaphore, Latch, Policy, Fair, NonFair, Strict, LEAST_CAP, MOST_AMOUNT, MOST_CONDITIONS, MOST_SEATS}
 use Rattle.history.specs.Reading.{Words, ◌>>=◌, keyword_at, named_at, number_from, word_at}
 
 abbrev pub policy_at : Words → Option (Policy × Words)

@@ -20,6 +20,12 @@ AreFull zero (page ∷ pages) = (page ≡ []) × AreFull zero pages
 AreFull (suc n) [] = ⊥
 AreFull (suc n) (page ∷ pages) = (length page ≡ 1024) × AreFull n pages
 
+-- these pages, of which all but the first n count as empty: what they have was folded
+abbrev pub used : ℕ → List (List Entry) → List (List Entry)
+used n [] = []
+used zero (page ∷ pages) = [] ∷ used zero pages
+used (suc n) (page ∷ pages) = page ∷ used n pages
+
 -- The pages are kept in this way. While no page is at hand, there is no other page.
 pub record AreKept (others : List (List Entry)) (full : ℕ) (hand : List Entry) (room : ℕ) : Type 0 where
   pub full_first : AreFull full others

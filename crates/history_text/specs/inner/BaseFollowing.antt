@@ -1,9 +1,6 @@
 -- Lines of a base, each of which may follow those before it.
 use Rattle.std.specs.Prelude.{◌≡◌, Bool, true, false, All, List, [], ◌∷◌, length}
-use Rattle.history.specs.declared.header.Object.{Object}
-use Rattle.history.specs.declared.header.Object.TheVariants.{Lock, ReadWrite, Semaphore, Latch}
-use Rattle.history.specs.Base.{Base, nothing}
-use Rattle.history.specs.Object.{opening_count}
+use Rattle.history_text.specs.Below.{Object, Lock, ReadWrite, Semaphore, Latch, Base, nothing, opening_count}
 use Rattle.history_text.specs.declared.base_line.BaseLine.{BaseLine}
 use Rattle.history_text.specs.BaseRules.{MayFollow, BaseSums, with_sums}
 use Rattle.history_text.specs.BaseFollowing.{after_told}

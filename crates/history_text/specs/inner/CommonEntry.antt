@@ -1,10 +1,7 @@
 -- The most frequent lines of entries: those with amount 1.
 use Rattle.std.specs.Prelude.{◌≡◌, ℕ, List, [], ◌++◌, length, codes}
-use Rattle.history.specs.declared.entry.Entry.{Entry}
-use Rattle.history.specs.declared.entry.Word.{Word}
+use Rattle.history_text.specs.Below.{Entry, Word, IsWritten, entry_words, ended, line_of}
 use Rattle.history.specs.declared.entry.Word.TheVariants as word
-use Rattle.history.specs.EntryWords.{IsWritten, entry_words}
-use Rattle.history.specs.Text.{ended, line_of}
 
 -- the name of a word that only a mode and an amount follow
 abbrev pub asked_name : Word → List ℕ

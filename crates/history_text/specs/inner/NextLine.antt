@@ -1,8 +1,6 @@
 -- What the next line of a history text spells.
 use Rattle.std.specs.Prelude.{ℕ, List, [], Option, Result}
-use Rattle.history.specs.Base.{Base}
-use Rattle.history.specs.Entries.{HistoryView, or_opening}
-use Rattle.line_text.specs.declared.fault.ReadFault.{ReadFault}
+use Rattle.history_text.specs.Below.{Base, HistoryView, or_opening, ReadFault}
 use Rattle.line_text.specs.Reading as reading
 use Rattle.history_text.specs.declared.place.Head.{Head}
 use Rattle.history_text.specs.declared.place.Place.{Place}

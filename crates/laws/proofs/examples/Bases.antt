@@ -1,21 +1,7 @@
 -- Worked examples of bases: what entries leave when they are folded, and how steps go on after the fold.
 use Rattle.std.specs.Prelude.{◌≡◌, ℕ, ◌++◌, false, List, [], ◌∷◌, Result, pos, negsuc, refl}
-use Rattle.history.specs.declared.arrival.Arrival.{Arrival}
-use Rattle.history.specs.declared.base.SeatBase.{SeatBase}
-use Rattle.history.specs.declared.base.LinePlace.{LinePlace}
+use Rattle.laws.specs.Below.{Arrival, SeatBase, LinePlace, X, Fault, HistoryFull, Header, Fair, NonFair, Answer, Step, results, Base, based, folded, opening_base, free, calls, coming_back}
 use Rattle.history.specs.declared.entry.End.TheVariants as end
-use Rattle.history.specs.declared.entry.Mode.TheVariants.{X}
-use Rattle.history.specs.declared.fault.Fault.{Fault}
-use Rattle.history.specs.declared.fault.Fault.TheVariants.{HistoryFull}
-use Rattle.history.specs.declared.header.Header.{Header}
-use Rattle.history.specs.declared.header.Policy.TheVariants.{Fair, NonFair}
-use Rattle.history.specs.declared.step.Answer.{Answer}
-use Rattle.history.specs.declared.step.Step.{Step}
-use Rattle.history.specs.Answers.{results}
-use Rattle.history.specs.Base.{Base, based, folded, opening_base}
-use Rattle.history.specs.Counts.{free}
-use Rattle.history.specs.Legal.{calls}
-use Rattle.history.specs.Line.{coming_back}
 use Rattle.laws.proofs.Replies.{acquire, acquire_shared, await, comes_back, fault, gave, give, give_shared, got, interrupt, latch, lock, look, read_write, semaphore, signal, signalled, signals, ◌wakes◌}
 use Rattle.laws.proofs.examples.Pairs.{pairs}
 

@@ -1,7 +1,6 @@
 -- Worked examples of conditions.
 use Rattle.std.specs.Prelude.{◌≡◌, [], ◌∷◌, refl}
-use Rattle.history.specs.declared.fault.Fault.TheVariants.{HoldsRead, NoSuchCondition, NotOwner, OutOfPhase, WrongMode}
-use Rattle.history.specs.declared.header.Policy.TheVariants.{Fair, NonFair}
+use Rattle.laws.specs.Below.{HoldsRead, NoSuchCondition, NotOwner, OutOfPhase, WrongMode, Fair, NonFair}
 use Rattle.laws.proofs.Replies.{replies, lock, read_write, acquire, acquire_shared, try_shared, give, look, interrupt, await, signal, signal_all, interrupted, signalled, got, got_shared, try_got_shared, gave, refused, awaits, signals, lapses, comes_back, sleeps, fault, ◌wakes◌}
 
 -- An await gives up three holds, and its end restores them; the fourth give is not the owner's.

@@ -1,13 +1,8 @@
 -- A history that is legal, and the same without its release, which isn't.
 use Rattle.std.proofs.Common.{◌≡◌, List, [], ◌∷◌, refl}
 use Rattle.std.proofs.lemmas.Option.{none-some}
-use Rattle.history.specs.declared.entry.Entry.{Entry}
+use Rattle.laws.specs.Below.{Entry, Header, Fair, IsLegal, calls, line, opening}
 use Rattle.history.specs.declared.entry.Word.TheVariants as word
-use Rattle.history.specs.declared.header.Header.{Header}
-use Rattle.history.specs.declared.header.Policy.TheVariants.{Fair}
-use Rattle.history.specs.Legal.{IsLegal, calls}
-use Rattle.history.specs.Line.{line}
-use Rattle.history.specs.Start.{opening}
 use Rattle.history.proofs.Entering.{Known, known}
 use Rattle.laws.specs.OutOfTurn.{of}
 use Rattle.laws.proofs.Replies.{lock, acquire, give, look}

@@ -1,7 +1,6 @@
 -- Worked examples of locks.
 use Rattle.std.specs.Prelude.{◌≡◌, [], ◌∷◌, refl}
-use Rattle.history.specs.declared.fault.Fault.TheVariants.{HistoryFull}
-use Rattle.history.specs.declared.header.Policy.TheVariants.{Fair, NonFair, Strict}
+use Rattle.laws.specs.Below.{HistoryFull, Fair, NonFair, Strict}
 use Rattle.laws.proofs.Replies.{replies, lock, acquire, try, try_fair, give, look, expire, interrupt, timeout, interrupted, got, try_got, queued, granted, missed, gave, left, sleeps, fault, ◌wakes◌}
 
 -- A lock is taken and given back.

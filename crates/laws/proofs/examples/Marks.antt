@@ -1,14 +1,8 @@
 -- Worked examples of marks: a seat is marked when an entry names it or it lapses, until its step returns Sleep
 -- or it leaves the queue.
 use Rattle.std.specs.Prelude.{◌≡◌, ℕ, zero, suc, ◌++◌, Bool, if◌then◌else◌, List, [], ◌∷◌, pos, refl}
-use Rattle.history.specs.declared.header.Header.{Header}
-use Rattle.history.specs.declared.header.Policy.TheVariants.{Fair, NonFair}
-use Rattle.history.specs.declared.step.Step.{Step}
-use Rattle.history.specs.Answers.{results}
-use Rattle.history.specs.Base.{based, folded, opening_base}
-use Rattle.history.specs.Start.{opening}
+use Rattle.laws.specs.Below.{Header, Fair, NonFair, Step, results, based, folded, opening_base, opening, marks, unmarked}
 use Rattle.laws.proofs.Replies.{lock, read_write, semaphore, acquire, acquire_shared, await, expire, give, interrupt, look, signal}
-use Rattle.history.specs.Marks.{marks, unmarked}
 
 -- the marked seats, of so many
 abbrev those_marked : ℕ → (ℕ → Bool) → List ℕ

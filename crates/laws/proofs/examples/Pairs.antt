@@ -1,11 +1,6 @@
 -- Many pairs of an acquire and a give: as many entries as two for each, around 1,024.
 use Rattle.std.specs.Prelude.{◌≡◌, ℕ, zero, suc, List, [], ◌∷◌, length, refl}
-use Rattle.history.specs.declared.header.Header.{Header}
-use Rattle.history.specs.declared.header.Policy.TheVariants.{NonFair}
-use Rattle.history.specs.declared.step.Step.{Step}
-use Rattle.history.specs.Answers.{results}
-use Rattle.history.specs.Legal.{calls}
-use Rattle.history.specs.Start.{opening}
+use Rattle.laws.specs.Below.{Header, NonFair, Step, results, calls, opening}
 use Rattle.laws.proofs.Replies.{acquire, give, lock}
 
 abbrev pub pairs : ℕ → List (ℕ × Step)

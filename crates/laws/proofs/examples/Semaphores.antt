@@ -1,7 +1,6 @@
 -- Worked examples of semaphores.
 use Rattle.std.specs.Prelude.{◌≡◌, [], ◌∷◌, pos, negsuc, refl}
-use Rattle.history.specs.declared.fault.Fault.TheVariants.{BadAmount, TooManyPermits}
-use Rattle.history.specs.declared.header.Policy.TheVariants.{Fair, NonFair, Strict}
+use Rattle.laws.specs.Below.{BadAmount, TooManyPermits, Fair, NonFair, Strict}
 use Rattle.laws.proofs.Replies.{replies, permits, semaphore, acquire_shared, try_shared, try_fair_shared, give_shared, look, drain, got_shared, try_got_shared, queued_shared, granted_shared, missed_shared, gave_shared, refused_shared, drained, fault, ◌wakes◌}
 
 -- A semaphore made with fewer permits than none: three releases by one that holds nothing, and one acquire.

@@ -1,8 +1,6 @@
 -- What a step of the fast way leaves.
 use Rattle.std.specs.Prelude.{◌≡◌, Ok}
-use Rattle.history.specs.declared.step.Answer.TheVariants.{Recorded}
-use Rattle.history.specs.declared.step.Step.{Step}
-use Rattle.frame.specs.AtOnce.{entry_at_once}
+use Rattle.monitor.specs.Below.{Recorded, Step, entry_at_once}
 use Rattle.monitor.specs.Room.{IsStepIn}
 use Rattle.monitor.specs.Shown.{Shown}
 use Rattle.monitor.specs.declared.at_once.AtOnce.{AtOnce}

@@ -1,10 +1,6 @@
 -- What a step of the core is where it may make room.
 use Rattle.std.specs.Prelude.{◌≡◌, ◌≢◌, ◌⊎◌, ℕ, Result, Ok, Err, IsOk, Bool, true, false}
-use Rattle.frame.specs.Core.{CoreView, IsAnswered, IsTold, IsTrimmed, IsTrimFull, MakesOwed}
-use Rattle.history.specs.declared.fault.Fault.{Fault}
-use Rattle.history.specs.declared.fault.Fault.TheVariants.{HistoryFull, TrimFull}
-use Rattle.history.specs.declared.step.Answer.{Answer}
-use Rattle.history.specs.declared.step.Step.{Step}
+use Rattle.monitor.specs.Below.{CoreView, IsAnswered, IsTold, IsTrimmed, IsTrimFull, MakesOwed, Fault, HistoryFull, TrimFull, Answer, Step}
 use Rattle.monitor.specs.Lawful.{IsLawfulCore}
 use Rattle.monitor.specs.declared.room.WhenFull.{WhenFull}
 use Rattle.monitor.specs.declared.room.WhenFull.TheVariants.{Refuse, Trim}

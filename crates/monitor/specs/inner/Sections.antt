@@ -1,12 +1,6 @@
 -- A section of the lock: what the token of a pass took, and what is left once it is put back.
 use Rattle.std.specs.Prelude.{◌≡◌, ℕ, Result}
-use Rattle.frame.specs.Core.{CoreView}
-use Rattle.history.specs.declared.fault.Fault.{Fault}
-use Rattle.history.specs.declared.step.Answer.{Answer}
-use Rattle.history.specs.declared.step.Step.{Step}
-use Rattle.word_lock.specs.Point.{Before}
-use Rattle.word_lock.specs.Rule.{AllAgree}
-use Rattle.word_lock.specs.Ticket.{Ticket, after_lock}
+use Rattle.monitor.specs.Below.{CoreView, Fault, Answer, Step, Before, AllAgree, Ticket, after_lock}
 use Rattle.monitor.specs.Calling.{Called}
 use Rattle.monitor.specs.Lawful.{IsLawfulCore, point_of}
 use Rattle.monitor.specs.Room.{IsStepIn}

@@ -1,10 +1,6 @@
 -- What a step of a pass leaves.
 use Rattle.std.specs.Prelude.{ℕ, Option, None, Result, Ok, Err}
-use Rattle.history.specs.declared.entry.Entry.{Entry}
-use Rattle.history.specs.declared.fault.Fault.{Fault}
-use Rattle.history.specs.declared.fault.Fault.TheVariants.{OutOfPhase}
-use Rattle.history.specs.declared.step.Answer.{Answer}
-use Rattle.history.specs.declared.step.Answer.TheVariants.{Recorded, Sleep}
+use Rattle.monitor.specs.Below.{Entry, Fault, OutOfPhase, Answer, Recorded, Sleep}
 use Rattle.monitor.specs.declared.step.Now.{Now}
 use Rattle.monitor.specs.declared.step.Now.TheVariants.{Done}
 

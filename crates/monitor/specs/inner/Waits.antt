@@ -1,18 +1,9 @@
 -- How a wait goes on and ends, which only the contracts of private functions cite.
 use Rattle.std.specs.Prelude.{◌≡◌, ◌⊎◌, ℕ, true, ◌∷◌, IsSome, Result, Ok, Err}
-use Rattle.history.specs.declared.arrival.Arrival.{Arrival}
-use Rattle.history.specs.declared.entry.End.{End}
+use Rattle.monitor.specs.Below.{Arrival, End, Entry, Fault, Step, Look, Interrupt, ended, Deed, Point, lapsed, back_from, lapse_from}
 use Rattle.history.specs.declared.entry.End.TheVariants as end
-use Rattle.history.specs.declared.entry.Entry.{Entry}
 use Rattle.history.specs.declared.entry.Word.TheVariants as word
-use Rattle.history.specs.declared.fault.Fault.{Fault}
-use Rattle.history.specs.declared.step.Step.{Step}
-use Rattle.history.specs.declared.step.Step.TheVariants.{Look, Interrupt}
 use Rattle.history.specs.Start.{Sleep}
-use Rattle.history.specs.Steps.{ended}
-use Rattle.permit.specs.Deed.{Deed}
-use Rattle.history.specs.declared.point.Point.{Point}
-use Rattle.history.specs.Awaiting.{lapsed, back_from, lapse_from}
 use Rattle.monitor.specs.Shown.{Shown}
 use Rattle.monitor.specs.declared.waiting.Limits.{Limits}
 use Rattle.monitor.specs.declared.waiting.Stage.{Stage}

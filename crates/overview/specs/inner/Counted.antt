@@ -1,8 +1,7 @@
 -- What the tables of a summary represent.
 use Rattle.std.specs.Prelude.{◌≡◌, ℕ, ◌+◌, ◌*◌, ◌<◌, ◌≤◌, ◌^◌, List, length, slice_index}
 use Rattle.std.specs.List.{All}
-use Rattle.drawing.specs.declared.bar.Bar.{Bar}
-use Rattle.history.specs.declared.entry.Entry.{Entry}
+use Rattle.overview.specs.Below.{Bar, Entry, IsShort, AreRanks, ranks, View}
 use Rattle.overview.specs.declared.columns.Columns.{Columns}
 use Rattle.overview.specs.declared.counted.Counted.{Counted}
 use Rattle.overview.specs.declared.shares.Shares.{Shares}
@@ -11,9 +10,6 @@ use Rattle.overview.specs.Queue.{peaks}
 use Rattle.overview.specs.Refusals.{refusals}
 use Rattle.overview.specs.Shares.{share}
 use Rattle.overview.specs.Waits.{longest}
-use Rattle.picture.specs.Layout.{IsShort}
-use Rattle.picture.specs.Rows.{AreRanks, ranks}
-use Rattle.picture.specs.View.{View}
 
 -- a table of what each track does in each column
 pub record AreShares (c : Columns) (seats : ℕ) (bars : List Bar) (table : List ℕ) : Type 0 where

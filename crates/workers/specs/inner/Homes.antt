@@ -1,7 +1,6 @@
 -- The monitors and the seats of passes, in rows and in columns.
 use Rattle.std.specs.Prelude.{◌≡◌, ℕ, zero, suc, List, [], ◌∷◌, ◌++◌, map}
-use Rattle.monitor.specs.Shown.{Shown}
-use Rattle.word_lock.specs.Ticket.{LockId}
+use Rattle.workers.specs.Below.{Shown, LockId}
 
 -- the monitor and the seat of a pass
 abbrev pub home_of : Shown → LockId × ℕ

@@ -1,8 +1,6 @@
 -- The results of workers, one by one and added up.
 use Rattle.std.specs.Prelude.{◌≡◌, ◌≤◌, ◌<◌, ℕ, ◌+◌, ◌*◌, ◌⊎◌, Bool, List, [], ◌∷◌, Some, Result, Ok, Err, IfOk, map, slice_get}
-use Rattle.monitor.specs.Shown.{Shown}
-use Rattle.script.specs.Script.{WorkerView}
-use Rattle.script.specs.declared.limits.TheConstants.{MOST_CALLS, MOST_ROUNDS}
+use Rattle.workers.specs.Below.{Shown, WorkerView, MOST_CALLS, MOST_ROUNDS}
 use Rattle.workers.specs.declared.fault.RunFault.{RunFault}
 use Rattle.workers.specs.declared.fault.RunFault.TheVariants.{Memory, GateShut, NotStarted}
 use Rattle.workers.specs.declared.kept.Kept.{Kept}

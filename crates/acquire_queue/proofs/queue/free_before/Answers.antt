@@ -1,10 +1,9 @@
 use Rattle.std.proofs.Common.{◌≡◌, Some, IsSome, sym, ap, ◌∙◌, refl, subst, arith, length}
 use Rattle.std.proofs.lemmas.Option.{none-some, same_Some}
-use Rattle.node_arena.specs.declared.node.NumberedNode.{NumberedNode}
-use Rattle.node_arena.specs.NodeList.{StandApart, without_place}
+use Rattle.acquire_queue.specs.Below.{NumberedNode, StandApart, without_place}
 use Rattle.acquire_queue.specs.Line.{tidied}
-use Rattle.acquire_queue.proofs.Nodes.{find_node, found_under, at_found, unnot_true, unnot_false}
-use Rattle.acquire_queue.proofs.Tidying.{IsBefore, Freed, before_node, before_at, ends_tidied, freed, without_apart, number_still, once_still}
+use Rattle.acquire_queue.proofs.Nodes.{apart-filter, find_node, found_under, at_found, unnot_true, unnot_false}
+use Rattle.acquire_queue.proofs.Tidying.{IsBefore, Freed, before_node, before_at, ends_tidied, freed, number_still, once_still}
 use Rattle.acquire_queue.proofs.queue.free_before.Goals as goal
 use Rattle.acquire_queue.proofs.queue.free_before.Goals.{After-before-in-loop-before, After-remove}
 
@@ -23,7 +22,7 @@ removed : (c : After-remove) →
 removed c =
     let apart = c.loop-before.invariant.apart in
     let f = found (goal.at.loop-before-preserved c).After-before-in-loop-before in
-    let at = before_at _ f.k c.in-Some.before apart (sym f.is ∙ c.in-Some.is) in
+    let at = before_at _ f.found.k c.in-Some.before apart (sym f.is ∙ c.in-Some.is) in
     let r : c.remove.result ≡ Some c.in-Some.before.node = c.remove.ensures.found ∙ (at_found _ _ _ at).1 in
     (rw r at c.remove.ensures.nodes)
 
@@ -40,15 +39,16 @@ freed_now : (c : After-remove) →
     Freed c.args.seat c.in-Some.before.number.place c.loop-before.nodes.nodes
 freed_now c =
     let f = found (goal.at.loop-before-preserved c).After-before-in-loop-before in
-    freed c.args.seat f.node c.in-Some.before f.stays f.seat (unnot_false _ c.if-not-before.false)
-    c.loop-before.nodes.nodes f.k c.loop-before.invariant.apart f.at (sym f.is ∙ c.in-Some.is)
+    freed c.args.seat f.found.node c.in-Some.before f.found.stays f.found.seat
+    (unnot_false _ c.if-not-before.false) c.loop-before.nodes.nodes f.found.k c.loop-before.invariant.apart
+    f.found.here (sym f.is ∙ c.in-Some.is)
 
 pub loop-before-preserved : goal.loop-before-preserved
 loop-before-preserved c =
     let i = c.loop-before.invariant in
     record {
       tidied = ap (tidied c.args.seat) (removed c) ∙ (freed_now c).tidied ∙ i.tidied;
-      apart = subst StandApart (sym (removed c)) (without_apart _ _ i.apart);
+      apart = subst StandApart (sym (removed c)) (apart-filter _ _ i.apart);
       placed = c.remove.ensures.placed ∙ i.placed;
       places = c.remove.ensures.places ∙ i.places;
     }

@@ -1,7 +1,6 @@
 use Rattle.std.proofs.Common.{◌≡◌, Some, refl, sym, ap, ◌∙◌, arith}
-use Rattle.std.proofs.lemmas.Option.{none-some, same_Some}
-use Rattle.node_arena.specs.declared.node.NumberedNode.{NumberedNode}
-use Rattle.node_arena.specs.NodeList.{Nodes, without_place}
+use Rattle.std.proofs.lemmas.Bool.{cond-true, cond-false}
+use Rattle.acquire_queue.specs.Below.{Nodes, without_place}
 use Rattle.acquire_queue.proofs.Nodes.{swept_none, swept_one, swept_skip, swept_all, at_found}
 use Rattle.acquire_queue.proofs.queue.free_cancelled.Goals as goal
 use Rattle.acquire_queue.proofs.queue.free_cancelled.Goals.{in-Some+then-standing, in-Some+else-standing, in_default}
@@ -11,6 +10,8 @@ loop-place-init c = (swept_none _, refl, refl)
 
 pub loop-place-preserved : goal.loop-place-preserved
 loop-place-preserved c =
+    let i = c.loop-place.invariant in
+    let apart = c.limit-place-end.ensures.apart in
     elim c.match-at.branch [
       | in-Some+then-standing w ↦
           let at = sym c.at.ensures.at ∙ w.in-Some.is in
@@ -18,26 +19,23 @@ loop-place-preserved c =
           let r : w.remove.result ≡ Some w.in-Some.standing.node = w.remove.ensures.found ∙ found.1 in (
             ap (λ (n : Nodes). n.nodes) w.nodes-is ∙ (rw r at w.remove.ensures.nodes)
                 ∙ ap (λ p. without_place p c.loop-place.nodes.nodes) found.0
-                ∙ swept_one c.loop-place.place _ _ _ c.limit-place-end.ensures.apart c.loop-place.invariant.0
-                at w.if-standing.true,
-            ap (λ (n : Nodes). n.placed) w.nodes-is ∙ w.remove.ensures.placed ∙ c.loop-place.invariant.1,
-            ap (λ (n : Nodes). n.places) w.nodes-is ∙ w.remove.ensures.places ∙ c.loop-place.invariant.2,
+                ∙ sym (cond-true _ _ _ w.if-standing.true)
+                ∙ swept_one c.loop-place.place _ _ _ apart i.0 at,
+            ap (λ (n : Nodes). n.placed) w.nodes-is ∙ w.remove.ensures.placed ∙ i.1,
+            ap (λ (n : Nodes). n.places) w.nodes-is ∙ w.remove.ensures.places ∙ i.2,
           )
       | in-Some+else-standing w ↦
           let at = sym c.at.ensures.at ∙ w.in-Some.is in (
-            ap (λ (n : Nodes). n.nodes) w.nodes-is
-                ∙ swept_skip c.loop-place.place _ _ c.limit-place-end.ensures.apart c.loop-place.invariant.0
-                (λ x e. ap (λ (y : NumberedNode). y.node.cancelled) (same_Some _ _ (sym e ∙ at))
-                ∙ w.if-standing.false),
-            ap (λ (n : Nodes). n.placed) w.nodes-is ∙ c.loop-place.invariant.1,
-            ap (λ (n : Nodes). n.places) w.nodes-is ∙ c.loop-place.invariant.2,
+            ap (λ (n : Nodes). n.nodes) w.nodes-is ∙ sym (cond-false _ _ _ w.if-standing.false)
+                ∙ swept_one c.loop-place.place _ _ _ apart i.0 at,
+            ap (λ (n : Nodes). n.placed) w.nodes-is ∙ i.1,
+            ap (λ (n : Nodes). n.places) w.nodes-is ∙ i.2,
           )
       | in_default w ↦ (
         ap (λ (n : Nodes). n.nodes) w.nodes-is
-            ∙ swept_skip c.loop-place.place _ _ c.limit-place-end.ensures.apart c.loop-place.invariant.0
-            (λ x e. absurd (none-some x (sym w.in_default.is ∙ c.at.ensures.at ∙ e))),
-        ap (λ (n : Nodes). n.placed) w.nodes-is ∙ c.loop-place.invariant.1,
-        ap (λ (n : Nodes). n.places) w.nodes-is ∙ c.loop-place.invariant.2,
+            ∙ swept_skip c.loop-place.place _ _ i.0 (sym c.at.ensures.at ∙ w.in_default.is),
+        ap (λ (n : Nodes). n.placed) w.nodes-is ∙ i.1,
+        ap (λ (n : Nodes). n.places) w.nodes-is ∙ i.2,
       )
     ]
 

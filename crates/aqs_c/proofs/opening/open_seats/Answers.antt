@@ -1,6 +1,5 @@
-use Rattle.std.proofs.Common.{◌≡◌, [], ◌∷◌, ◌++◌, List, Box, Global, Some, Option, rules, sym, ap, ◌∙◌}
+use Rattle.std.proofs.Common.{◌≡◌, [], ◌∷◌, ◌++◌, List, Box, Global, Some, Option, rules, sym, ap, ◌∙◌, map}
 use Rattle.std.proofs.lemmas.List.Elements.{All-rest}
-use Rattle.std.specs.Prelude.{map}
 use Rattle.std.specs.Arc.{arc_value}
 use Rattle.monitor.specs.Shown.{Shown}
 use Rattle.aqs_c.specs.Opening.{idle}

@@ -1,5 +1,4 @@
-use Rattle.std.proofs.Common.{◌≡◌, ◌++◌, Some}
-use Rattle.std.specs.Prelude.{All, map}
+use Rattle.std.proofs.Common.{◌≡◌, ◌++◌, Some, All, map}
 use Rattle.std.specs.Arc.{arc_value}
 use Rattle.aqs_c.specs.Opening.{idle}
 use Rattle.aqs_c.proofs.opening.open_seats.Given as goal

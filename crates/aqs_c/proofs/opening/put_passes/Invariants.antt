@@ -1,5 +1,4 @@
-use Rattle.std.proofs.Common.{◌≡◌, ◌+◌, ◌≤◌, ◌++◌, Some, length, vec_len, vec_capacity}
-use Rattle.std.specs.Prelude.{map}
+use Rattle.std.proofs.Common.{◌≡◌, ◌+◌, ◌≤◌, ◌++◌, Some, length, vec_len, vec_capacity, map}
 use Rattle.aqs_c.proofs.opening.put_passes.Given as goal
 
 abbrev pub invariant-loop-seat : goal.invariant-loop-seat

@@ -1,6 +1,5 @@
 use Rattle.std.proofs.Common.{◌≡◌, get_or}
-use Rattle.history.specs.Base.{nothing}
-use Rattle.history.specs.Counts.{seat_with}
+use Rattle.audit.specs.Below.{nothing, seat_with}
 use Rattle.audit.proofs.holds.owner_of.Given as goal
 
 -- the owner among the seats passed

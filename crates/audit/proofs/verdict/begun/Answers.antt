@@ -1,7 +1,5 @@
 use Rattle.std.proofs.Common.{IfOk, [], Option, sym, subst}
-use Rattle.history.specs.Base.{Base, based}
-use Rattle.history.specs.Entries.{or_opening}
-use Rattle.history.specs.Start.{Start}
+use Rattle.audit.specs.Below.{Base, based, or_opening, Start}
 use Rattle.history.proofs.OpeningBase.{based_opening}
 use Rattle.audit.specs.Auditor.{HasJudged}
 use Rattle.audit.proofs.verdict.begun.Goals as goal

@@ -1,6 +1,5 @@
 use Rattle.std.proofs.Common.{◌<◌, ◌≤◌, List, arith, length, sym, subst, ◌∙◌}
-use Rattle.history.specs.declared.entry.Entry.{Entry}
-use Rattle.history.specs.Entries.{start_on}
+use Rattle.audit.specs.Below.{Entry, start_on}
 use Rattle.audit.specs.Auditor.{HasJudged}
 use Rattle.audit.specs.Verdict.{IsJudgement, front}
 use Rattle.audit.proofs.Fronts.{front_all, front_length, front_next, next_seat}

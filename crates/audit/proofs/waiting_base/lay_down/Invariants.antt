@@ -1,6 +1,5 @@
 use Rattle.std.proofs.Common.{◌≡◌, ◌<◌, ◌≤◌, ℕ, false, [], None}
-use Rattle.condition_queue.specs.Sleepers.{asleep_on, sleeper_of}
-use Rattle.history.specs.Sleepers.{has}
+use Rattle.audit.specs.Below.{asleep_on, sleeper_of, has}
 use Rattle.audit.proofs.waiting_base.lay_down.Given as goal
 use Rattle.history.specs.inner.BaseSleepers.{sleeping_seats}
 

@@ -1,8 +1,6 @@
 use Rattle.std.proofs.Common.{◌∙◌, ℕ, ap, sym, eqb, get_or, map, take, arith}
-use Rattle.history.specs.Sleepers.{has}
+use Rattle.audit.specs.Below.{has, asleep_on, Sleeper}
 use Rattle.std.proofs.lemmas.List.{map_more}
-use Rattle.condition_queue.specs.Sleepers.{asleep_on}
-use Rattle.history.specs.declared.base.Sleeper.{Sleeper}
 use Rattle.history.proofs.Times.{never_has}
 use Rattle.audit.proofs.BaseWaits.{apart_from, joined_on, not_before, stands_among}
 use Rattle.audit.proofs.waiting_base.lay_on.Goals as goal

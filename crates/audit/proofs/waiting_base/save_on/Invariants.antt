@@ -1,6 +1,5 @@
 use Rattle.std.proofs.Common.{◌≡◌, ℕ, drop, length, get_or}
-use Rattle.deciding.specs.Sleep.{sleep_of}
-use Rattle.history.specs.Base.{sleep_on}
+use Rattle.audit.specs.Below.{sleep_of, sleep_on}
 use Rattle.audit.specs.Waiting.{never_slept}
 use Rattle.audit.specs.inner.Waiting.{or_kept}
 use Rattle.audit.proofs.waiting_base.save_on.Given as goal

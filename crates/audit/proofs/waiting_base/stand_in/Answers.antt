@@ -1,11 +1,7 @@
 use Rattle.std.proofs.Common.{◌≡◌, ◌∙◌, ◌≤◌, ℕ, false, List, ap, get_or, map, take, subst, arith}
 use Rattle.std.proofs.lemmas.Simd.{map-map}
-use Rattle.history.specs.declared.arrival.Arrival.{Arrival}
-use Rattle.history.specs.declared.base.LinePlace.{LinePlace}
+use Rattle.audit.specs.Below.{Arrival, LinePlace, X, place_of, seats_of, times}
 use Rattle.history.specs.declared.entry.End.TheVariants as end
-use Rattle.history.specs.declared.entry.Mode.TheVariants.{X}
-use Rattle.history.specs.Line.{place_of}
-use Rattle.history.specs.Waiting.{seats_of, times}
 use Rattle.history.proofs.Times.{never_placed}
 use Rattle.audit.proofs.BaseWaits.{not_before}
 use Rattle.audit.proofs.waiting_base.stand_in.Goals as goal

@@ -1,8 +1,5 @@
 use Rattle.std.proofs.Common.{◌≡◌, ◌≤◌, ◌*◌, List, length}
-use Rattle.history.specs.declared.entry.Entry.{Entry}
-use Rattle.history.specs.Counts.{total}
-use Rattle.history.specs.Sleepers.{sleepers}
-use Rattle.history.specs.Start.{Start}
+use Rattle.deciding.specs.Below.{Entry, total, sleepers, Start}
 use Rattle.deciding.proofs.balance.all_asleep.Given as goal
 
 -- those who sleep on the conditions passed are summed

@@ -1,6 +1,5 @@
 use Rattle.std.proofs.Common.{◌≡◌, ◌<◌, ◌≤◌, ◌+◌, ℕ, suc, ap, sym, ◌∙◌, arith}
-use Rattle.history.specs.declared.header.Header.{Header}
-use Rattle.history.specs.Counts.{held, total}
+use Rattle.deciding.specs.Below.{Header, held, total}
 use Rattle.deciding.proofs.Bounds.{holds_few, most_at_once}
 use Rattle.deciding.proofs.balance.held_by_all.Goals as goal
 use Rattle.deciding.proofs.balance.held_by_all.Goals.{After-held-all}

@@ -1,7 +1,5 @@
 use Rattle.std.proofs.Common.{◌≡◌, ◌≤◌, ◌*◌, List}
-use Rattle.history.specs.declared.entry.Entry.{Entry}
-use Rattle.history.specs.Counts.{held, total}
-use Rattle.history.specs.Start.{Start}
+use Rattle.deciding.specs.Below.{Entry, held, total, Start}
 use Rattle.deciding.proofs.Bounds.{most_at_once}
 use Rattle.deciding.proofs.balance.held_by_all.Given as goal
 

@@ -1,6 +1,5 @@
 use Rattle.std.proofs.Common.{◌≡◌, ◌≤◌, ◌*◌, get_or}
-use Rattle.history.specs.Counts.{total}
-use Rattle.history.specs.GoodBase.{most_permits}
+use Rattle.deciding.specs.Below.{total, most_permits}
 use Rattle.deciding.proofs.tables.sum.Given as goal
 
 -- those passed are summed

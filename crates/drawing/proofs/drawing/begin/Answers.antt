@@ -1,7 +1,6 @@
 use Rattle.std.proofs.Common.{[], map, refl, ap, ◌∙◌, sym, arith}
 use Rattle.history.specs.declared.header.Header.{Header}
-use Rattle.drawing.specs.Levels.{tracks}
-use Rattle.drawing.specs.Stretches.{fresh, stretch}
+use Rattle.drawing.specs.Prelude.{tracks, fresh, stretch}
 use Rattle.drawing.proofs.StretchesFollow.{map_same, not_yet}
 use Rattle.drawing.proofs.drawing.begin.Goals as goal
 

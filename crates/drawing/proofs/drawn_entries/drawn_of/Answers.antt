@@ -1,10 +1,9 @@
-use Rattle.std.proofs.Common.{◌≡◌, ◌+◌, ◌<◌, ℕ, List, ◌∷◌, length, get_or, reverse, take, ap, ◌∙◌, sym, subst, arith}
-use Rattle.std.proofs.lemmas.List.{length-reverse, length-take-le, take_all, take_more}
+use Rattle.std.proofs.Common.{◌≡◌, ◌+◌, ◌<◌, ℕ, List, ◌∷◌, length, get_or, reverse, take, ap, ◌∙◌, sym, subst, arith, length-take-le, take_all}
+use Rattle.std.proofs.lemmas.List.{length-reverse, take_more}
 use Rattle.std.proofs.lemmas.Result.{IfOk-weaker}
 use Rattle.history.proofs.Lists.{reverse_push}
-use Rattle.history.specs.declared.entry.Entry.{Entry}
+use Rattle.drawing.specs.Below.{Entry, Header}
 use Rattle.std.specs.List.{All}
-use Rattle.history.specs.declared.header.Header.{Header}
 use Rattle.drawing.specs.Drawing.{HasDrawn}
 use Rattle.drawing.proofs.Begins.{begins}
 use Rattle.drawing.proofs.drawn_entries.drawn_of.Goals as goal

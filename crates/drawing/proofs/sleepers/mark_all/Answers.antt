@@ -1,5 +1,4 @@
-use Rattle.std.proofs.Common.{◌≡◌, ◌<◌, Bool, true, false, ◌||◌, cond, eqb, length, get_or, refl, ap, ◌∙◌, sym, arith}
-use Rattle.std.proofs.lemmas.List.{length-set}
+use Rattle.std.proofs.Common.{◌≡◌, ◌<◌, Bool, true, false, ◌||◌, cond, eqb, length, get_or, refl, ap, ◌∙◌, sym, arith, length-set}
 use Rattle.deciding.proofs.HoldsFollow.{at_set}
 use Rattle.drawing.proofs.Walks.{has_more}
 use Rattle.drawing.proofs.sleepers.mark_all.Goals as goal

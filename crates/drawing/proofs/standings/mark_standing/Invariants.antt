@@ -1,6 +1,5 @@
 use Rattle.std.proofs.Common.{◌≡◌, ℕ, ◌||◌, false, drop, length, map, get_or}
-use Rattle.history.specs.Line.{place_of}
-use Rattle.history.specs.Marks.{is_placed}
+use Rattle.drawing.specs.Below.{place_of, is_placed}
 use Rattle.drawing.proofs.standings.mark_standing.Given as goal
 
 -- those behind stand in line

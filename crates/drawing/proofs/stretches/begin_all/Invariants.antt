@@ -1,6 +1,5 @@
 use Rattle.std.proofs.Common.{◌≡◌, map}
-use Rattle.drawing.specs.Levels.{tracks_below}
-use Rattle.drawing.specs.Stretches.{fresh}
+use Rattle.drawing.specs.Prelude.{tracks_below, fresh}
 use Rattle.drawing.proofs.stretches.begin_all.Given as goal
 
 abbrev pub invariant-loop-seat : goal.invariant-loop-seat

@@ -1,6 +1,5 @@
 use Rattle.std.proofs.Common.{◌≡◌, ◌++◌, map}
-use Rattle.drawing.specs.Levels.{asleep_tracks}
-use Rattle.drawing.specs.Stretches.{fresh}
+use Rattle.drawing.specs.Prelude.{asleep_tracks, fresh}
 use Rattle.drawing.proofs.stretches.begin_seat.Given as goal
 
 abbrev pub invariant-loop-condition : goal.invariant-loop-condition

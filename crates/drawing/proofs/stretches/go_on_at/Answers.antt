@@ -1,11 +1,9 @@
-use Rattle.std.proofs.Common.{◌≡◌, ◌≢◌, ⊎_elim, ℕ, ◌+◌, ◌<◌, ◌≤◌, List, [], eqb, true, get_or, length, refl, ap, arith}
+use Rattle.std.proofs.Common.{◌≡◌, ◌≢◌, ⊎_elim, ℕ, ◌+◌, ◌<◌, ◌≤◌, List, [], eqb, true, get_or, length, refl, ap, arith, eq-eqb}
 use Rattle.std.specs.List.Sorted.{IsNonDecreasing}
-use Rattle.std.proofs.lemmas.Bool.{cases_lt, eq-eqb}
-use Rattle.history.specs.declared.entry.Entry.{Entry}
-use Rattle.history.specs.Start.{Start}
-use Rattle.drawing.specs.declared.bar.Bar.{Bar}
+use Rattle.std.proofs.lemmas.Bool.{cases_lt}
+use Rattle.drawing.specs.Below.{Entry, Start}
+use Rattle.drawing.specs.Prelude.{Bar, Exclusive}
 use Rattle.drawing.specs.declared.bar.Stretch.{Stretch}
-use Rattle.drawing.specs.declared.kind.Kind.TheVariants.{Exclusive}
 use Rattle.drawing.specs.inner.Places.{StayBeside}
 use Rattle.drawing.specs.inner.Stretches.{ending, going_on, level_now}
 use Rattle.drawing.proofs.Walks.{IsWalked, passes_to, reads, walked_all, walks}

@@ -1,6 +1,5 @@
 use Rattle.std.proofs.Common.{List}
-use Rattle.history.specs.declared.entry.Entry.{Entry}
-use Rattle.history.specs.Start.{Start}
+use Rattle.drawing.specs.Below.{Entry, Start}
 use Rattle.drawing.specs.Standings.{AreStanding}
 use Rattle.drawing.specs.inner.Stretches.{ending, going_on}
 use Rattle.drawing.proofs.Walks.{IsWalked}

@@ -1,6 +1,5 @@
 use Rattle.std.proofs.Common.{◌≡◌, ℕ, ◌+◌, ◌-◌, List, ◌++◌, drop, length, take, ap, sym, ◌∙◌, subst, arith}
-use Rattle.driver.specs.Answers.{all_of}
-use Rattle.driver.specs.LineWriter.{IsGathered}
+use Rattle.driver.specs.Prelude.{all_of, IsGathered}
 use Rattle.history_text.specs.Pieces.{entry_lines}
 use Rattle.driver.proofs.Gathering.{gathered_more, gathers_failed}
 use Rattle.driver.proofs.Telling.{entry_more, front_of_all, lines_longer}

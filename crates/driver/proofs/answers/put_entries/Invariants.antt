@@ -1,6 +1,5 @@
 use Rattle.std.proofs.Common.{◌≡◌, ◌≤◌, ◌-◌, false, drop, take}
-use Rattle.driver.specs.Answers.{all_of}
-use Rattle.driver.specs.LineWriter.{IsGathered}
+use Rattle.driver.specs.Prelude.{all_of, IsGathered}
 use Rattle.history_text.specs.Pieces.{entry_lines}
 use Rattle.driver.proofs.answers.put_entries.Given as goal
 

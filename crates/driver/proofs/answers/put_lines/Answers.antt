@@ -1,8 +1,5 @@
 use Rattle.std.proofs.Common.{sym, subst}
-use Rattle.driver.specs.declared.remark.Remark.{Remark}
-use Rattle.driver.specs.declared.remark.Said.TheVariants.{IsNamed}
-use Rattle.driver.specs.Answers.{all_of}
-use Rattle.driver.specs.LineWriter.{Gathers}
+use Rattle.driver.specs.Prelude.{Remark, IsNamed, all_of, Gathers}
 use Rattle.driver.proofs.Gathering.{gathered_more, gathers_failed}
 use Rattle.driver.proofs.Telling.{front_of_all, gathers_more, remark_further, remark_last, remark_next}
 use Rattle.streams.proofs.Written.{not_true}

@@ -1,7 +1,5 @@
 use Rattle.std.proofs.Common.{◌≡◌, ◌++◌, List, ℕ, false, drop}
-use Rattle.driver.specs.Answers.{all_of}
-use Rattle.driver.specs.LineWriter.{IsGathered}
-use Rattle.driver.specs.Remarks.{told_lines}
+use Rattle.driver.specs.Prelude.{all_of, IsGathered, told_lines}
 use Rattle.driver.proofs.answers.put_lines.Given as goal
 
 abbrev pub invariant-loop-remark : goal.invariant-loop-remark

@@ -1,7 +1,5 @@
 use Rattle.std.proofs.Common.{◌≡◌, ◌∙◌, ap, arith, sym}
-use Rattle.streams.specs.declared.stream_fault.StreamFault.TheVariants.{Memory}
-use Rattle.history.specs.declared.header.Header.{Header}
-use Rattle.history.specs.Base.{Base}
+use Rattle.driver.specs.Below.{Memory, Header, Base}
 use Rattle.line_text.proofs.Faults.{err_is}
 use Rattle.driver.specs.AuditJson.{audit_in}
 use Rattle.driver.specs.HistoryReader.{base_held}

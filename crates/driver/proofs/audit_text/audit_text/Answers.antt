@@ -1,12 +1,6 @@
 use Rattle.std.proofs.Common.{◌≡◌, ◌+◌, ℕ, List, length, refl, ◌∙◌}
 use Rattle.std.proofs.lemmas.Result.{IfOk-weaker}
-use Rattle.audit.specs.declared.sums.Totals.{Totals}
-use Rattle.audit.specs.declared.verdict.Verdict.TheVariants.{Legal}
-use Rattle.audit.specs.Totals.{totals_of}
-use Rattle.history.specs.declared.entry.Entry.{Entry}
-use Rattle.history.specs.declared.header.Object.{Object}
-use Rattle.history.specs.Base.{Base, based}
-use Rattle.history.specs.Legal.{calls}
+use Rattle.driver.specs.Below.{Totals, Legal, totals_of, Entry, Object, Base, based, calls}
 use Rattle.driver.specs.AuditText.{audit_text, legal_text}
 use Rattle.driver.proofs.audit_text.audit_text.Goals as goal
 

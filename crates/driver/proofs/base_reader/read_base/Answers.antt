@@ -1,12 +1,8 @@
 use Rattle.std.proofs.Common.{◌∙◌, [], map, ap, subst, sym}
-use Rattle.history_text.specs.declared.place.Place.{Place}
-use Rattle.history_text.specs.NextLine.{LinesRead}
-use Rattle.history_text.specs.TextLines.{Based}
-use Rattle.history_text.specs.ToldBases.{IsToldBase}
+use Rattle.driver.specs.Below.{Place, LinesRead, Based, IsToldBase, history_form}
 use Rattle.history_text.proofs.BaseTextRead.{place_behind}
 use Rattle.driver.specs.BaseReader.{EntriesBehind, IsPlacedBehind}
 use Rattle.driver.specs.inner.BaseReader.{lines_known}
-use Rattle.history_text.specs.HistoryText.{history_form}
 use Rattle.driver.proofs.BaseAhead.{base_placed, base_read}
 use Rattle.driver.proofs.ReadingAhead.{goes_on, kept}
 use Rattle.driver.proofs.base_reader.read_base.Goals as goal

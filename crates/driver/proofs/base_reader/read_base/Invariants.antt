@@ -1,7 +1,5 @@
 use Rattle.std.proofs.Common.{◌≡◌, ◌≤◌, ◌-◌, ℕ, List, Option, false, length, map}
-use Rattle.history_text.specs.declared.base_under_way.TheConstants.{MOST_LINES}
-use Rattle.history_text.specs.TextLines.{Based}
-use Rattle.streams.specs.Window.{room}
+use Rattle.driver.specs.Below.{MOST_LINES, Based, room}
 use Rattle.driver.specs.inner.BaseReader.{HeadRead, AreLinesRead}
 use Rattle.driver.proofs.base_reader.read_base.Given as goal
 

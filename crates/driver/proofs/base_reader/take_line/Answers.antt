@@ -1,10 +1,6 @@
-use Rattle.std.proofs.Common.{Err, List, [], ◌∷◌, length, ap, arith}
-use Rattle.std.proofs.lemmas.List.{length-append}
-use Rattle.history_text.specs.declared.base_line.BaseLine.{BaseLine}
-use Rattle.line_text.specs.declared.fault.TextFault.{TextFault}
+use Rattle.std.proofs.Common.{Err, List, [], ◌∷◌, length, ap, arith, length-append}
+use Rattle.driver.specs.Below.{BaseLine, TextFault, StreamFault, Text}
 use Rattle.line_text.proofs.Faults.{err_is}
-use Rattle.streams.specs.declared.stream_fault.StreamFault.{StreamFault}
-use Rattle.streams.specs.declared.stream_fault.StreamFault.TheVariants.{Text}
 use Rattle.driver.proofs.BaseAhead.{line_failed, line_taken, line_unread, short_kept}
 use Rattle.driver.proofs.base_reader.take_line.Goals as goal
 

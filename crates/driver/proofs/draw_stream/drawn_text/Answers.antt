@@ -1,8 +1,6 @@
-use Rattle.std.proofs.Common.{◌≡◌, ◌∙◌, ℕ, List, ap, subst, sym, take}
-use Rattle.std.specs.Prelude.{IfOk}
+use Rattle.std.proofs.Common.{◌≡◌, ◌∙◌, ℕ, List, ap, subst, sym, take, IfOk}
 use Rattle.picture.specs.View.{view_of}
-use Rattle.driver.specs.Choice.{end_of, is_summed}
-use Rattle.driver.specs.HistoryReader.{base_held}
+use Rattle.driver.specs.Prelude.{end_of, is_summed, base_held}
 use Rattle.driver.proofs.Picturing.{text_chosen, text_summed}
 use Rattle.driver.proofs.draw_stream.drawn_text.Goals as goal
 

@@ -2,9 +2,7 @@ use Rattle.std.proofs.Common.{◌<◌, ◌^◌, sym, subst, length, reverse, ari
 use Rattle.std.specs.List.{All}
 use Rattle.std.proofs.lemmas.List.{length-reverse}
 use Rattle.drawing.proofs.Begins.{begins}
-use Rattle.history.specs.Header.{IsInRange}
-use Rattle.picture.specs.Layout.{IsShort}
-use Rattle.picture.specs.Marks.{IsEarly}
+use Rattle.driver.specs.Below.{IsInRange, IsShort, IsEarly}
 use Rattle.driver.proofs.Picturing.{all_early, all_short, front_short}
 use Rattle.driver.proofs.draw_stream.picture_of.Goals as goal
 

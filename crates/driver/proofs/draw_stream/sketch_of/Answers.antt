@@ -2,9 +2,7 @@ use Rattle.std.proofs.Common.{◌∙◌, ap, arith, length, reverse, take}
 use Rattle.std.proofs.lemmas.List.{length-reverse}
 use Rattle.streams.specs.declared.stream_fault.StreamFault.TheVariants.{Memory}
 use Rattle.line_text.proofs.Faults.{err_is}
-use Rattle.driver.specs.HistoryReader.{base_held}
-use Rattle.driver.specs.Choice.{kept_of}
-use Rattle.driver.specs.DrawStream.{drawn_text}
+use Rattle.driver.specs.Prelude.{base_held, kept_of, drawn_text}
 use Rattle.driver.proofs.Audits.{is_verdict_text}
 use Rattle.driver.proofs.Judging.{base_kept}
 use Rattle.driver.proofs.Picturing.{same_text}

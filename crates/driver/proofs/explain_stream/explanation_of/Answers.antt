@@ -1,14 +1,9 @@
 use Rattle.std.proofs.Common.{◌≡◌, ℕ, ◌<◌, arith, ap, ◌∙◌, length, reverse, subst, sym, take}
 use Rattle.std.specs.List.{All}
-use Rattle.streams.specs.declared.stream_fault.StreamFault.TheVariants.{Memory}
+use Rattle.driver.specs.Below.{Memory, Verdict, IsJudgement, verdict_of, Header, Base, based}
 use Rattle.line_text.proofs.Faults.{err_is}
-use Rattle.audit.specs.declared.verdict.Verdict.{Verdict}
-use Rattle.audit.specs.Verdict.{IsJudgement, verdict_of}
-use Rattle.history.specs.declared.header.Header.{Header}
-use Rattle.history.specs.Base.{Base, based}
-use Rattle.driver.specs.HistoryReader.{base_held}
+use Rattle.driver.specs.Prelude.{base_held, explained_text, legal_count, place_before, text_of}
 use Rattle.driver.specs.inner.ExplainStream.{IsLegalNext, kept_for}
-use Rattle.driver.specs.ExplainStream.{explained_text, legal_count, place_before, text_of}
 use Rattle.driver.proofs.Audits.{is_verdict_text}
 use Rattle.driver.proofs.Explained.{PlaceKnown, place_known}
 use Rattle.driver.proofs.Judging.{base_kept}

@@ -1,8 +1,5 @@
-use Rattle.std.proofs.Common.{rules, ◌≡◌, ◌+◌, length, reverse, true}
-use Rattle.std.specs.Prelude.{IfOk, IfSome, IsSomeAnd, is_some}
-use Rattle.explaining.specs.State.{fits_fold}
-use Rattle.history.specs.Base.{folded}
-use Rattle.history.specs.GoodBase.{IsGood}
+use Rattle.std.proofs.Common.{rules, ◌≡◌, ◌+◌, length, reverse, true, IfOk, IfSome, IsSomeAnd, is_some}
+use Rattle.driver.specs.Below.{fits_fold, folded, IsGood}
 use Rattle.driver.specs.DrawStream.{wrong_of}
 use Rattle.driver.proofs.Explained.{if_ok, state_next, text_there}
 use Rattle.driver.proofs.explain_stream.text_of.Goals as goal

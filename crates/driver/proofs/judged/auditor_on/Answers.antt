@@ -1,7 +1,6 @@
 use Rattle.std.proofs.Common.{IfOk, [], sym, subst}
-use Rattle.history.specs.Start.{Start}
+use Rattle.driver.specs.Below.{Start, HasJudged}
 use Rattle.history.proofs.OpeningBase.{based_opening}
-use Rattle.audit.specs.Auditor.{HasJudged}
 use Rattle.driver.proofs.judged.auditor_on.Goals as goal
 
 pub returns-in-None-clause-judged : goal.returns-in-None-clause-judged

@@ -1,19 +1,13 @@
-use Rattle.std.proofs.Common.{Option, [], refl, ap, ◌∙◌, sym, subst, ◌<◌, ◌-◌, arith, ◌∷◌, ◌++◌, reverse}
+use Rattle.std.proofs.Common.{Option, [], refl, ap, ◌∙◌, sym, subst, ◌<◌, ◌-◌, arith, ◌∷◌, ◌++◌, reverse, take_all}
 use Rattle.std.specs.List.{All}
 use Rattle.std.specs.Option.{option_copied}
-use Rattle.std.proofs.lemmas.List.{take_all}
-use Rattle.audit.specs.Auditor.{HasJudged}
-use Rattle.history.specs.declared.entry.Entry.{Entry}
-use Rattle.history.specs.declared.header.Header.{Header}
-use Rattle.history.specs.Base.{Base, based}
-use Rattle.history.specs.Entries.{or_opening}
+use Rattle.driver.specs.Below.{HasJudged, Entry, Header, Base, based, or_opening, head_of}
 use Rattle.driver.specs.HistoryReader.{base_held}
 use Rattle.driver.specs.inner.Judged.{kept_with}
 use Rattle.line_text.proofs.Faults.{err_is}
 use Rattle.driver.proofs.EntriesAhead.{entries_memory, entries_memory_at_end, entries_no_further}
 use Rattle.driver.proofs.Judging.{all_judged, judging_on}
 use Rattle.driver.proofs.ReadingAhead.{goes_on}
-use Rattle.history_text.specs.HistoryLines.{head_of}
 use Rattle.driver.proofs.judged.judged_of.Goals as goal
 
 pub loop-kept-init : goal.loop-kept-init

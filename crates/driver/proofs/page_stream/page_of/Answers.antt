@@ -1,19 +1,9 @@
-use Rattle.std.proofs.Common.{◌≡◌, ◌<◌, ◌≤◌, List, arith, ap, ◌∙◌, length, reverse, subst, sym, take}
+use Rattle.std.proofs.Common.{◌≡◌, ◌<◌, ◌≤◌, List, arith, ap, ◌∙◌, length, reverse, subst, sym, take, length-take}
 use Rattle.std.specs.List.{All}
-use Rattle.std.proofs.lemmas.List.{length-reverse, length-take}
-use Rattle.streams.specs.declared.stream_fault.StreamFault.TheVariants.{Memory}
+use Rattle.std.proofs.lemmas.List.{length-reverse}
+use Rattle.driver.specs.Below.{Memory, IsJudgement, Entry, Header, Base, based, IsInRange, CanFold, View, view_of}
 use Rattle.line_text.proofs.Faults.{err_is}
-use Rattle.audit.specs.Verdict.{IsJudgement}
-use Rattle.history.specs.declared.entry.Entry.{Entry}
-use Rattle.history.specs.declared.header.Header.{Header}
-use Rattle.history.specs.Base.{Base, based}
-use Rattle.history.specs.Header.{IsInRange}
-use Rattle.history.specs.Point.{CanFold}
-use Rattle.picture.specs.View.{View, view_of}
-use Rattle.driver.specs.Choice.{end_of, first_of}
-use Rattle.driver.specs.DrawStream.{legal_front, pictured}
-use Rattle.driver.specs.HistoryReader.{base_held}
-use Rattle.driver.specs.PageStream.{paged_text}
+use Rattle.driver.specs.Prelude.{end_of, first_of, legal_front, pictured, base_held, paged_text}
 use Rattle.driver.proofs.Audits.{is_verdict_text}
 use Rattle.driver.proofs.Judging.{base_kept}
 use Rattle.driver.proofs.Paging.{can_fold_shown, same_page, shown_few}

@@ -1,7 +1,6 @@
 use Rattle.std.proofs.Common.{[], ap, sym, ◌∙◌}
-use Rattle.steps.specs.StepsText.{steps_form, steps_so_far}
+use Rattle.driver.specs.Below.{steps_form, steps_so_far, StepsHeader}
 use Rattle.driver.proofs.ReadingAhead.{no_further}
-use Rattle.steps.specs.declared.header.StepsHeader.{StepsHeader}
 use Rattle.driver.proofs.replay_stream.answers_after_header.Goals as goal
 
 pub answered-requires-clause-hooks : goal.answered-requires-clause-hooks

@@ -1,14 +1,6 @@
 use Rattle.std.proofs.Common.{◌≡◌, ℕ, List, ap, ◌∙◌, length, sym}
-use Rattle.audit.specs.declared.verdict.Verdict.{Verdict}
-use Rattle.audit.specs.Verdict.{front}
-use Rattle.history.specs.declared.entry.Entry.{Entry}
-use Rattle.history.specs.Base.{based}
-use Rattle.summing.specs.Judging.{legal_front}
-use Rattle.summing.specs.Summary.{summary}
-use Rattle.driver.specs.DrawStream.{wrong_of}
-use Rattle.driver.specs.ExplainStream.{legal_count}
-use Rattle.driver.specs.HistoryReader.{base_held}
-use Rattle.driver.specs.SummaryStream.{summarised_in, summary_in}
+use Rattle.driver.specs.Below.{Verdict, front, Entry, based, legal_front, summary}
+use Rattle.driver.specs.Prelude.{wrong_of, legal_count, base_held, summarised_in, summary_in}
 use Rattle.driver.proofs.SummingUp.{front_found, told_found}
 use Rattle.driver.proofs.summary_stream.summed_up.Goals as goal
 

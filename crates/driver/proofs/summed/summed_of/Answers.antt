@@ -1,9 +1,6 @@
 use Rattle.std.proofs.Common.{Option, [], refl, subst, arith, reverse}
 use Rattle.std.specs.Option.{option_copied}
-use Rattle.history.specs.declared.header.Header.{Header}
-use Rattle.history.specs.Base.{Base, based}
-use Rattle.history.specs.Entries.{or_opening}
-use Rattle.history_text.specs.HistoryLines.{head_of}
+use Rattle.driver.specs.Below.{Header, Base, based, or_opening, head_of}
 use Rattle.line_text.proofs.Faults.{err_is}
 use Rattle.summing.specs.Judging.{HasJudged}
 use Rattle.driver.specs.HistoryReader.{base_held}

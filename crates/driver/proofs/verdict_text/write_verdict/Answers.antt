@@ -1,8 +1,6 @@
 use Rattle.std.proofs.Common.{ap, refl}
 use Rattle.std.specs.Io.KnownBytes.{Appends}
-use Rattle.audit.specs.declared.verdict.Verdict.{Verdict}
-use Rattle.history_text.specs.HistoryText.{history_form}
-use Rattle.streams.specs.Writing.{AppendsFront}
+use Rattle.driver.specs.Below.{Verdict, history_form, AppendsFront}
 use Rattle.driver.specs.AuditStream.{IsToldOf}
 use Rattle.driver.proofs.Audits.{some_verdict, rewritten}
 use Rattle.driver.proofs.Ending.{fault_out, fault_streams}

@@ -1,5 +1,4 @@
-use Rattle.std.proofs.Common.{◌≡◌, ℕ, ◌++◌, subst}
-use Rattle.std.specs.Prelude.{OnOk}
+use Rattle.std.proofs.Common.{◌≡◌, ℕ, ◌++◌, subst, OnOk}
 use Rattle.explain_text.specs.Sentences.{behind_words}
 use Rattle.explain_text.proofs.sentence.put_behind.Goals as goal
 

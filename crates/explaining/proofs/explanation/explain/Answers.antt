@@ -1,7 +1,5 @@
 use Rattle.std.proofs.Common.{[], ◌∷◌, ap, ◌∙◌, refl}
-use Rattle.history.specs.Base.{based}
-use Rattle.history.specs.Line.{first_of, line}
-use Rattle.history.specs.Naming.{ready}
+use Rattle.explaining.specs.Below.{based, first_of, line, ready}
 use Rattle.explaining.specs.Naming.{naming_by}
 use Rattle.explaining.specs.Ways.{ways_of}
 use Rattle.explaining.proofs.Listed.{any_is_it}

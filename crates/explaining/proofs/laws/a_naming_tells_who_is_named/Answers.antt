@@ -1,7 +1,5 @@
 use Rattle.std.proofs.Common.{◌∷◌}
-use Rattle.history.specs.Counts.{counts}
-use Rattle.history.specs.Line.{first_of, line}
-use Rattle.history.specs.Naming.{ready}
+use Rattle.explaining.specs.Below.{counts, first_of, line, ready}
 use Rattle.explaining.proofs.NamedSeats.{told_is_named}
 use Rattle.explaining.proofs.laws.a_naming_tells_who_is_named.Goals as goal
 

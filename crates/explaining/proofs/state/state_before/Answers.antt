@@ -1,8 +1,5 @@
-use Rattle.std.proofs.Common.{◌≡◌, Option, Some, List, ap, ◌∙◌, sym, subst, reverse, length}
-use Rattle.std.specs.Prelude.{IsSomeAnd}
-use Rattle.history.specs.declared.entry.Entry.{Entry}
-use Rattle.history.specs.Base.{Base}
-use Rattle.history.specs.Fold.{MayFold}
+use Rattle.std.proofs.Common.{◌≡◌, Option, Some, List, ap, ◌∙◌, sym, subst, reverse, length, IsSomeAnd}
+use Rattle.explaining.specs.Below.{Entry, Base, MayFold}
 use Rattle.explaining.proofs.Modest.{is_modest}
 use Rattle.explaining.proofs.state.state_before.Goals as goal
 

@@ -1,7 +1,6 @@
 use Rattle.std.proofs.Common.{◌≡◌, List, take}
 use Rattle.std.specs.List.{flat_map}
-use Rattle.history.specs.Start.{Start}
-use Rattle.history.specs.declared.entry.Entry.{Entry}
+use Rattle.explaining.specs.Below.{Start, Entry}
 use Rattle.explaining.specs.Ways.{way_of}
 use Rattle.explaining.proofs.way.ways_of.Given as goal
 

@@ -1,5 +1,4 @@
-use Rattle.std.proofs.Common.{[], ◌∷◌}
-use Rattle.std.specs.Prelude.{codes}
+use Rattle.std.proofs.Common.{[], ◌∷◌, codes}
 use Rattle.fault_places.specs.LineReport.{named}
 use Rattle.fault_places.proofs.Parts.{three_parts}
 use Rattle.fault_places.proofs.in_script.put_call_place.Goals as goal

@@ -1,6 +1,5 @@
 use Rattle.std.proofs.Common.{Ok, Err, refl, sym, subst}
-use Rattle.frame.specs.Acts.{IsDone}
-use Rattle.frame.specs.declared.acts.Done.TheVariants.{Answered}
+use Rattle.frame.specs.Prelude.{IsDone, Answered}
 use Rattle.frame.proofs.acts.perform.Goals as goal
 
 pub returns-in-Ok-clause-done : goal.returns-in-Ok-clause-done

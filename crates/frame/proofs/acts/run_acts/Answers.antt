@@ -1,10 +1,7 @@
-use Rattle.std.proofs.Common.{◌≡◌, ◌+◌, ◌∷◌, ◌++◌, [], take, get_or, ◌∙◌, arith}
-use Rattle.std.proofs.lemmas.List.{take_more, take_all}
-use Rattle.frame.specs.declared.acts.Act.{Act}
-use Rattle.frame.specs.declared.acts.Act.TheVariants.{Do}
-use Rattle.history.specs.declared.entry.Mode.TheVariants.{X}
-use Rattle.history.specs.declared.step.Step.TheVariants.{Acquire}
-use Rattle.frame.specs.Acts.{AreDone}
+use Rattle.std.proofs.Common.{◌≡◌, ◌+◌, ◌∷◌, ◌++◌, [], take, get_or, ◌∙◌, arith, take_all}
+use Rattle.std.proofs.lemmas.List.{take_more}
+use Rattle.frame.specs.Prelude.{Act, Do, AreDone}
+use Rattle.frame.specs.Below.{X, Acquire}
 use Rattle.frame.proofs.Acting.{all_done, done_more}
 use Rattle.frame.proofs.acts.run_acts.Goals as goal
 

@@ -1,8 +1,6 @@
-use Rattle.std.proofs.Common.{◌≡◌, ℕ, ◌+◌, ◌∷◌, ◌++◌, [], take, get_or, ◌∙◌, arith}
-use Rattle.std.proofs.lemmas.List.{take_more, take_all}
-use Rattle.history.specs.declared.entry.Mode.TheVariants.{X}
-use Rattle.history.specs.declared.step.Step.{Step}
-use Rattle.history.specs.declared.step.Step.TheVariants.{Acquire}
+use Rattle.std.proofs.Common.{◌≡◌, ℕ, ◌+◌, ◌∷◌, ◌++◌, [], take, get_or, ◌∙◌, arith, take_all}
+use Rattle.std.proofs.lemmas.List.{take_more}
+use Rattle.frame.specs.Below.{X, Step, Acquire}
 use Rattle.frame.specs.Runs.{AreAnswered}
 use Rattle.frame.proofs.Runs.{answered_more, all_results}
 use Rattle.frame.proofs.run.run.Goals as goal

@@ -1,6 +1,5 @@
-use Rattle.std.specs.Prelude.{nat_abs}
 use mir.Syntax.{w64}
-use Rattle.std.proofs.Common.{◌≡◌, ℕ, ◌<◌, [], length, take, drop, sym, ap, ◌∙◌, subst, arith}
+use Rattle.std.proofs.Common.{nat_abs, ◌≡◌, ℕ, ◌<◌, [], length, take, drop, sym, ap, ◌∙◌, subst, arith}
 use Rattle.std.proofs.lemmas.Int.{ints, to_z-of_z}
 use Rattle.guarded.proofs.shelf.trade.Goals as goal
 

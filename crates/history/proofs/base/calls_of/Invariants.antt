@@ -1,6 +1,5 @@
 use Rattle.std.proofs.Common.{◌≡◌, ◌-◌, ◌^◌, get_or, min}
-use Rattle.history.specs.Base.{nothing}
-use Rattle.history.specs.Counts.{total}
+use Rattle.history.specs.Prelude.{nothing, total}
 use Rattle.history.proofs.base.calls_of.Given as goal
 
 abbrev pub invariant-loop-seat : goal.invariant-loop-seat

@@ -1,5 +1,4 @@
-use Rattle.std.proofs.Common.{◌≡◌, ◌≤◌, [], length, map, vec_capacity}
-use Rattle.std.specs.Prelude.{All}
+use Rattle.std.proofs.Common.{◌≡◌, ◌≤◌, [], length, map, vec_capacity, All}
 use Rattle.history.specs.Base.{each_below}
 use Rattle.history.proofs.base.no_sleepers.Given as goal
 

@@ -1,7 +1,6 @@
 use Rattle.std.proofs.Common.{arith, ◌≡◌, ℕ, ◌<◌, List, [], length, map, get_or, set, Vec, Global, ap, sym, ◌∙◌}
 use Rattle.std.proofs.lemmas.List.{get_or-map, map-set}
-use Rattle.history.specs.declared.base.Sleeper.{Sleeper}
-use Rattle.history.specs.NextBase.{sleepers_then}
+use Rattle.history.specs.Prelude.{Sleeper, sleepers_then}
 use Rattle.history.proofs.base_parts.follow_sleepers.Goals as goal
 
 -- one list among many, changed

@@ -1,11 +1,8 @@
 use Rattle.std.proofs.Common.{get_or, refl, ap, subst, sym, ◌∙◌}
 use Rattle.history.specs.declared.entry.End.TheVariants as end
-use Rattle.history.specs.declared.entry.Entry.{Entry}
-use Rattle.history.specs.declared.entry.Mode.TheVariants.{X}
+use Rattle.history.specs.Prelude.{Entry, X, Base, next_base}
 use Rattle.history.specs.declared.entry.Word.TheVariants as word
-use Rattle.history.specs.Base.{Base}
 use Rattle.history.specs.inner.BasePlaces.{HasPlaces}
-use Rattle.history.specs.NextBase.{next_base}
 use Rattle.history.proofs.Folding.{folds_nothing}
 use Rattle.history.proofs.FoldSteps.{entry_folded, entry_places}
 use Rattle.history.proofs.fold.fold_entries.Goals as goal

@@ -1,7 +1,5 @@
 use Rattle.std.proofs.Common.{◌+◌, ◌≤◌, length, reverse, ap, subst, sym, ◌∙◌}
-use Rattle.history.specs.declared.limits.TheConstants.{MOST_FOLDED}
-use Rattle.history.specs.Base.{Base, folded}
-use Rattle.history.specs.Fold.{MayFold}
+use Rattle.history.specs.Prelude.{MOST_FOLDED, Base, folded, MayFold}
 use Rattle.history.proofs.Folding.{folds_nothing}
 use Rattle.history.proofs.FoldSteps.{page_few, page_folded, page_may}
 use Rattle.history.proofs.fold.fold_pages.Goals as goal

@@ -1,8 +1,6 @@
 use Rattle.std.proofs.Common.{◌+◌, ◌≤◌, length, reverse, ap, subst, sym, ◌∙◌}
 use Rattle.std.proofs.lemmas.List.{reverse-append}
-use Rattle.history.specs.declared.limits.TheConstants.{MOST_FOLDED}
-use Rattle.history.specs.Base.{Base, folded}
-use Rattle.history.specs.Fold.{MayFold}
+use Rattle.history.specs.Prelude.{MOST_FOLDED, Base, folded, MayFold}
 use Rattle.history.specs.inner.Paged.{in_pages}
 use Rattle.history.proofs.FoldSteps.{folds_more, may_begin, may_go_on}
 use Rattle.history.proofs.fold.fold_parts.Goals as goal

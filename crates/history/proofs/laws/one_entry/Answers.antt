@@ -1,7 +1,5 @@
 use Rattle.std.proofs.Common.{refl}
-use Rattle.history.specs.EntryReading.{entry_at}
-use Rattle.history.specs.EntryWords.{entry_words}
-use Rattle.history.specs.Text.{line_of}
+use Rattle.history.specs.Prelude.{entry_at, entry_words, line_of}
 use Rattle.history.proofs.EntryAgain.{entry_again}
 use Rattle.history.proofs.Readers.{same_value}
 use Rattle.history.proofs.laws.one_entry.Goals as goal

@@ -1,5 +1,4 @@
-use Rattle.std.proofs.Common.{◌≡◌, ◌+◌, ◌≤◌, [], ◌++◌, length, replicate}
-use Rattle.std.specs.Prelude.{vec_len, vec_capacity}
+use Rattle.std.proofs.Common.{◌≡◌, ◌+◌, ◌≤◌, [], ◌++◌, length, replicate, vec_len, vec_capacity}
 use Rattle.history.proofs.page.reserve_pages.Given as goal
 
 abbrev pub invariant-loop : goal.invariant-loop

@@ -1,6 +1,5 @@
-use Rattle.std.proofs.Common.{rules, arith}
+use Rattle.std.proofs.Common.{rules, arith, drop-set-lt}
 use Rattle.std.proofs.lemmas.Grind.{common_steps}
-use Rattle.std.proofs.lemmas.List.{drop-set-lt}
 use Rattle.history.proofs.PieceFronts.{rest_behind}
 use Rattle.history.proofs.pieces.put_bytes.Goals as goal
 

@@ -1,8 +1,6 @@
 use Rattle.std.proofs.Common.{◌≡◌, ◌+◌, ◌<◌, ◌++◌, List, drop, length, map, ap, sym, ◌∙◌, arith}
-use Rattle.history.specs.declared.base.Sleeper.{Sleeper}
-use Rattle.history.specs.Base.{Base}
-use Rattle.history_text.specs.declared.base_line.BaseLine.TheVariants.{Sleeps}
-use Rattle.history_text.specs.BaseLines.{sleeper_lines}
+use Rattle.history_text.specs.Below.{Sleeper, Base}
+use Rattle.history_text.specs.Prelude.{Sleeps, sleeper_lines}
 use Rattle.history_text.proofs.BaseFollowed.{refused, sleepers_left, taken}
 use Rattle.history_text.proofs.base_fitting.follow_sleepers.Goals as goal
 

@@ -1,8 +1,7 @@
 use Rattle.std.proofs.Common.{◌+◌, [], ◌∷◌, false, drop, get_or, map, subst, arith}
 use Rattle.std.proofs.lemmas.List.{drop_all}
-use Rattle.history.specs.declared.base.LinePlace.{LinePlace}
+use Rattle.history_text.specs.Below.{LinePlace, X}
 use Rattle.history.specs.declared.entry.End.TheVariants as end
-use Rattle.history.specs.declared.entry.Mode.TheVariants.{X}
 use Rattle.history_text.specs.declared.base_line.BaseLine.TheVariants.{Stands}
 use Rattle.history_text.proofs.BaseFollowed.{Left, all_taken, none_yet, refused, standing_left, taken}
 use Rattle.history_text.proofs.base_fitting.follow_standings.Goals as goal

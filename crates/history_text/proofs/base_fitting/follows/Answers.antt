@@ -1,12 +1,8 @@
 use Rattle.std.proofs.Common.{true, false, List, map, refl, ap, subst, ◌∙◌}
-use Rattle.history.specs.declared.base.LinePlace.{LinePlace}
-use Rattle.history.specs.Base.{Base}
-use Rattle.history_text.specs.declared.base_line.BaseLine.TheVariants.{Stands}
+use Rattle.history_text.specs.Below.{LinePlace, Base}
+use Rattle.history_text.specs.Prelude.{Stands, base_lines, seat_lines, sleeper_lines, no_sums}
 use Rattle.history_text.specs.inner.BaseFollowing.{HaveFollowed}
-use Rattle.history_text.specs.BaseLines.{base_lines, seat_lines, sleeper_lines}
-use Rattle.history_text.specs.BaseRules.{no_sums}
-use Rattle.history_text.proofs.BaseFollowed.{behind_first, behind_seats, first_taken}
-use Rattle.history_text.proofs.BaseFollowed.{last_taken, neither, refused, seats_taken, taken}
+use Rattle.history_text.proofs.BaseFollowed.{behind_first, behind_seats, first_taken, last_taken, neither, refused, seats_taken, taken}
 use Rattle.history_text.proofs.base_fitting.follows.Goals as goal
 
 pub returns-then-not-follow_seats : goal.returns-then-not-follow_seats

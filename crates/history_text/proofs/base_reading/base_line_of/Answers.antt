@@ -1,6 +1,5 @@
 use Rattle.history.proofs.Readers.{unread, not_all_read, is_line_of}
-use Rattle.history_text.specs.BaseLines.{base_line, base_words}
-use Rattle.history_text.specs.BaseReading.{base_line_at}
+use Rattle.history_text.specs.Prelude.{base_line, base_words, base_line_at}
 use Rattle.history_text.proofs.BaseLineLemmas.{whole_base_line}
 use Rattle.history_text.proofs.base_reading.base_line_of.Goals as goal
 

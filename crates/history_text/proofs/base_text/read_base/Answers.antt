@@ -1,13 +1,8 @@
-use Rattle.std.proofs.Common.{◌∙◌, ◌∷◌, ◌++◌, [], length, refl, sym, ap, subst, arith}
-use Rattle.std.proofs.lemmas.List.{length-append}
+use Rattle.std.proofs.Common.{◌∙◌, ◌∷◌, ◌++◌, [], length, refl, sym, ap, subst, arith, length-append}
 use Rattle.history.specs.Text.{ended}
 use Rattle.line_text.proofs.Faults.{fault_passed}
 use Rattle.line_text.proofs.UnderWay.{left_over}
-use Rattle.history_text.specs.BaseLines.{base_line}
-use Rattle.history_text.specs.declared.place.Place.{Place}
-use Rattle.history_text.specs.HistoryText.{history_form}
-use Rattle.history_text.specs.NextLine.{AreEntriesRead, LinesRead}
-use Rattle.history_text.specs.ToldBases.{GoodBeginsSo, IsToldBase}
+use Rattle.history_text.specs.Prelude.{base_line, Place, history_form, AreEntriesRead, LinesRead, GoodBeginsSo, IsToldBase}
 use Rattle.history_text.proofs.BaseTextRead.{line_begins, place_behind, told_few, whole_begins}
 use Rattle.history_text.proofs.base_text.read_base.Goals as goal
 

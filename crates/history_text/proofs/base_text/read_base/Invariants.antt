@@ -1,7 +1,6 @@
 use Rattle.std.proofs.Common.{◌≡◌, ◌≤◌, List, ℕ, [], length, map}
 use Rattle.line_text.specs.Reading.{Begins}
-use Rattle.history_text.specs.HistoryText.{history_form}
-use Rattle.history_text.specs.TextLines.{Based}
+use Rattle.history_text.specs.Prelude.{history_form, Based}
 use Rattle.history_text.proofs.base_text.read_base.Given as goal
 
 abbrev pub invariant-loop-base : goal.invariant-loop-base

@@ -1,7 +1,6 @@
 use Rattle.std.proofs.Common.{◌<◌, length, Vec, Global, ap, sym, subst, arith}
 use Rattle.std.proofs.lemmas.List.{length-map}
-use Rattle.history.specs.declared.base.Sleeper.{Sleeper}
-use Rattle.history.specs.Base.{Base, sleepers_of}
+use Rattle.history_text.specs.Below.{Sleeper, Base, sleepers_of}
 use Rattle.history_text.proofs.base_under_way.take_line.Goals as goal
 
 pub put_asleep-requires-clause-condition : goal.put_asleep-requires-clause-condition

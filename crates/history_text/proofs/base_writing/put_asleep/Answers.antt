@@ -1,10 +1,7 @@
 use Rattle.std.proofs.Common.{◌+◌, ◌++◌, drop, get_or, map, subst, ap, sym, ◌∙◌, arith, List}
 use Rattle.std.specs.List.{AllByRecursion}
 use Rattle.history.specs.declared.base.Sleeper.{Sleeper}
-use Rattle.history_text.specs.declared.base_line.BaseLine.{BaseLine}
-use Rattle.history_text.specs.declared.base_line.BaseLine.TheVariants.{Sleeps}
-use Rattle.history_text.specs.BaseLineLimits.{IsBaseLine}
-use Rattle.history_text.specs.Pieces.{lines_text}
+use Rattle.history_text.specs.Prelude.{BaseLine, Sleeps, IsBaseLine, lines_text}
 use Rattle.history_text.proofs.BaseWritten.{front_kept, left_at, line_written}
 use Rattle.history_text.proofs.base_writing.put_asleep.Goals as goal
 

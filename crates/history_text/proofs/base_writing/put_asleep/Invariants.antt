@@ -1,8 +1,6 @@
 use Rattle.std.proofs.Common.{◌≡◌, ◌++◌, ◌≤◌, length, drop, map, take}
 use Rattle.std.specs.List.{AllByRecursion}
-use Rattle.history_text.specs.declared.base_line.BaseLine.TheVariants.{Sleeps}
-use Rattle.history_text.specs.BaseLineLimits.{IsBaseLine}
-use Rattle.history_text.specs.Pieces.{lines_text}
+use Rattle.history_text.specs.Prelude.{Sleeps, IsBaseLine, lines_text}
 use Rattle.history_text.proofs.base_writing.put_asleep.Given as goal
 
 abbrev pub invariant-loop-sleeper : goal.invariant-loop-sleeper

@@ -1,15 +1,8 @@
 use Rattle.std.proofs.Common.{◌≡◌, ◌∷◌, ◌++◌, List, [], map, subst, ap, sym, ◌∙◌}
 use Rattle.std.specs.List.{AllByRecursion}
 use Rattle.std.proofs.lemmas.Result.{on_ok_weaker}
-use Rattle.history.specs.declared.base.SeatBase.{SeatBase}
-use Rattle.history.specs.declared.base.Sleeper.{Sleeper}
-use Rattle.history.specs.declared.base.LinePlace.{LinePlace}
-use Rattle.history.specs.Base.{Base}
-use Rattle.history_text.specs.declared.base_line.BaseLine.{BaseLine}
-use Rattle.history_text.specs.declared.base_line.BaseLine.TheVariants.{Stands}
-use Rattle.history_text.specs.BaseLineLimits.{IsBaseLine}
-use Rattle.history_text.specs.BaseLines.{first_line, seat_lines, sleeper_lines}
-use Rattle.history_text.specs.Pieces.{lines_text}
+use Rattle.history_text.specs.Below.{SeatBase, Sleeper, LinePlace, Base}
+use Rattle.history_text.specs.Prelude.{BaseLine, Stands, IsBaseLine, first_line, seat_lines, sleeper_lines, lines_text}
 use Rattle.history_text.proofs.BaseWritten.{four_written}
 use Rattle.history_text.proofs.Lists.{each_back, each_front}
 use Rattle.history_text.proofs.base_writing.put_base.Goals as goal

@@ -1,11 +1,7 @@
 use Rattle.std.proofs.Common.{◌+◌, ◌++◌, drop, get_or, subst, ap, sym, ◌∙◌, arith, List}
 use Rattle.std.specs.List.{AllByRecursion}
 use Rattle.history.specs.declared.base.SeatBase.{SeatBase}
-use Rattle.history_text.specs.declared.base_line.BaseLine.{BaseLine}
-use Rattle.history_text.specs.declared.base_line.BaseLine.TheVariants.{Seat}
-use Rattle.history_text.specs.BaseLineLimits.{IsBaseLine}
-use Rattle.history_text.specs.BaseLines.{seat_lines}
-use Rattle.history_text.specs.Pieces.{lines_text}
+use Rattle.history_text.specs.Prelude.{BaseLine, Seat, IsBaseLine, seat_lines, lines_text}
 use Rattle.history_text.proofs.BaseWritten.{front_kept, line_written, seats_left}
 use Rattle.history_text.proofs.base_writing.put_seats.Goals as goal
 

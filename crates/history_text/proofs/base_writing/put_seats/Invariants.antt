@@ -1,8 +1,6 @@
 use Rattle.std.proofs.Common.{◌≡◌, ◌++◌, ◌≤◌, length, drop, take}
 use Rattle.std.specs.List.{AllByRecursion}
-use Rattle.history_text.specs.BaseLineLimits.{IsBaseLine}
-use Rattle.history_text.specs.BaseLines.{seat_lines}
-use Rattle.history_text.specs.Pieces.{lines_text}
+use Rattle.history_text.specs.Prelude.{IsBaseLine, seat_lines, lines_text}
 use Rattle.history_text.proofs.base_writing.put_seats.Given as goal
 
 abbrev pub invariant-loop-seat : goal.invariant-loop-seat

@@ -1,10 +1,6 @@
 use Rattle.std.proofs.Common.{◌+◌, ◌++◌, drop, map, subst, ap, sym, ◌∙◌, arith, List}
 use Rattle.std.specs.List.{AllByRecursion}
-use Rattle.history_text.specs.declared.base_line.BaseLine.{BaseLine}
-use Rattle.history_text.specs.declared.base_line.BaseLine.TheVariants.{Sleeps}
-use Rattle.history_text.specs.BaseLineLimits.{IsBaseLine}
-use Rattle.history_text.specs.BaseLines.{sleeper_lines}
-use Rattle.history_text.specs.Pieces.{lines_text}
+use Rattle.history_text.specs.Prelude.{BaseLine, Sleeps, IsBaseLine, sleeper_lines, lines_text}
 use Rattle.history_text.proofs.BaseWritten.{front_kept, lines_written, lists_left}
 use Rattle.history_text.proofs.Lists.{each_back, each_front}
 use Rattle.history_text.proofs.base_writing.put_sleepers.Goals as goal

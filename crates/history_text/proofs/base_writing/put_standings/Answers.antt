@@ -1,12 +1,8 @@
 use Rattle.std.proofs.Common.{◌+◌, ◌++◌, drop, get_or, map, subst, ap, sym, ◌∙◌, arith, false, List}
 use Rattle.std.specs.List.{AllByRecursion}
-use Rattle.history.specs.declared.base.LinePlace.{LinePlace}
+use Rattle.history_text.specs.Below.{LinePlace, X}
 use Rattle.history.specs.declared.entry.End.TheVariants as end
-use Rattle.history.specs.declared.entry.Mode.TheVariants.{X}
-use Rattle.history_text.specs.declared.base_line.BaseLine.{BaseLine}
-use Rattle.history_text.specs.declared.base_line.BaseLine.TheVariants.{Stands}
-use Rattle.history_text.specs.BaseLineLimits.{IsBaseLine}
-use Rattle.history_text.specs.Pieces.{lines_text}
+use Rattle.history_text.specs.Prelude.{BaseLine, Stands, IsBaseLine, lines_text}
 use Rattle.history_text.proofs.BaseWritten.{front_kept, left_at, line_written}
 use Rattle.history_text.proofs.base_writing.put_standings.Goals as goal
 

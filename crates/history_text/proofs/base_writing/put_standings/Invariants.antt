@@ -1,8 +1,6 @@
 use Rattle.std.proofs.Common.{◌≡◌, ◌++◌, ◌≤◌, length, drop, map, take}
 use Rattle.std.specs.List.{AllByRecursion}
-use Rattle.history_text.specs.declared.base_line.BaseLine.TheVariants.{Stands}
-use Rattle.history_text.specs.BaseLineLimits.{IsBaseLine}
-use Rattle.history_text.specs.Pieces.{lines_text}
+use Rattle.history_text.specs.Prelude.{Stands, IsBaseLine, lines_text}
 use Rattle.history_text.proofs.base_writing.put_standings.Given as goal
 
 abbrev pub invariant-loop-standing : goal.invariant-loop-standing

@@ -1,7 +1,6 @@
 use Rattle.std.proofs.Common.{◌-◌, decimal, drop, take, length, sym, ◌∙◌, arith}
 use Rattle.std.proofs.lemmas.List.{take_rest}
-use Rattle.history.specs.EntryWords.{entry_words}
-use Rattle.history.specs.Text.{line_of}
+use Rattle.history_text.specs.Below.{entry_words, line_of}
 use Rattle.history_text.proofs.CommonLines.{line_begins}
 use Rattle.history_text.proofs.common_entry.common_entry.Goals as goal
 

@@ -1,7 +1,6 @@
 use Rattle.std.proofs.Common.{arith, refl}
 use Rattle.history.proofs.Readers.{unread, not_all_read}
-use Rattle.history_text.specs.EntryLines.{counts_line}
-use Rattle.history_text.specs.EntryReading.{counts_at}
+use Rattle.history_text.specs.Prelude.{counts_line, counts_at}
 use Rattle.history_text.proofs.EntryLemmas.{whole_end, is_counts_line}
 use Rattle.history_text.proofs.end_line.is_end.Goals as goal
 

@@ -1,7 +1,6 @@
 use Rattle.std.proofs.Common.{arith, rules}
 use Rattle.history.proofs.Readers.{unread, not_all_read}
-use Rattle.history_text.specs.EntryLines.{entry_line}
-use Rattle.history_text.specs.EntryReading.{line_at}
+use Rattle.history_text.specs.Prelude.{entry_line, line_at}
 use Rattle.history_text.proofs.EntryLemmas.{whole_line, is_entry_line}
 use Rattle.history_text.proofs.entry_reading.entry_of.Goals as goal
 

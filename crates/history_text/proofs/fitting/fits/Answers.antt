@@ -1,14 +1,9 @@
-use Rattle.std.proofs.Common.{◌≡◌, ℕ, ◌+◌, ◌<◌, List, Option, Some, reverse}
-use Rattle.std.proofs.Common.{get_or, refl, subst, ◌∙◌, arith, below_more, rules}
+use Rattle.std.proofs.Common.{◌≡◌, ℕ, ◌+◌, ◌<◌, List, Option, Some, reverse, get_or, refl, subst, ◌∙◌, arith, below_more, rules}
 use Rattle.std.specs.List.{slice_get}
 use Rattle.std.proofs.lemmas.List.{length-reverse}
 use Rattle.std.proofs.lemmas.Option.{same_Some, slice_get-get_or}
-use Rattle.history.specs.declared.entry.Entry.{Entry}
-use Rattle.history.specs.declared.header.Header.{Header}
-use Rattle.history.specs.Base.{Base}
-use Rattle.history.specs.Entries.{or_opening}
-use Rattle.history_text.specs.EntryLines.{HasLine}
-use Rattle.history_text.specs.HistoryText.{HasBaseText}
+use Rattle.history_text.specs.Below.{Entry, Header, Base, or_opening}
+use Rattle.history_text.specs.Prelude.{HasLine, HasBaseText}
 use Rattle.history_text.proofs.fitting.fits.Goals as goal
 
 one_more : (h : Header) (xs : List Entry) (n : ℕ) (x : Entry) →

@@ -1,6 +1,5 @@
 use Rattle.std.proofs.Common.{◌≡◌, IsTrue, false, ap, subst, refl, rules}
-use Rattle.history.specs.Base.{Base}
-use Rattle.history.specs.Header.{IsInRange}
+use Rattle.history_text.specs.Below.{Base, IsInRange}
 use Rattle.history_text.proofs.BaseFits.{good_text, opening_text, text_good}
 use Rattle.history_text.proofs.fitting.has_lines.Goals as goal
 

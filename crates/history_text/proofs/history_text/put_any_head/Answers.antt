@@ -1,7 +1,6 @@
 use Rattle.std.proofs.Common.{◌≡◌, ap, sym, ◌∙◌}
 use Rattle.std.specs.Option.{option_copied}
-use Rattle.history.specs.Base.{Base}
-use Rattle.history.specs.Entries.{or_opening}
+use Rattle.history_text.specs.Below.{Base, or_opening}
 use Rattle.history_text.proofs.Heads.{first_written}
 use Rattle.history_text.proofs.history_text.put_any_head.Goals as goal
 use Rattle.history_text.proofs.history_text.put_any_head.Goals.{in-Some+else-base-ne0, in_default}

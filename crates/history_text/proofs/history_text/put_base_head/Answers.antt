@@ -1,6 +1,5 @@
 use Rattle.std.proofs.Common.{◌≡◌, ◌∙◌, sym, ap, subst, arith}
-use Rattle.history.specs.Base.{Base}
-use Rattle.history.specs.Header.{IsInRange}
+use Rattle.history_text.specs.Below.{Base, IsInRange}
 use Rattle.history_text.specs.BaseText.{calls_sum}
 use Rattle.history_text.proofs.HeadWritten.{good_spelt, head_written, sum_few}
 use Rattle.history_text.proofs.history_text.put_base_head.Goals as goal

@@ -1,13 +1,7 @@
 use Rattle.std.proofs.Common.{◌≡◌, ℕ, ◌+◌, ◌<◌, ◌^◌, List, length, reverse, sym, ap, subst, ◌∙◌, arith, ◌++◌}
 use Rattle.std.proofs.lemmas.Option.{slice_get_within}
-use Rattle.history.specs.declared.entry.Entry.{Entry}
-use Rattle.history.specs.Base.{Base}
-use Rattle.history.specs.Entries.{base_on, or_opening}
-use Rattle.history.specs.Text.{ended}
-use Rattle.history_text.specs.BaseText.{IsHeadPut}
-use Rattle.history_text.specs.EntryLines.{entry_line}
-use Rattle.history_text.specs.HistoryLines.{head_line, head_of, lines_told}
-use Rattle.history_text.specs.Pieces.{entry_lines, lines_text}
+use Rattle.history_text.specs.Below.{Entry, Base, base_on, or_opening, ended}
+use Rattle.history_text.specs.Prelude.{IsHeadPut, entry_line, head_line, head_of, lines_told, entry_lines, lines_text}
 use Rattle.history.proofs.AllCalls.{calls_told}
 use Rattle.history_text.proofs.Heads.{based_well}
 use Rattle.history_text.proofs.HistoryWriting.{past}

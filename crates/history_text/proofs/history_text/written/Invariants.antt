@@ -1,8 +1,6 @@
 use Rattle.std.proofs.Common.{◌≡◌, ◌≤◌, ◌++◌, ◌-◌, length, take, reverse}
-use Rattle.history.specs.Entries.{base_on}
-use Rattle.history.specs.Text.{ended}
-use Rattle.history_text.specs.HistoryLines.{head_line, head_of, lines_told}
-use Rattle.history_text.specs.Pieces.{entry_lines, lines_text}
+use Rattle.history_text.specs.Below.{base_on, ended}
+use Rattle.history_text.specs.Prelude.{head_line, head_of, lines_told, entry_lines, lines_text}
 use Rattle.history_text.proofs.history_text.written.Given as goal
 
 abbrev pub invariant-loop-entry : goal.invariant-loop-entry

@@ -1,7 +1,5 @@
 use Rattle.line_text.proofs.Cuts as cuts
-use Rattle.history_text.specs.HistoryLines.{head_of}
-use Rattle.history_text.specs.TextLines.{lines_on}
-use Rattle.history_text.specs.HistoryText.{history_form}
+use Rattle.history_text.specs.Prelude.{head_of, lines_on, history_form}
 use Rattle.history_text.proofs.HistoryLawful.{lawful}
 use Rattle.history_text.proofs.law.cut_short.Goals as goal
 

@@ -1,10 +1,7 @@
 use Rattle.std.specs.List.{AllByRecursion}
 use Rattle.std.proofs.lemmas.List.Elements.{All-from_recursion}
 use Rattle.std.proofs.Common.{◌≡◌, reverse, sym, subst}
-use Rattle.history.specs.declared.header.Header.{Header}
-use Rattle.history.specs.Entries.{base_on}
-use Rattle.history.specs.GoodBase.{IsBaseOf}
-use Rattle.history.specs.Header.{IsInRange}
+use Rattle.history_text.specs.Below.{Header, base_on, IsBaseOf, IsInRange}
 use Rattle.history_text.specs.EntryLines.{HasLine}
 use Rattle.history_text.proofs.Amounts.{all_have_lines}
 use Rattle.history_text.proofs.Lists.{each-reverse}

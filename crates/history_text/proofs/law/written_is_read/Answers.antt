@@ -2,15 +2,8 @@ use Rattle.std.proofs.Common.{◌≡◌, List, ℕ, reverse, ap, sym, subst, ref
 use Rattle.std.specs.List.{AllByRecursion}
 use Rattle.std.proofs.lemmas.List.{length-reverse}
 use Rattle.std.proofs.lemmas.List.Elements.{recursion_from_All}
-use Rattle.history.specs.declared.header.Header.{Header}
-use Rattle.history.specs.Entries.{base_on}
-use Rattle.history.specs.GoodBase.{IsBaseOf}
-use Rattle.history.specs.Header.{IsInRange}
-use Rattle.line_text.specs.Reading.{IsText}
-use Rattle.history_text.specs.EntryLines.{HasLine}
-use Rattle.history_text.specs.HistoryLines.{head_of}
-use Rattle.history_text.specs.HistoryText.{history_form}
-use Rattle.history_text.specs.TextLines.{IsHistoryOf, lines_on}
+use Rattle.history_text.specs.Below.{Header, base_on, IsBaseOf, IsInRange, IsText}
+use Rattle.history_text.specs.Prelude.{HasLine, head_of, history_form, IsHistoryOf, lines_on}
 use Rattle.history_text.proofs.HeadWritten.{base_calls, sums_few}
 use Rattle.history_text.proofs.HistoryItems.{items_of}
 use Rattle.history_text.proofs.Pieces.{pieces}

@@ -1,5 +1,5 @@
-use Rattle.std.proofs.Common.{sym, ◌∙◌, arith}
-use Rattle.std.proofs.lemmas.Bool.{eqb-true, false≢true}
+use Rattle.std.proofs.Common.{sym, ◌∙◌, arith, eqb-true}
+use Rattle.std.proofs.lemmas.Bool.{false≢true}
 use Rattle.history_text.proofs.NextLines.{bad_line, behind_last, last_line}
 use Rattle.history_text.proofs.next_entry.entry_by_words.Goals as goal
 

@@ -1,7 +1,5 @@
 use Rattle.std.proofs.Common.{◌≡◌, ◌+◌, ◌≤◌, List, [], length, reverse, ℕ}
-use Rattle.history.specs.Entries.{or_opening}
-use Rattle.history.specs.declared.limits.TheConstants.{MOST_FOLDED}
-use Rattle.history.specs.Pages.{whole_pages}
+use Rattle.history_text.specs.Below.{or_opening, MOST_FOLDED, whole_pages}
 use Rattle.history_text.specs.NextLine.{AreEntriesRead}
 use Rattle.history_text.proofs.reading.read_entries.Given as goal
 

@@ -1,9 +1,5 @@
-use Rattle.std.proofs.Common.{◌≡◌, arith}
-use Rattle.std.proofs.lemmas.Bool.{eqb-true, eq-eqb}
-use Rattle.history.specs.declared.base.SeatBase.{SeatBase}
-use Rattle.history.specs.declared.entry.Mode.{Mode}
-use Rattle.history.specs.declared.entry.Mode.TheVariants.{X, S}
-use Rattle.history.specs.Base.{holds_of}
+use Rattle.std.proofs.Common.{◌≡◌, arith, eqb-true, eq-eqb}
+use Rattle.history_text.specs.Below.{SeatBase, Mode, X, S, holds_of}
 use Rattle.history_text.proofs.waiting_rules.holds_nothing.Goals as goal
 
 neither : (has : SeatBase) → has.exclusive ≡ 0 → has.shared ≡ 0 → (m : Mode) → holds_of has m ≡ 0

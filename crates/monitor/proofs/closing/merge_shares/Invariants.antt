@@ -1,7 +1,6 @@
 use Rattle.std.proofs.Common.{◌≡◌, ◌≤◌, ◌*◌, ◌^◌, ◌+◌, length}
 use Rattle.std.specs.List.{All}
-use Rattle.monitor.specs.Shown.{IsSound}
-use Rattle.monitor.specs.Closing.{shares}
+use Rattle.monitor.specs.Prelude.{IsSound, shares}
 use Rattle.monitor.proofs.closing.merge_shares.Given as goal
 
 abbrev pub invariant-loop-pass : goal.invariant-loop-pass

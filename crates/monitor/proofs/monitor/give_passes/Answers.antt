@@ -1,8 +1,6 @@
-use Rattle.std.proofs.Common.{rules, ◌≡◌, ℕ, suc, ◌+◌, ◌<◌, ◌∷◌, ◌++◌, ap, ◌∙◌, sym, arith}
-use Rattle.std.proofs.Common.{[]}
+use Rattle.std.proofs.Common.{rules, ◌≡◌, ℕ, suc, ◌+◌, ◌<◌, ◌∷◌, ◌++◌, ap, ◌∙◌, sym, arith, []}
 use Rattle.word_lock.specs.Ticket.{opening_tickets}
-use Rattle.monitor.specs.Lawful.{blank}
-use Rattle.monitor.specs.Shown.{opening_passes, shown}
+use Rattle.monitor.specs.Prelude.{blank, opening_passes, shown}
 use Rattle.monitor.proofs.Opening.{next_ticket, none_left, opening_is_pass, opening_passes_more}
 use Rattle.monitor.proofs.monitor.give_passes.Goals as goal
 

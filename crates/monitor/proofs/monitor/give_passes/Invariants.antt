@@ -1,7 +1,6 @@
 use Rattle.std.proofs.Common.{◌≡◌, ℕ, ◌+◌, ◌≤◌, vec_len, vec_capacity}
 use Rattle.word_lock.specs.Ticket.{opening_tickets}
-use Rattle.monitor.specs.Lawful.{blank}
-use Rattle.monitor.specs.Shown.{opening_passes}
+use Rattle.monitor.specs.Prelude.{blank, opening_passes}
 use Rattle.monitor.proofs.monitor.give_passes.Given as goal
 
 abbrev pub invariant-loop-token : goal.invariant-loop-token

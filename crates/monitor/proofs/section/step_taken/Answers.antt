@@ -1,6 +1,5 @@
 use Rattle.std.proofs.Common.{ap}
-use Rattle.word_lock.specs.Held.{held_ticket}
-use Rattle.word_lock.specs.Ticket.{Ticket}
+use Rattle.monitor.specs.Below.{held_ticket, Ticket}
 use Rattle.monitor.specs.inner.Sections.{Taking, Went}
 use Rattle.monitor.proofs.FastWay.{follows_by, moves_by, went}
 use Rattle.monitor.proofs.Rooms.{around}

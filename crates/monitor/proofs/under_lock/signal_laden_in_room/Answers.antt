@@ -1,6 +1,5 @@
 use Rattle.std.proofs.Common.{rules, ◌≡◌, inl, inr, true, false, Err, ◌∙◌, sym, ap}
-use Rattle.history.specs.declared.fault.Fault.{Fault}
-use Rattle.history.specs.declared.fault.Fault.TheVariants.{HistoryFull}
+use Rattle.monitor.specs.Below.{Fault, HistoryFull}
 use Rattle.monitor.specs.inner.CoreSteps.{IsCoreStep, Unmoved}
 use Rattle.monitor.proofs.Rooms.{no_fold, no_room, not_full}
 use Rattle.monitor.proofs.under_lock.signal_laden_in_room.Goals.{After-trim_laden}

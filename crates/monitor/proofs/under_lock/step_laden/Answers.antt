@@ -2,10 +2,8 @@ use mir.Syntax.{w64}
 use mir.Val.{SFits}
 use Rattle.std.proofs.Common.{ℕ, ◌∙◌, rules, sym, ap, subst}
 use Rattle.std.proofs.lemmas.Int.{to_z-of_z}
-use Rattle.history.specs.declared.step.Step.{Step}
-use Rattle.frame.specs.Core.{counts_of}
-use Rattle.monitor.specs.Lawful.{IsLawfulCore}
-use Rattle.monitor.specs.Load.{Brings, LetsGo, Moves, given_by, holds_in}
+use Rattle.monitor.specs.Below.{Step, counts_of}
+use Rattle.monitor.specs.Prelude.{IsLawfulCore, Brings, LetsGo, Moves, given_by, holds_in}
 use Rattle.monitor.proofs.Loads.{told_free, turn, turn_step}
 use Rattle.monitor.proofs.under_lock.step_laden.Goals as goal
 

@@ -2,12 +2,8 @@ use mir.Syntax.{w64}
 use mir.Val.{SFits}
 use Rattle.std.proofs.Common.{ℕ, Ok, ◌∙◌, rules, sym, ap, subst}
 use Rattle.std.proofs.lemmas.Int.{to_z-of_z}
-use Rattle.history.specs.declared.step.Answer.TheVariants.{Recorded}
-use Rattle.history.specs.declared.step.Step.{Step}
-use Rattle.frame.specs.AtOnce.{entry_at_once}
-use Rattle.frame.specs.Core.{counts_of}
-use Rattle.monitor.specs.Lawful.{IsLawfulCore}
-use Rattle.monitor.specs.Load.{Brings, LetsGo, Moves, given_by, holds_in}
+use Rattle.monitor.specs.Below.{Recorded, Step, entry_at_once, counts_of}
+use Rattle.monitor.specs.Prelude.{IsLawfulCore, Brings, LetsGo, Moves, given_by, holds_in}
 use Rattle.monitor.proofs.Loads.{told_free, turn, turn_step}
 use Rattle.monitor.proofs.under_lock.step_laden_at_once.Goals as goal
 

@@ -1,8 +1,7 @@
 use Rattle.std.proofs.Common.{sym, subst}
 use Rattle.frame.specs.Core.{counts_of}
-use Rattle.monitor.specs.Load.{Moves}
+use Rattle.monitor.specs.Prelude.{Moves, WhenFull}
 use Rattle.monitor.specs.inner.CoreSteps.{IsCoreStepBy}
-use Rattle.monitor.specs.declared.room.WhenFull.{WhenFull}
 use Rattle.monitor.proofs.under_lock.step_laden_by.Goals as goal
 
 pub returns-in-Refuse-clause-stepped : goal.returns-in-Refuse-clause-stepped

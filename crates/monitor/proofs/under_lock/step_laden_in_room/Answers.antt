@@ -1,8 +1,5 @@
 use Rattle.std.proofs.Common.{rules, ◌≡◌, ◌∙◌, inl, inr, true, false, Err, refl, sym, ap, subst, ℕ}
-use Rattle.frame.specs.Core.{CoreView, counts_of}
-use Rattle.history.specs.declared.entry.Mode.{Mode}
-use Rattle.history.specs.declared.fault.Fault.{Fault}
-use Rattle.history.specs.declared.fault.Fault.TheVariants.{HistoryFull}
+use Rattle.monitor.specs.Below.{CoreView, counts_of, Mode, Fault, HistoryFull}
 use Rattle.monitor.specs.Load.{LetsGo, Moves}
 use Rattle.monitor.specs.inner.CoreSteps.{IsCoreStep}
 use Rattle.monitor.proofs.Freeing.{brings_still, fit_still, moves_since}

@@ -1,9 +1,8 @@
-use Rattle.std.proofs.Common.{◌++◌, ◌+◌, ◌-◌, ap, ◌∙◌}
-use Rattle.std.specs.Prelude.{codes}
+use Rattle.std.proofs.Common.{◌++◌, ◌+◌, ◌-◌, ap, ◌∙◌, codes}
 use Rattle.overview.specs.Amounts.{up_of}
 use Rattle.overview.specs.Frame.{x_of}
 use Rattle.overview.specs.Gauges.{block}
-use Rattle.overview.proofs.Appending.{two}
+use Rattle.picture.proofs.Appending.{two}
 use Rattle.overview.proofs.amounts.put_amounts_block.Goals as goal
 
 pub returns : goal.returns

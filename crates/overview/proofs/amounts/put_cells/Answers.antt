@@ -1,7 +1,7 @@
 use Rattle.std.proofs.Common.{◌++◌, ap, ◌∙◌, drop, refl, take}
 use Rattle.overview.specs.Columns.{first_of}
 use Rattle.overview.specs.Amounts.{amounts_cell, amounts_cells, amounts_in, spread_of}
-use Rattle.overview.proofs.Appending.{one_piece_more}
+use Rattle.picture.proofs.Appending.{one_piece_more}
 use Rattle.overview.proofs.amounts.put_cells.Goals as goal
 
 pub loop-column-preserved : goal.loop-column-preserved

@@ -1,4 +1,4 @@
-use Rattle.overview.proofs.Appending.{six}
+use Rattle.picture.proofs.Appending.{six}
 use Rattle.overview.proofs.amounts.put_from_to.Goals as goal
 
 pub returns : goal.returns

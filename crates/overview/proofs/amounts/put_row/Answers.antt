@@ -1,6 +1,6 @@
 use Rattle.std.proofs.Common.{◌++◌, ap, ◌∙◌}
 use Rattle.overview.specs.Amounts.{amounts_cells, amounts_words}
-use Rattle.overview.proofs.Appending.{two}
+use Rattle.picture.proofs.Appending.{two}
 use Rattle.overview.proofs.amounts.put_row.Goals as goal
 
 pub returns : goal.returns

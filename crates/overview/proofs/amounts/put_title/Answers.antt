@@ -1,4 +1,4 @@
-use Rattle.overview.proofs.Appending.{four}
+use Rattle.picture.proofs.Appending.{four}
 use Rattle.overview.proofs.amounts.put_title.Goals as goal
 
 pub returns : goal.returns

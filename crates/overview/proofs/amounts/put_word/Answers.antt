@@ -1,4 +1,4 @@
-use Rattle.overview.proofs.Appending.{three}
+use Rattle.picture.proofs.Appending.{three}
 use Rattle.overview.proofs.amounts.put_word.Goals as goal
 
 pub returns : goal.returns

@@ -1,7 +1,6 @@
-use Rattle.std.proofs.Common.{◌≡◌, ◌++◌, ◌+◌, ap, ◌∙◌, refl, arith}
-use Rattle.std.specs.Prelude.{slice_index}
+use Rattle.std.proofs.Common.{◌≡◌, ◌++◌, ◌+◌, ap, ◌∙◌, refl, arith, slice_index}
 use Rattle.overview.specs.Cells.{all_cells, cells_if_any}
-use Rattle.overview.proofs.Appending.{one_piece_more}
+use Rattle.picture.proofs.Appending.{one_piece_more}
 use Rattle.overview.proofs.cells.put_all_cells.Goals as goal
 
 pub loop-seat-preserved : goal.loop-seat-preserved

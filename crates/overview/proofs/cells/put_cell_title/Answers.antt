@@ -1,4 +1,4 @@
-use Rattle.overview.proofs.Appending.{five}
+use Rattle.picture.proofs.Appending.{five}
 use Rattle.overview.proofs.cells.put_cell_title.Goals as goal
 
 pub returns : goal.returns

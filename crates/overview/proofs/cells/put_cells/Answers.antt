@@ -1,7 +1,7 @@
 use Rattle.std.proofs.Common.{◌≡◌, ◌++◌, ◌<◌, ap, ◌∙◌, refl, arith}
 use Rattle.overview.specs.Cells.{cell, cells}
 use Rattle.overview.specs.Shares.{seat_shares}
-use Rattle.overview.proofs.Appending.{one_piece_more}
+use Rattle.picture.proofs.Appending.{one_piece_more}
 use Rattle.overview.proofs.SharesFollow.{seat_is}
 use Rattle.overview.proofs.cells.put_cells.Goals as goal
 

@@ -1,5 +1,4 @@
-use Rattle.std.proofs.Common.{◌++◌, ap, ◌∙◌}
-use Rattle.std.proofs.lemmas.Bool.{ne_eqb}
+use Rattle.std.proofs.Common.{◌++◌, ap, ◌∙◌, ne_eqb}
 use Rattle.overview.specs.Cells.{cells}
 use Rattle.overview.proofs.cells.put_cells_if_any.Goals as goal
 

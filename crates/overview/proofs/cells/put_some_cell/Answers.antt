@@ -1,7 +1,7 @@
 use Rattle.std.proofs.Common.{◌++◌, ◌+◌, ap, ◌∙◌}
 use Rattle.overview.specs.Cells.{parts}
 use Rattle.overview.specs.Frame.{x_of}
-use Rattle.overview.proofs.Appending.{three}
+use Rattle.picture.proofs.Appending.{three}
 use Rattle.overview.proofs.cells.put_some_cell.Goals as goal
 
 pub returns : goal.returns

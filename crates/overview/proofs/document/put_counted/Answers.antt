@@ -1,5 +1,4 @@
-use Rattle.std.proofs.Common.{◌++◌, ap, ◌∙◌}
-use Rattle.std.specs.Prelude.{slice_index}
+use Rattle.std.proofs.Common.{◌++◌, ap, ◌∙◌, slice_index}
 use Rattle.overview.specs.Document.{overview_text, text_in, text_in_rows}
 use Rattle.overview.specs.Frame.{frame_of}
 use Rattle.picture.specs.View.{view_of}

@@ -1,11 +1,10 @@
-use Rattle.std.proofs.Common.{◌++◌, ap, ◌∙◌, sym}
-use Rattle.std.specs.Prelude.{codes}
+use Rattle.std.proofs.Common.{◌++◌, ap, ◌∙◌, sym, codes}
 use Rattle.overview.specs.Amounts.{amounts_of}
 use Rattle.overview.specs.Gauges.{gauge}
 use Rattle.overview.specs.Queue.{peaks}
 use Rattle.overview.specs.Refusals.{refusals}
 use Rattle.picture.specs.View.{view_of}
-use Rattle.overview.proofs.Appending.{three}
+use Rattle.picture.proofs.Appending.{three}
 use Rattle.overview.proofs.document.put_gauges.Goals as goal
 
 pub returns : goal.returns

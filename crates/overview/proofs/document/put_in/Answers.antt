@@ -7,7 +7,7 @@ use Rattle.overview.specs.WaitsText.{waits_part}
 use Rattle.overview.specs.Wrong.{marked_at}
 use Rattle.overview.specs.inner.Counted.{AreShares}
 use Rattle.picture.specs.View.{view_of}
-use Rattle.overview.proofs.Appending.{seven}
+use Rattle.picture.proofs.Appending.{seven}
 use Rattle.overview.proofs.document.put_in.Goals as goal
 
 pub returns : goal.returns

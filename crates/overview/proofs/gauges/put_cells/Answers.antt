@@ -1,7 +1,6 @@
-use Rattle.std.proofs.Common.{◌≡◌, ◌++◌, ap, ◌∙◌, refl}
-use Rattle.std.specs.Prelude.{slice_index}
+use Rattle.std.proofs.Common.{◌≡◌, ◌++◌, ap, ◌∙◌, refl, slice_index}
 use Rattle.overview.specs.Gauges.{gauge_cell, gauge_cells}
-use Rattle.overview.proofs.Appending.{one_piece_more}
+use Rattle.picture.proofs.Appending.{one_piece_more}
 use Rattle.overview.proofs.gauges.put_cells.Goals as goal
 
 pub loop-column-preserved : goal.loop-column-preserved

@@ -1,7 +1,6 @@
-use Rattle.std.proofs.Common.{◌++◌, ◌+◌, ap, ◌∙◌}
-use Rattle.std.specs.Prelude.{codes}
+use Rattle.std.proofs.Common.{◌++◌, ◌+◌, ap, ◌∙◌, codes}
 use Rattle.picture.specs.Pieces.{placed}
-use Rattle.overview.proofs.Appending.{six}
+use Rattle.picture.proofs.Appending.{six}
 use Rattle.overview.proofs.gauges.put_gauge_words.Goals as goal
 
 pub returns : goal.returns

@@ -1,7 +1,6 @@
-use Rattle.std.proofs.Common.{◌++◌, ap, ◌∙◌}
-use Rattle.std.specs.Prelude.{codes}
+use Rattle.std.proofs.Common.{◌++◌, ap, ◌∙◌, codes}
 use Rattle.picture.specs.Pieces.{named}
-use Rattle.overview.proofs.Appending.{three}
+use Rattle.picture.proofs.Appending.{three}
 use Rattle.overview.proofs.gauges.put_shade_at.Goals as goal
 
 pub returns : goal.returns

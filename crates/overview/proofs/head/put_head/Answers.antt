@@ -2,7 +2,7 @@ use Rattle.std.proofs.Common.{◌++◌, ap, ◌∙◌}
 use Rattle.overview.specs.Frame.{width_of}
 use Rattle.overview.specs.Head.{head}
 use Rattle.picture.specs.Head.{opening_tag}
-use Rattle.overview.proofs.Appending.{four}
+use Rattle.picture.proofs.Appending.{four}
 use Rattle.overview.proofs.head.put_head.Goals as goal
 
 pub returns : goal.returns

@@ -1,7 +1,6 @@
-use Rattle.std.proofs.Common.{◌+◌, ◌++◌, ap, ◌∙◌}
-use Rattle.std.specs.Prelude.{codes}
+use Rattle.std.proofs.Common.{◌+◌, ◌++◌, ap, ◌∙◌, codes}
 use Rattle.picture.specs.Pieces.{named}
-use Rattle.overview.proofs.Appending.{five}
+use Rattle.picture.proofs.Appending.{five}
 use Rattle.overview.proofs.head.put_summed.Goals as goal
 
 pub returns : goal.returns

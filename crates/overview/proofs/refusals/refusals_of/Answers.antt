@@ -1,6 +1,6 @@
-use Rattle.std.proofs.Common.{◌≡◌, ◌∙◌, ap, get_or, length, refl, replicate, arith, rules}
+use Rattle.std.proofs.Common.{◌≡◌, ◌∙◌, ap, get_or, length, refl, replicate, arith, rules, take_all}
 use Rattle.std.specs.List.{count_by}
-use Rattle.std.proofs.lemmas.List.{get_or-replicate, length-replicate, take_all}
+use Rattle.std.proofs.lemmas.List.{get_or-replicate, length-replicate}
 use Rattle.overview.specs.Refusals.{is_refused_in, refused}
 use Rattle.overview.proofs.LevelsFollow.{counts_more}
 use Rattle.overview.proofs.TablesFollow.{table_is}

@@ -1,7 +1,6 @@
-use Rattle.std.proofs.Common.{◌++◌, ◌+◌, ap, ◌∙◌, refl}
-use Rattle.std.specs.Prelude.{slice_index}
+use Rattle.std.proofs.Common.{◌++◌, ◌+◌, ap, ◌∙◌, refl, slice_index}
 use Rattle.overview.specs.Rows.{row_if_any, rows}
-use Rattle.overview.proofs.Appending.{one_piece_more}
+use Rattle.picture.proofs.Appending.{one_piece_more}
 use Rattle.overview.proofs.rows.put_rows.Goals as goal
 
 pub loop-seat-preserved : goal.loop-seat-preserved

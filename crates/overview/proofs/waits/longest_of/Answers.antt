@@ -1,5 +1,4 @@
-use Rattle.std.proofs.Common.{◌∙◌, ap, arith}
-use Rattle.std.proofs.lemmas.List.{take_all}
+use Rattle.std.proofs.Common.{◌∙◌, ap, arith, take_all}
 use Rattle.overview.specs.Waits.{longest}
 use Rattle.overview.proofs.WaitsFollow.{five_at_most, kept_all, longest_more}
 use Rattle.picture.specs.Layout.{IsShort}

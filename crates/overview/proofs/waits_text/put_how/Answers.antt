@@ -1,5 +1,4 @@
-use Rattle.std.proofs.Common.{◌≡◌, ◌++◌, subst, sym}
-use Rattle.std.specs.Prelude.{OnOk}
+use Rattle.std.proofs.Common.{◌≡◌, ◌++◌, subst, sym, OnOk}
 use Rattle.overview.specs.WaitsText.{waited}
 use Rattle.overview.proofs.waits_text.put_how.Goals as goal
 

@@ -1,7 +1,6 @@
-use Rattle.std.proofs.Common.{◌+◌, ◌*◌, ◌++◌, ap, ◌∙◌}
-use Rattle.std.specs.Prelude.{codes}
+use Rattle.std.proofs.Common.{◌+◌, ◌*◌, ◌++◌, ap, ◌∙◌, codes}
 use Rattle.picture.specs.Pieces.{named}
-use Rattle.overview.proofs.Appending.{four}
+use Rattle.picture.proofs.Appending.{four}
 use Rattle.overview.proofs.waits_text.put_line.Goals as goal
 
 pub returns : goal.returns

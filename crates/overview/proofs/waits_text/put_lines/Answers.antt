@@ -1,7 +1,6 @@
-use Rattle.std.proofs.Common.{◌++◌, ap, ◌∙◌, refl}
-use Rattle.std.specs.Prelude.{slice_get}
+use Rattle.std.proofs.Common.{◌++◌, ap, ◌∙◌, refl, slice_get}
 use Rattle.overview.specs.WaitsText.{wait_at, wait_lines}
-use Rattle.overview.proofs.Appending.{one_piece_more}
+use Rattle.picture.proofs.Appending.{one_piece_more}
 use Rattle.overview.proofs.waits_text.put_lines.Goals as goal
 
 pub loop-place-preserved : goal.loop-place-preserved

@@ -1,4 +1,4 @@
-use Rattle.overview.proofs.Appending.{four}
+use Rattle.picture.proofs.Appending.{four}
 use Rattle.overview.proofs.waits_text.put_waited.Goals as goal
 
 pub returns : goal.returns

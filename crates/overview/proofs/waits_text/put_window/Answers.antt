@@ -1,7 +1,6 @@
-use Rattle.std.proofs.Common.{◌+◌, ◌++◌, ap, ◌∙◌}
-use Rattle.std.specs.Prelude.{codes, min}
+use Rattle.std.proofs.Common.{◌+◌, ◌++◌, ap, ◌∙◌, codes, min}
 use Rattle.picture.specs.Pieces.{named}
-use Rattle.overview.proofs.Appending.{two}
+use Rattle.picture.proofs.Appending.{two}
 use Rattle.overview.proofs.waits_text.put_window.Goals as goal
 
 pub returns : goal.returns

@@ -1,6 +1,5 @@
-use Rattle.std.proofs.Common.{◌++◌, ap, ◌∙◌, arith}
+use Rattle.std.proofs.Common.{◌++◌, ap, ◌∙◌, arith, take_all}
 use Rattle.std.specs.List.{flat_map}
-use Rattle.std.proofs.lemmas.List.{take_all}
 use Rattle.picture.specs.Curve.{run_of, runs_of}
 use Rattle.picture.proofs.Appending.{four, one_more}
 use Rattle.picture.proofs.curve.put_runs.Goals as goal

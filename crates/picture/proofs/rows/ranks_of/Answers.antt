@@ -1,8 +1,7 @@
 use mir.Val.{bool_byte}
 use Rattle.std.proofs.Common.{◌≡◌, suc, ◌+◌, ◌<◌, ◌∙◌, ◌++◌, ◌∷◌, [], false, ap, sym, subst, arith}
 use Rattle.std.proofs.lemmas.List.{get_or_read}
-use Rattle.drawing.specs.Levels.{one_if}
-use Rattle.history.specs.Base.{each_below}
+use Rattle.picture.specs.Below.{one_if, each_below}
 use Rattle.picture.specs.Rows.{AreRanks, has_row, rank}
 use Rattle.picture.specs.View.{view_of}
 use Rattle.picture.proofs.RowsFollow.{as_number, few_ranks, next, one_at_most}

@@ -1,8 +1,6 @@
 use Rattle.std.proofs.Common.{◌≡◌, ◌<◌, ◌||◌, ◌∙◌, Bool, List, drop, false, get_or, length, map, replicate, take, ap, arith, rules}
 use Rattle.std.proofs.lemmas.List.{get_or-replicate, length-replicate}
-use Rattle.drawing.specs.declared.bar.Bar.{Bar}
-use Rattle.history.specs.declared.entry.Entry.{Entry}
-use Rattle.history.specs.Sleepers.{has}
+use Rattle.picture.specs.Below.{Bar, Entry, has}
 use Rattle.picture.specs.Rows.{placed_entries}
 use Rattle.picture.specs.View.{view_of}
 use Rattle.picture.proofs.rows.seats_with_row.Goals as goal

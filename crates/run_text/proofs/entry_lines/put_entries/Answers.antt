@@ -1,12 +1,9 @@
 use Rattle.std.proofs.Common.{◌≡◌, ◌≤◌, ℕ, ◌+◌, List, ◌++◌, drop, length, reverse, take, take_all, ap, sym, ◌∙◌, subst, arith}
 use Rattle.std.proofs.lemmas.List.{length-reverse}
-use Rattle.history.specs.Text.{ended}
-use Rattle.history_text.specs.EntryLines.{entry_line}
-use Rattle.driver.specs.LineWriter.{IsGathered}
+use Rattle.run_text.specs.Below.{ended, entry_line, IsGathered, entry_lines}
 use Rattle.driver.proofs.Gathering.{gathered_more, gathers_failed}
 use Rattle.driver.proofs.Telling.{front_of_all}
 use Rattle.streams.proofs.Written.{not_true}
-use Rattle.history_text.specs.Pieces.{entry_lines}
 use Rattle.run_text.proofs.EntryLines.{entry_more, lines_begin}
 use Rattle.run_text.proofs.entry_lines.put_entries.Goals as goal
 

@@ -1,6 +1,5 @@
 use Rattle.std.proofs.Common.{◌≡◌, false, reverse, take}
-use Rattle.driver.specs.LineWriter.{IsGathered}
-use Rattle.history_text.specs.Pieces.{entry_lines}
+use Rattle.run_text.specs.Below.{IsGathered, entry_lines}
 use Rattle.run_text.proofs.entry_lines.put_entries.Given as goal
 
 abbrev pub invariant-loop-place : goal.invariant-loop-place

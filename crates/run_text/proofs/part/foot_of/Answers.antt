@@ -1,10 +1,7 @@
 use Rattle.std.proofs.Common.{◌≡◌, ◌+◌, ◌<◌, ◌^◌, ◌++◌, ℕ, List, ap, arith, length, ◌∙◌}
 use Rattle.history.proofs.AllCalls.{calls_told}
-use Rattle.history.specs.Base.{based}
-use Rattle.history.specs.Legal.{calls}
-use Rattle.history_text.specs.EntryLines.{counts_line}
+use Rattle.run_text.specs.Below.{based, calls, counts_line, Header}
 use Rattle.audit.proofs.Beginnings.{header_from}
-use Rattle.history.specs.declared.header.Header.{Header}
 use Rattle.run_text.specs.RunText.{base_of}
 use Rattle.run_text.proofs.Texts.{foot_lines}
 use Rattle.run_text.proofs.part.foot_of.Goals as goal

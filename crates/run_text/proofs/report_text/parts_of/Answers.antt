@@ -1,6 +1,5 @@
-use Rattle.std.proofs.Common.{rules, ◌≡◌, ◌∷◌, ap, arith, length, subst}
+use Rattle.std.proofs.Common.{rules, ◌≡◌, ◌∷◌, ap, arith, length, subst, string_bytes}
 use Rattle.std.specs.List.{All}
-use Rattle.std.specs.Prelude.{string_bytes}
 use Rattle.std.proofs.lemmas.List.Elements.{All-tail}
 use Rattle.script.specs.Script.{named}
 use Rattle.run_text.specs.inner.{IsJudged}

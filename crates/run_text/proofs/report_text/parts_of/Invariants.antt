@@ -1,6 +1,5 @@
 use Rattle.std.proofs.Common.{◌≡◌, ◌≤◌, ◌++◌, length}
-use Rattle.std.specs.List.{concat}
-use Rattle.std.specs.List.{All}
+use Rattle.std.specs.List.{concat, All}
 use Rattle.script.specs.Script.{named}
 use Rattle.run_text.specs.RunText.{parts_text}
 use Rattle.run_text.specs.inner.{IsJudged}

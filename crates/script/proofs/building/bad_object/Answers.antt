@@ -1,5 +1,4 @@
-use Rattle.std.proofs.Common.{arith, rules}
-use Rattle.std.specs.Prelude.{string_bytes}
+use Rattle.std.proofs.Common.{arith, rules, string_bytes}
 use Rattle.script.specs.Script.{IsObject}
 use Rattle.script.proofs.Firsts.{all_objects, object_at, one_more_object}
 use Rattle.script.proofs.building.bad_object.Goals as goal

@@ -1,5 +1,4 @@
-use Rattle.std.proofs.Common.{rules, arith, sym, ◌∙◌}
-use Rattle.std.specs.Prelude.{Some, None}
+use Rattle.std.proofs.Common.{rules, arith, sym, ◌∙◌, Some, None}
 use Rattle.std.proofs.lemmas.Str.Pattern.{split_parts}
 use Rattle.script.specs.Script.{named}
 use Rattle.script.proofs.Cutting.{cut, no_interrupt, no_object, no_action, interrupt_joined, name_joined}

@@ -1,5 +1,4 @@
-use Rattle.std.proofs.Common.{rules, arith, sym, ap, ◌∙◌}
-use Rattle.std.specs.Prelude.{Some}
+use Rattle.std.proofs.Common.{rules, arith, sym, ap, ◌∙◌, Some}
 use Rattle.serde_json.specs.View.{view}
 use Rattle.std.proofs.lemmas.Option.{same_Some}
 use Rattle.script.proofs.Values.{members_count}

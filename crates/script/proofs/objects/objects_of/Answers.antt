@@ -1,9 +1,7 @@
 use Rattle.std.proofs.Common.{◌≡◌, List, [], ◌∷◌, ◌++◌, Some, map, take, slice_get, length, sym, subst, ap, ◌∙◌, refl, ◌+◌}
 use Rattle.std.proofs.lemmas.Option.{slice_get_read}
 use Rattle.serde_json.specs.View.{view}
-use Rattle.script.specs.Reading.{SaysNoObject}
-use Rattle.script.specs.Saying.{Say, SaysObject}
-use Rattle.script.specs.Script.{Named, named}
+use Rattle.script.specs.Prelude.{SaysNoObject, Say, SaysObject, Named, named}
 use Rattle.script.proofs.ObjectLemmas.{inserted}
 use Rattle.script.proofs.SayingLemmas.{say_next, stops_here}
 use Rattle.script.proofs.objects.objects_of.Goals as goal

@@ -1,10 +1,7 @@
 use Rattle.std.proofs.Common.{◌≡◌, ℕ, List, [], map, length, sym, subst, ap, ◌∙◌, rules}
 use Rattle.std.proofs.lemmas.List.{length-map}
 use Rattle.serde_json.specs.View.{view}
-use Rattle.script.specs.Name.{IsName}
-use Rattle.script.specs.Reading.{Says}
-use Rattle.script.specs.Saying.{Say, SaysObject, SaysWorker}
-use Rattle.script.specs.Script.{named, ScriptView}
+use Rattle.script.specs.Prelude.{IsName, Says, Say, SaysObject, SaysWorker, named, ScriptView}
 use Rattle.script.proofs.SayingLemmas.{said_all}
 use Rattle.script.proofs.Scripts.{is_script}
 use Rattle.script.proofs.reading.read_script.Goals as goal

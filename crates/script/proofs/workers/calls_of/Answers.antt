@@ -1,10 +1,7 @@
 use Rattle.std.proofs.Common.{List, [], ◌∷◌, ◌++◌, map, take, length, sym, subst, refl, ◌+◌}
 use Rattle.std.proofs.lemmas.Option.{slice_get_read}
 use Rattle.serde_json.specs.View.{view}
-use Rattle.script.specs.Reading.{SaysNoCall}
-use Rattle.script.specs.Saying.{Say, SaysCall}
-use Rattle.script.specs.Script.{named}
-use Rattle.script.specs.declared.call.Call.{Call}
+use Rattle.script.specs.Prelude.{SaysNoCall, Say, SaysCall, named, Call}
 use Rattle.script.proofs.SayingLemmas.{say_next, stops_here}
 use Rattle.script.proofs.workers.calls_of.Goals as goal
 

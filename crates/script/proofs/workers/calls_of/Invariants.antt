@@ -1,7 +1,6 @@
 use Rattle.std.proofs.Common.{[], map, take}
 use Rattle.serde_json.specs.View.{view}
-use Rattle.script.specs.Saying.{Say, SaysCall}
-use Rattle.script.specs.Script.{named}
+use Rattle.script.specs.Prelude.{Say, SaysCall, named}
 use Rattle.script.proofs.workers.calls_of.Given as goal
 
 abbrev pub invariant-loop-place : goal.invariant-loop-place

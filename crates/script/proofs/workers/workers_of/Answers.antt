@@ -1,8 +1,7 @@
 use Rattle.std.proofs.Common.{List, [], ◌∷◌, ◌++◌, map, take, length, sym, subst, refl, ◌+◌}
 use Rattle.std.proofs.lemmas.Option.{slice_get_read}
 use Rattle.serde_json.specs.View.{view}
-use Rattle.script.specs.Saying.{Say, SaysWorker}
-use Rattle.script.specs.Script.{named, WorkerView}
+use Rattle.script.specs.Prelude.{Say, SaysWorker, named, WorkerView}
 use Rattle.script.proofs.SayingLemmas.{say_next}
 use Rattle.script.proofs.Scripts.{fault_passed}
 use Rattle.script.proofs.workers.workers_of.Goals as goal

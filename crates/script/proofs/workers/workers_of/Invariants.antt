@@ -1,7 +1,6 @@
 use Rattle.std.proofs.Common.{[], map, take, length}
 use Rattle.serde_json.specs.View.{view}
-use Rattle.script.specs.Saying.{Say, SaysWorker}
-use Rattle.script.specs.Script.{named}
+use Rattle.script.specs.Prelude.{Say, SaysWorker, named}
 use Rattle.script.proofs.workers.workers_of.Given as goal
 
 abbrev pub invariant-loop-thread : goal.invariant-loop-thread

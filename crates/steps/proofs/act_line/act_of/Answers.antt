@@ -1,8 +1,5 @@
-use Rattle.std.proofs.Common.{◌≡◌, ◌≢◌, ℕ, List, Option, Some, None}
-use Rattle.std.specs.Prelude.{IfNone, codes}
-use Rattle.frame.specs.declared.acts.Act.{Act}
-use Rattle.frame.specs.declared.acts.Act.TheVariants.{Do, Trim}
-use Rattle.history.specs.declared.step.Step.{Step}
+use Rattle.std.proofs.Common.{◌≡◌, ◌≢◌, ℕ, List, Option, Some, None, IfNone, codes}
+use Rattle.steps.specs.Below.{Act, Do, Trim, Step}
 use Rattle.steps.specs.declared.header.Format.TheVariants.{Two}
 use Rattle.steps.specs.declared.header.StepsHeader.{StepsHeader}
 use Rattle.steps.specs.StepLines.{IsAct, IsStep, act_line, step_line}

@@ -1,6 +1,4 @@
-use Rattle.std.proofs.Common.{◌≡◌, ℕ, ◌<◌, ◌≤◌, ◌^◌, List, ◌++◌, sym, ap, ◌∙◌, arith, decimal}
-use Rattle.std.specs.Prelude.{IsTrue, nat_eq, codes}
-use Rattle.std.proofs.lemmas.Bool.{eqb-true, eq-eqb}
+use Rattle.std.proofs.Common.{◌≡◌, ℕ, ◌<◌, ◌≤◌, ◌^◌, List, ◌++◌, sym, ap, ◌∙◌, arith, decimal, IsTrue, nat_eq, codes, eqb-true, eq-eqb}
 use Rattle.std.proofs.lemmas.Fmt.{decimal_injective}
 use Rattle.line_text.proofs.Lists.{same_behind}
 use Rattle.steps.specs.StepLines.{end_line}

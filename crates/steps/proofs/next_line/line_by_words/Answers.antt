@@ -1,5 +1,4 @@
-use Rattle.std.proofs.Common.{◌≡◌, ℕ, ◌<◌, ◌^◌, List, sym, ap, ◌∙◌, rules}
-use Rattle.std.proofs.lemmas.Bool.{eqb-true}
+use Rattle.std.proofs.Common.{◌≡◌, ℕ, ◌<◌, ◌^◌, List, sym, ap, ◌∙◌, rules, eqb-true}
 use Rattle.line_text.proofs.UnderWay.{IsEnd, all_read, more_behind}
 use Rattle.steps.specs.declared.header.StepsHeader.{StepsHeader}
 use Rattle.steps.specs.StepLines.{end_line}

@@ -1,5 +1,4 @@
-use Rattle.std.proofs.Common.{◌-◌, length, drop, arith}
-use Rattle.std.proofs.lemmas.List.{length-take, length-drop}
+use Rattle.std.proofs.Common.{◌-◌, length, drop, arith, length-take, length-drop}
 use Rattle.std.proofs.lemmas.Grind.{common_steps}
 use Rattle.streams.proofs.Written.{one_more, not_true}
 use Rattle.streams.proofs.writing.write_all.Goals as goal

@@ -1,7 +1,5 @@
-use Rattle.std.proofs.Common.{[], ap, ◌∙◌, ◌∷◌, None, arith, get_or}
-use Rattle.std.proofs.lemmas.List.{length-append}
-use Rattle.summing.specs.Tallies.{no_tally}
-use Rattle.summing.specs.Waits.{begun}
+use Rattle.std.proofs.Common.{[], ap, ◌∙◌, ◌∷◌, None, arith, get_or, length-append}
+use Rattle.summing.specs.Prelude.{no_tally, begun}
 use Rattle.summing.proofs.Tables.{pushed}
 use Rattle.summing.proofs.summing.seats_at_start.Goals as goal
 

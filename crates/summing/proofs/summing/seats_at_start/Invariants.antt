@@ -1,8 +1,6 @@
 use Rattle.std.proofs.Common.{◌≡◌, ◌<◌, ◌≤◌, ℕ, [], None, get_or, length, vec_capacity}
-use Rattle.history.specs.Start.{Start}
-use Rattle.audit.specs.Ledger.{LedgerStand}
-use Rattle.summing.specs.Tallies.{no_tally}
-use Rattle.summing.specs.Waits.{begun}
+use Rattle.summing.specs.Below.{Start, LedgerStand}
+use Rattle.summing.specs.Prelude.{no_tally, begun}
 use Rattle.summing.proofs.summing.seats_at_start.Given as goal
 
 -- a tally for each seat passed, and a place for each of the others

@@ -1,5 +1,4 @@
-use Rattle.std.proofs.Common.{rules, ◌≡◌, Err, subst, sym}
-use Rattle.std.specs.Prelude.{IfErr}
+use Rattle.std.proofs.Common.{rules, ◌≡◌, Err, subst, sym, IfErr}
 use Rattle.std.specs.Arc.{arc_value}
 use Rattle.tasks.specs.Timed.{IsFaultOfTimed}
 use Rattle.tasks.specs.declared.fault.Fault.TheVariants.{Run}

@@ -1,5 +1,4 @@
-use Rattle.std.proofs.Common.{ℕ, []}
-use Rattle.std.specs.Prelude.{reverse}
+use Rattle.std.proofs.Common.{ℕ, [], reverse}
 use Rattle.history.specs.Base.{opening_base}
 use Rattle.word_lock.specs.Point.{Agrees}
 use Rattle.test_threads.proofs.memory.a_lock_is_opened_whole_or_not_at_all.Given as goal

@@ -1,4 +1,4 @@
-use Rattle.web_page.proofs.Appending.{three}
+use Rattle.picture.proofs.Appending.{three}
 use Rattle.web_page.proofs.data.put_amounts_part.Goals as goal
 
 pub returns : goal.returns

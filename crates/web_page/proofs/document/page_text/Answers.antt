@@ -2,7 +2,7 @@ use Rattle.std.proofs.Common.{◌++◌, ap, ◌∙◌}
 use Rattle.std.specs.Option.{option_copied}
 use Rattle.picture.specs.View.{view_of}
 use Rattle.web_page.specs.Document.{page_in, page_text}
-use Rattle.web_page.proofs.Appending.{three}
+use Rattle.picture.proofs.Appending.{three}
 use Rattle.web_page.proofs.document.page_text.Goals as goal
 
 pub returns : goal.returns

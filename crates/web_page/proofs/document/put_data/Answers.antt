@@ -1,4 +1,4 @@
-use Rattle.web_page.proofs.Appending.{six}
+use Rattle.picture.proofs.Appending.{six}
 use Rattle.web_page.proofs.document.put_data.Goals as goal
 
 pub returns : goal.returns

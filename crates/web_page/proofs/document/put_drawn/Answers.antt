@@ -1,6 +1,6 @@
 use Rattle.std.proofs.Common.{◌++◌, ap, ◌∙◌}
 use Rattle.web_page.specs.Data.{amounts_part, bars_part, marks_part}
-use Rattle.web_page.proofs.Appending.{three}
+use Rattle.picture.proofs.Appending.{three}
 use Rattle.web_page.proofs.document.put_drawn.Goals as goal
 
 pub returns : goal.returns

@@ -1,5 +1,5 @@
 use Rattle.web_page.specs.Escape.{escaped_byte}
-use Rattle.web_page.proofs.Appending.{one_more}
+use Rattle.picture.proofs.Appending.{one_more}
 use Rattle.web_page.proofs.escape.put_escaped.Goals as goal
 
 pub loop-byte-preserved : goal.loop-byte-preserved

@@ -1,5 +1,5 @@
 use Rattle.web_page.specs.Rows.{amount_row}
-use Rattle.web_page.proofs.Appending.{one_more}
+use Rattle.picture.proofs.Appending.{one_more}
 use Rattle.web_page.proofs.lists.put_amounts.Goals as goal
 
 pub loop-amount-preserved : goal.loop-amount-preserved

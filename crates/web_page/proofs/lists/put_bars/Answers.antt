@@ -1,5 +1,5 @@
 use Rattle.web_page.specs.Rows.{bar_row}
-use Rattle.web_page.proofs.Appending.{one_more}
+use Rattle.picture.proofs.Appending.{one_more}
 use Rattle.web_page.proofs.lists.put_bars.Goals as goal
 
 pub loop-bar-preserved : goal.loop-bar-preserved

@@ -1,5 +1,5 @@
 use Rattle.web_page.specs.Rows.{entry_row}
-use Rattle.web_page.proofs.Appending.{one_more}
+use Rattle.picture.proofs.Appending.{one_more}
 use Rattle.web_page.proofs.lists.put_entries.Goals as goal
 
 pub loop-entry-preserved : goal.loop-entry-preserved

@@ -1,5 +1,5 @@
 use Rattle.web_page.specs.Rows.{mark_row}
-use Rattle.web_page.proofs.Appending.{one_more}
+use Rattle.picture.proofs.Appending.{one_more}
 use Rattle.web_page.proofs.lists.put_marks.Goals as goal
 
 pub loop-mark-preserved : goal.loop-mark-preserved

@@ -1,5 +1,5 @@
 use Rattle.web_page.specs.Start.{place_row}
-use Rattle.web_page.proofs.Appending.{one_more}
+use Rattle.picture.proofs.Appending.{one_more}
 use Rattle.web_page.proofs.start.put_places.Goals as goal
 
 pub loop-place-preserved : goal.loop-place-preserved

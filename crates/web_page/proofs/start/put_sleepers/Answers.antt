@@ -1,5 +1,5 @@
 use Rattle.web_page.specs.Start.{sleeper_row}
-use Rattle.web_page.proofs.Appending.{one_more}
+use Rattle.picture.proofs.Appending.{one_more}
 use Rattle.web_page.proofs.start.put_sleepers.Goals as goal
 
 pub loop-sleeper-preserved : goal.loop-sleeper-preserved

@@ -3,9 +3,7 @@ use Rattle.std.specs.declared.option.Option.{Option as Maybe}
 use Rattle.atomic_table.specs.Seated.{TableId}
 use Rattle.atomic_table.specs.Table.{Me}
 use Rattle.history.specs.declared.point.Point.{Point}
-use Rattle.word_lock.specs.declared.view.View.{View}
-use Rattle.word_lock.specs.Rule.{dealing_view, rest_of_view, front_of_view}
-use Rattle.word_lock.specs.Ticket.{Ticket, ticket, lock_id, opening_ticket, opening_tickets}
+use Rattle.word_lock.specs.Prelude.{View, dealing_view, rest_of_view, front_of_view, Ticket, ticket, lock_id, opening_ticket, opening_tickets}
 use Rattle.word_lock.proofs.Opening.{deal_one, deal_rest, opening_tickets_more}
 use Rattle.word_lock.proofs.dealing.deal.Goals as goal
 

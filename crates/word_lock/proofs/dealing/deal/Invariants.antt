@@ -1,6 +1,5 @@
 use Rattle.std.proofs.Common.{◌≡◌, ℕ, ◌+◌, ◌≤◌, [], vec_len, vec_capacity}
-use Rattle.word_lock.specs.Rule.{dealing_view}
-use Rattle.word_lock.specs.Ticket.{lock_id, opening_tickets}
+use Rattle.word_lock.specs.Prelude.{dealing_view, lock_id, opening_tickets}
 use Rattle.word_lock.proofs.dealing.deal.Given as goal
 
 abbrev pub invariant-loop-number : goal.invariant-loop-number

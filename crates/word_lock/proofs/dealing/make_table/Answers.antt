@@ -2,8 +2,7 @@ use Rattle.std.proofs.Common.{rules, ◌≡◌, ap, sym, subst, List, [], ◌∷
 use Rattle.std.specs.declared.option.Option.{Option as Maybe}
 use Rattle.atomic_table.specs.Table.{opening}
 use Rattle.history.specs.declared.point.Point.{Point}
-use Rattle.word_lock.specs.Point.{Agrees}
-use Rattle.word_lock.specs.Rule.{RuleHolds, first_view}
+use Rattle.word_lock.specs.Prelude.{Agrees, RuleHolds, first_view}
 use Rattle.word_lock.proofs.Opening.{opens}
 use Rattle.word_lock.proofs.dealing.make_table.Goals as goal
 

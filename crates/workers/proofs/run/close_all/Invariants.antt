@@ -1,6 +1,5 @@
 use Rattle.std.proofs.Common.{List, ◌++◌}
-use Rattle.workers.specs.declared.report.ObjectReport.{ObjectReport}
-use Rattle.workers.specs.Reports.{AreParts}
+use Rattle.workers.specs.Prelude.{ObjectReport, AreParts}
 use Rattle.workers.specs.inner.Homes.{HaveColumns}
 use Rattle.workers.proofs.run.close_all.Given as goal
 

@@ -1,8 +1,6 @@
 use Rattle.std.proofs.Common.{[], length, ap, sym, arith, ◌∙◌, map, replicate}
-use Rattle.monitor.specs.Lawful.{blank}
-use Rattle.monitor.specs.Shown.{opening_passes}
-use Rattle.workers.specs.Reports.{header_of, headers_of, opening_rows}
-use Rattle.workers.specs.Rows.{dealt}
+use Rattle.workers.specs.Below.{blank, opening_passes}
+use Rattle.workers.specs.Prelude.{header_of, headers_of, opening_rows, dealt}
 use Rattle.monitor.proofs.Opening.{opening_count}
 use Rattle.workers.proofs.Columns.{headers_more, rows_count, rows_more, rows_none}
 use Rattle.workers.proofs.run.open_all.Goals as goal

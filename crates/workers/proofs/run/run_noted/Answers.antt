@@ -1,7 +1,6 @@
 use Rattle.std.proofs.Common.{rules, ◌≡◌, [], length, ap, replicate, sym, subst, arith, ◌∙◌, Err, IfErr}
 use Rattle.std.proofs.lemmas.List.{length-replicate}
-use Rattle.workers.specs.Gates.{IsFaultOfRun}
-use Rattle.workers.specs.Reports.{AreParts, IsSound, dealt_all, opening_rows}
+use Rattle.workers.specs.Prelude.{IsFaultOfRun, AreParts, IsSound, dealt_all, opening_rows}
 use Rattle.workers.specs.inner.Homes.{HaveColumns}
 use Rattle.workers.specs.inner.Results.{passes_left}
 use Rattle.workers.proofs.Columns.{all_columns, each_part, part_sound, rows_count, rows_fit}

@@ -1,6 +1,5 @@
 use Rattle.std.proofs.Common.{rules, ◌≡◌, ◌<◌, length, ap, subst, ◌∙◌, set}
-use Rattle.script.specs.Script.{IsCall}
-use Rattle.script.specs.declared.call.Call.{Call}
+use Rattle.workers.specs.Below.{IsCall, Call}
 use Rattle.workers.proofs.Passing.{set_homes, acts_on, place_below}
 use Rattle.workers.specs.Calls.{IsCalled, fault_of}
 use Rattle.workers.specs.inner.Homes.{homes}

@@ -1,7 +1,5 @@
 use Rattle.std.proofs.Common.{◌≡◌, ◌+◌, ◌≤◌, List, reverse, take}
-use Rattle.workers.specs.declared.unrecorded.Unrecorded.{Unrecorded}
-use Rattle.workers.specs.Calls.{Made}
-use Rattle.workers.specs.Gates.{LetsBelow}
+use Rattle.workers.specs.Prelude.{Unrecorded, Made, LetsBelow}
 use Rattle.workers.specs.inner.Homes.{homes}
 use Rattle.workers.specs.inner.Keeping.{Adds}
 use Rattle.workers.proofs.work.make_round.Given as goal

@@ -1,8 +1,6 @@
 use Rattle.std.proofs.Common.{◌≡◌, ◌*◌, ◌≤◌, List, length}
 use Rattle.script.specs.declared.limits.TheConstants.{MOST_CALLS}
-use Rattle.workers.specs.declared.unrecorded.Unrecorded.{Unrecorded}
-use Rattle.workers.specs.Calls.{Made, rounds}
-use Rattle.workers.specs.Gates.{LetsBelow}
+use Rattle.workers.specs.Prelude.{Unrecorded, Made, rounds, LetsBelow}
 use Rattle.workers.specs.inner.Homes.{homes}
 use Rattle.workers.specs.inner.Keeping.{IsKept}
 use Rattle.workers.proofs.work.make_rounds.Given as goal

@@ -1,7 +1,6 @@
 use Rattle.std.proofs.Common.{◌≡◌, Some, sym, ap, ◌∙◌}
 use Rattle.std.proofs.lemmas.Option.{none-some, same_Some}
-use Rattle.history.specs.Line.{place_of}
-use Rattle.node_arena.specs.declared.node.Node.{Node}
+use Rattle.acquire_queue.specs.Below.{place_of, Node}
 use Rattle.acquire_queue.proofs.Nodes.{no_place, find_seat, found_under}
 use Rattle.acquire_queue.proofs.queue.Queue.arrival_of.Goals as goal
 

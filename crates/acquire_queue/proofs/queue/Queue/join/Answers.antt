@@ -1,5 +1,4 @@
-use Rattle.std.proofs.Common.{false, refl, ap, ◌∙◌, length, arith}
-use Rattle.std.proofs.lemmas.List.{length_push}
+use Rattle.std.proofs.Common.{false, refl, arith}
 use Rattle.acquire_queue.proofs.Nodes.{room, place_free, kept_joined, live-push}
 use Rattle.acquire_queue.proofs.queue.Queue.join.Goals as goal
 
@@ -26,8 +25,3 @@ returns-clause-line c =
       number = c.push_back-number.result;
       node = record { arrival = c.args.arrival; cancelled = false };
     }) c.self.inside.nodes.nodes refl)
-
-pub returns-clause-standing : goal.returns-clause-standing
-returns-clause-standing c =
-    rw (← c.self.view_is)
-    (ap length c.push_back-number.ensures.nodes ∙ length_push c.self.inside.nodes.nodes _)

@@ -1,5 +1,4 @@
-use Rattle.std.proofs.Common.{◌≡◌, length, Some, sym, ap, ◌∙◌, refl, arith}
-use Rattle.std.specs.Prelude.{is_some}
+use Rattle.std.proofs.Common.{◌≡◌, length, Some, sym, ap, ◌∙◌, refl, arith, is_some}
 use Rattle.acquire_queue.specs.Line.{number_of}
 use Rattle.acquire_queue.proofs.Lines.{left_absent}
 use Rattle.acquire_queue.proofs.Nodes.{no_place, stands_by, under_by, left_node, left_between, left_head_seat, few_behind_head, some_wait, kept_gone, kept_gone_swept, line_gone_swept, standing_left, standing_swept}
@@ -104,9 +103,8 @@ pub returns-then-len-self-clause-head : goal.returns-then-len-self-clause-head
 returns-then-len-self-clause-head c =
     let i = c.self.invariant in
     let stood = found (goal.at.returns-then-len-self-clause-head c).In-Some in
-    let stands = stands_by _ _ _ _ i c.args.seat c.in-Some.number stood in
     rw (← c.self.view_is) (λ first is own.
-    let some = some_wait _ _ _ _ i c.args.seat _ stands refl in
+    let some = some_wait _ _ _ _ i c.args.seat c.in-Some.number stood in
     let same = ap length (c.leave_node.ensures.nodes
     ∙ left_head_seat c.args.seat c.in-Some.number c.self.inside.nodes.nodes i.headed stood first is own) in
     absurd (omega (

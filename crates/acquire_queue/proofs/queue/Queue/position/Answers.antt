@@ -1,5 +1,4 @@
-use Rattle.std.proofs.Common.{◌≡◌, None, sym, ap, ◌∙◌, arith}
-use Rattle.std.specs.Prelude.{is_some}
+use Rattle.std.proofs.Common.{◌≡◌, None, sym, ap, ◌∙◌, arith, is_some}
 use Rattle.history.specs.Line.{place_of}
 use Rattle.acquire_queue.specs.Line.{live}
 use Rattle.acquire_queue.proofs.Lines.{found, found_none}

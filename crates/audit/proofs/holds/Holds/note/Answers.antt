@@ -1,7 +1,6 @@
 use Rattle.std.proofs.Common.{◌≡◌, ◌+◌, ◌-◌, sym, set, get_or, refl, ap, ◌∙◌, arith}
 use Rattle.std.proofs.lemmas.List.{get_or_read}
-use Rattle.history.specs.Counts.{holds_after}
-use Rattle.history.specs.Object.{is_lock}
+use Rattle.audit.specs.Below.{holds_after, is_lock}
 use Rattle.audit.specs.inner.Holds.{owner_after}
 use Rattle.audit.proofs.HoldsFollow.{stands_exclusive, stands_shared, exclusive_fits, shared_fits}
 use Rattle.audit.proofs.holds.Holds.note.Goals as goal

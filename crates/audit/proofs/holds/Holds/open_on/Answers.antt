@@ -1,8 +1,5 @@
 use Rattle.std.proofs.Common.{◌∙◌, ℕ, List, length, get_or, ap, arith}
-use Rattle.history.specs.declared.base.SeatBase.{SeatBase}
-use Rattle.history.specs.declared.entry.Mode.TheVariants.{X, S}
-use Rattle.history.specs.Base.{Base, nothing}
-use Rattle.history.specs.Counts.{seat_with, total}
+use Rattle.audit.specs.Below.{SeatBase, X, S, Base, nothing, seat_with, total}
 use Rattle.deciding.proofs.HeldTables.{readers_are, shared_few, table_length, tabled}
 use Rattle.audit.proofs.HoldsOnBase.{stands_on}
 use Rattle.audit.proofs.holds.Holds.open_on.Goals as goal

@@ -1,6 +1,5 @@
 use Rattle.std.proofs.Common.{◌≡◌, ◌∷◌, ◌∙◌, ap, sym, true, arith}
-use Rattle.history.specs.declared.header.Header.{Header}
-use Rattle.history.specs.Object.{is_lock}
+use Rattle.audit.specs.Below.{Header, is_lock}
 use Rattle.audit.proofs.Limits.{one_more, only_owner}
 use Rattle.audit.proofs.WaitingFollow.{next_movable}
 use Rattle.audit.proofs.ledger.Ledger.follow.Goals as goal

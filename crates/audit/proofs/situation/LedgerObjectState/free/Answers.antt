@@ -1,6 +1,5 @@
-use Rattle.std.proofs.Common.{◌≡◌, ◌∙◌, sym, subst}
+use Rattle.std.proofs.Common.{◌≡◌, ◌∙◌, sym, subst, FitsSigned}
 use Rattle.std.specs.Int.{w64, w128}
-use Rattle.std.specs.Prelude.{FitsSigned}
 use mir.Val.{to_z, of_z}
 use Rattle.std.proofs.lemmas.Int.{to_z-of_z}
 use Rattle.deciding.proofs.Bounds.{free_wide}

@@ -1,8 +1,5 @@
 use Rattle.std.proofs.Common.{◌∙◌, ap, length, map, arith}
-use Rattle.history.specs.declared.base.LinePlace.{LinePlace}
-use Rattle.history.specs.declared.header.Header.{Header}
-use Rattle.history.specs.Base.{Base, sleep_below}
-use Rattle.deciding.specs.Sleep.{sleep_of}
+use Rattle.audit.specs.Below.{LinePlace, Header, Base, sleep_below, sleep_of}
 use Rattle.audit.specs.inner.Waiting.{or_kept}
 use Rattle.audit.proofs.WaitingOnBase.{all_seated, are_sleepers, kept_behind, line_once, line_seated, line_short, stands_on}
 use Rattle.audit.proofs.waiting.Waiting.open_on.Goals as goal

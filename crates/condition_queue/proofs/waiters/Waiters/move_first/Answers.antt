@@ -1,6 +1,5 @@
 use Rattle.std.proofs.Common.{◌++◌, ◌∷◌, [], map, ap, ◌∙◌, sym}
-use Rattle.history.specs.declared.arrival.Arrival.{Arrival}
-use Rattle.history.specs.Line.{coming_back, place_of}
+use Rattle.condition_queue.specs.Below.{Arrival, coming_back, place_of}
 use Rattle.condition_queue.specs.Sleepers.{asleep_on, sleeper_of}
 use Rattle.condition_queue.proofs.Lists.{take_first, has_first}
 use Rattle.condition_queue.proofs.Moving.{nobody_first, moved_lists, moved_sleepers}

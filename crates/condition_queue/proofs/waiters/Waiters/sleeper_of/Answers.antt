@@ -1,5 +1,4 @@
-use Rattle.std.proofs.Common.{◌≡◌, ◌<◌, length, get_or, None, ap, ◌∙◌, sym, arith}
-use Rattle.std.proofs.lemmas.Bool.{ltb-true}
+use Rattle.std.proofs.Common.{◌≡◌, ◌<◌, length, get_or, None, ap, ◌∙◌, sym, arith, ltb-true}
 use Rattle.std.proofs.lemmas.List.{get_or_read}
 use Rattle.condition_queue.proofs.Kept.{condition_known}
 use Rattle.condition_queue.proofs.waiters.Waiters.sleeper_of.Goals as goal

@@ -1,10 +1,8 @@
-use Rattle.std.proofs.Common.{◌≡◌, ◌-◌, ap, ◌∙◌, subst, sym, arith}
-use Rattle.std.specs.Prelude.{FitsSigned, pos, ◌+ℤ◌, ◌-ℤ◌}
+use Rattle.std.proofs.Common.{◌≡◌, ◌-◌, ap, ◌∙◌, subst, sym, arith, FitsSigned, pos, ◌+ℤ◌, ◌-ℤ◌}
 use Rattle.std.specs.Int.{w128}
 use mir.Val.{to_z, of_z}
 use Rattle.std.proofs.lemmas.Int.{to_z-of_z}
-use Rattle.history.specs.Base.{Base}
-use Rattle.history.specs.Object.{created, opening_count}
+use Rattle.deciding.specs.Below.{Base, created, opening_count}
 use Rattle.history.proofs.SmallBases.{few_held}
 use Rattle.deciding.proofs.AmountsFollow.{base_amounts}
 use Rattle.deciding.proofs.amounts.Amounts.open_on.Goals as goal

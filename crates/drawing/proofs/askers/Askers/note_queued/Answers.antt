@@ -1,6 +1,5 @@
 use mir.Val.{bool_byte}
-use Rattle.std.proofs.Common.{◌<◌, ◌∷◌, false, get_or, length, set, ap, ◌∙◌, arith}
-use Rattle.std.proofs.lemmas.List.{length-set}
+use Rattle.std.proofs.Common.{◌<◌, ◌∷◌, false, get_or, length, set, ap, ◌∙◌, arith, length-set}
 use Rattle.summing.specs.Counting.{is_queued}
 use Rattle.drawing.specs.Levels.{one_if}
 use Rattle.drawing.proofs.AskersFollow.{as_number, asking_follows, others_stay, own_waits, with_own}

@@ -1,11 +1,7 @@
-use Rattle.std.proofs.Common.{◌≡◌, ◌<◌, ◌∙◌, ℕ, List, [], false, get_or, length, map, replicate, ap, rules}
-use Rattle.std.specs.Prelude.{is_some}
+use Rattle.std.proofs.Common.{◌≡◌, ◌<◌, ◌∙◌, ℕ, List, [], false, get_or, length, map, replicate, ap, rules, is_some}
 use Rattle.std.proofs.lemmas.List.{length-replicate}
 use Rattle.deciding.proofs.NewTables.{blank}
-use Rattle.history.specs.declared.base.LinePlace.{LinePlace}
-use Rattle.history.specs.Base.{Base, based}
-use Rattle.history.specs.Line.{place_of}
-use Rattle.summing.specs.Waits.{begun}
+use Rattle.drawing.specs.Below.{LinePlace, Base, based, place_of, begun}
 use Rattle.drawing.specs.inner.Askers.{asks_or, marked}
 use Rattle.drawing.proofs.AskersFollow.{all_marked, asks_at_first}
 use Rattle.drawing.proofs.askers.Askers.open_on.Goals as goal

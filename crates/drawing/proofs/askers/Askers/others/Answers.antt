@@ -1,6 +1,5 @@
-use Rattle.std.proofs.Common.{◌≡◌, false, ap, ◌∙◌, arith}
+use Rattle.std.proofs.Common.{◌≡◌, false, ap, ◌∙◌, arith, is_some}
 use mir.Val.{bool_byte}
-use Rattle.std.specs.Prelude.{is_some}
 use Rattle.std.proofs.lemmas.List.{get_or_read}
 use Rattle.summing.specs.Waits.{begun}
 use Rattle.drawing.proofs.AskersFollow.{as_number, askers_few, with_own}

@@ -2,8 +2,7 @@ use Rattle.std.proofs.Common.{◌<◌, ◌++◌, ap, ◌∙◌}
 use Rattle.std.specs.List.{flat_map}
 use Rattle.std.proofs.lemmas.List.Elements.{All-same}
 use Rattle.drawing.specs.declared.bar.Stretch.{Stretch}
-use Rattle.drawing.specs.Bars.{ended}
-use Rattle.drawing.specs.Stretches.{stretches}
+use Rattle.drawing.specs.Prelude.{ended, stretches}
 use Rattle.drawing.specs.inner.Stretches.{bar_of}
 use Rattle.drawing.proofs.StretchesFollow.{all_bars}
 use Rattle.drawing.proofs.TracksSeated.{stretches_before}

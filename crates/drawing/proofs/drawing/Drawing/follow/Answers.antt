@@ -2,22 +2,16 @@ use Rattle.std.proofs.Common.{◌≡◌, ℕ, ◌<◌, ◌≤◌, List, [], ◌+
 use Rattle.std.specs.List.{All, flat_map}
 use Rattle.std.specs.List.Sorted.{IsPermutation}
 use Rattle.std.proofs.lemmas.List.Elements.{All-same}
-use Rattle.history.specs.declared.header.Header.{Header}
+use Rattle.drawing.specs.Below.{Header, Entry, sleepers, Start}
 use Rattle.drawing.specs.declared.bar.Stretch.{Stretch}
-use Rattle.drawing.specs.Bars.{ended}
-use Rattle.drawing.specs.Stretches.{stretches}
+use Rattle.drawing.specs.Prelude.{ended, stretches, amount_of, curve, point, mark_of, marks, sign_at}
 use Rattle.drawing.specs.Drawing.{HasDrawn}
 use Rattle.drawing.specs.declared.drawing.Drawing.{Drawing}
 use Rattle.drawing.specs.declared.standings.TheConstants.{CONDITIONS}
 use Rattle.drawing.specs.inner.Places.{StayBeside, places_by}
 use Rattle.drawing.specs.inner.Stretches.{ending, going_on}
 use Rattle.drawing.proofs.PlacesFollow.{places_within, rest_stays}
-use Rattle.history.specs.declared.entry.Entry.{Entry}
-use Rattle.history.specs.Sleepers.{sleepers}
-use Rattle.history.specs.Start.{Start}
 use Rattle.drawing.proofs.StretchesFollow.{all_end, all_go_on, none_ends, none_goes_on}
-use Rattle.drawing.specs.Curve.{amount_of, curve, point}
-use Rattle.drawing.specs.Marks.{mark_of, marks, sign_at}
 use Rattle.drawing.proofs.MarksFollow.{no_mark, no_point, one_mark, one_point}
 use Rattle.drawing.proofs.TracksSeated.{stretches_before, stretches_seated}
 use Rattle.drawing.proofs.drawing.Drawing.follow.Goals as goal

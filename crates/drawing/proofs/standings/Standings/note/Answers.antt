@@ -1,15 +1,7 @@
-use Rattle.std.proofs.Common.{◌≡◌, ℕ, ◌<◌, Bool, true, false, ◌||◌, cond, [], List, length, get_or, set, refl, ap, ◌∙◌, sym, arith}
-use Rattle.std.specs.Prelude.{Result, Ok, Err, OnOk}
-use Rattle.std.proofs.lemmas.List.{get_or_default, length-set}
-use Rattle.history.specs.declared.entry.Entry.{Entry}
-use Rattle.history.specs.declared.entry.Mode.{Mode}
-use Rattle.history.specs.declared.entry.Mode.TheVariants.{X, S}
-use Rattle.history.specs.declared.entry.Word.{Word}
+use Rattle.std.proofs.Common.{◌≡◌, ℕ, ◌<◌, Bool, true, false, ◌||◌, cond, [], List, length, get_or, set, refl, ap, ◌∙◌, sym, arith, Result, Ok, Err, OnOk, length-set}
+use Rattle.std.proofs.lemmas.List.{get_or_default}
+use Rattle.drawing.specs.Below.{Entry, Mode, X, S, Word, Object, same_mode, MOST_BASE_PERMITS, has, sleepers_after}
 use Rattle.history.specs.declared.entry.Word.TheVariants as word
-use Rattle.history.specs.declared.header.Object.{Object}
-use Rattle.history.specs.Entry.{same_mode}
-use Rattle.history.specs.declared.limits.TheConstants.{MOST_BASE_PERMITS}
-use Rattle.history.specs.Sleepers.{has, sleepers_after}
 use Rattle.drawing.specs.declared.standings.TheConstants.{CONDITIONS}
 use Rattle.drawing.specs.inner.Tables.{holds_by, line_by, table_by, woken}
 use Rattle.deciding.proofs.HoldsFollow.{bound_follows}

@@ -1,11 +1,7 @@
 use Rattle.std.proofs.Common.{◌≡◌, ◌∙◌, ◌||◌, List, false, get_or, length, map, replicate, ap, rules}
 use Rattle.std.proofs.lemmas.List.{length-replicate}
-use Rattle.history.specs.declared.base.LinePlace.{LinePlace}
-use Rattle.history.specs.declared.entry.Mode.TheVariants.{X, S}
-use Rattle.history.specs.Base.{Base}
-use Rattle.history.specs.Line.{place_of}
+use Rattle.drawing.specs.Below.{LinePlace, X, S, Base, place_of, is_placed}
 use Rattle.deciding.proofs.HeldTables.{table_length, tabled}
-use Rattle.history.specs.Marks.{is_placed}
 use Rattle.drawing.proofs.StandingOnBase.{stands_on}
 use Rattle.drawing.proofs.standings.Standings.open_on.Goals as goal
 use Rattle.deciding.proofs.NewTables.{blank}

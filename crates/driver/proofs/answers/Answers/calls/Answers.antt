@@ -1,8 +1,5 @@
 use Rattle.std.proofs.Common.{◌≡◌, ◌<◌, ◌^◌, length, reverse, subst, arith, Option, Some, None}
-use Rattle.history.specs.declared.header.Header.{Header}
-use Rattle.history.specs.Base.{Base}
-use Rattle.history.specs.Entries.{IsBasedWell, ended_calls, or_opening, start_on}
-use Rattle.history.specs.GoodBase.{IsGood}
+use Rattle.driver.specs.Below.{Header, Base, IsBasedWell, ended_calls, or_opening, start_on, IsGood}
 use Rattle.history.proofs.AllCalls.{calls_told}
 use Rattle.history.proofs.Lists.{calls-ended, ended_append, ended_calls-reverse}
 use Rattle.driver.specs.Answers.{AllAnswers, all_of}

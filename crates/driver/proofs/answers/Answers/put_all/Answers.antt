@@ -1,14 +1,8 @@
 use Rattle.std.proofs.Common.{◌++◌, All, length, subst, append_assoc}
 use Rattle.std.proofs.lemmas.Result.{on_err_weaker, on_ok_weaker}
-use Rattle.history.specs.Entries.{ended_calls}
-use Rattle.history.specs.EntryWords.{IsSpelt}
-use Rattle.history.specs.Text.{ended}
-use Rattle.history_text.specs.EntryLines.{counts_line}
-use Rattle.driver.specs.Answers.{AllAnswers, all_of, remarks_in}
-use Rattle.driver.specs.Remarks.{told_lines}
-use Rattle.streams.specs.Writing.{AppendsFront}
-use Rattle.driver.proofs.Gathering.{front_longer, front_more, gathered_more, if_failed}
-use Rattle.driver.proofs.Gathering.{written_all, written_front}
+use Rattle.driver.specs.Below.{ended_calls, IsSpelt, ended, counts_line, AppendsFront}
+use Rattle.driver.specs.Prelude.{AllAnswers, all_of, remarks_in, told_lines}
+use Rattle.driver.proofs.Gathering.{front_longer, front_more, gathered_more, if_failed, written_all, written_front}
 use Rattle.driver.proofs.answers.Answers.put_all.Goals as goal
 
 pub put_lines-requires-clause-spelt : goal.put_lines-requires-clause-spelt

@@ -1,14 +1,8 @@
 use Rattle.std.proofs.Common.{◌∙◌, Err, ℕ, List, ap, arith, refl, subst}
-use Rattle.history.specs.Entries.{or_opening}
-use Rattle.line_text.specs.declared.fault.TextFault.{TextFault}
-use Rattle.line_text.specs.Reading.{IsReading}
+use Rattle.driver.specs.Below.{or_opening, TextFault, IsReading, history_form, StreamFault, Memory, Text, Seen}
 use Rattle.line_text.proofs.Faults.{err_is}
-use Rattle.history_text.specs.HistoryText.{history_form}
 use Rattle.history_text.proofs.HistoryLawful.{lawful}
 use Rattle.history_text.proofs.ShortEntries.{short}
-use Rattle.streams.specs.declared.stream_fault.StreamFault.{StreamFault}
-use Rattle.streams.specs.declared.stream_fault.StreamFault.TheVariants.{Memory, Text}
-use Rattle.streams.specs.Window.{Seen}
 use Rattle.driver.proofs.BaseAhead.{beginning_read, few_after, head_ahead}
 use Rattle.driver.proofs.ReadingAhead.{header_fault, reading_fault, unread_yet, whole_left}
 use Rattle.driver.proofs.history_reader.HistoryReader.open.Goals as goal

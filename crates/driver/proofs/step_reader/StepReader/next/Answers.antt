@@ -1,13 +1,11 @@
 use Rattle.std.proofs.Common.{arith, refl}
 use Rattle.std.proofs.KnownBytes.{Keeps-refl}
-use Rattle.line_text.specs.declared.fault.TextFault.TheVariants.{BadLine}
+use Rattle.driver.specs.Below.{BadLine, steps_form, steps_so_far}
 use Rattle.line_text.proofs.Faults.{err_is}
 use Rattle.steps.proofs.ShortSteps.{ended_short, short}
 use Rattle.steps.proofs.StepsLawful.{lawful}
-use Rattle.steps.specs.StepsText.{steps_form, steps_so_far}
 use Rattle.driver.specs.TextReader.{reader_at}
-use Rattle.driver.proofs.ReadingAhead.{ended_here, fault_ahead, item_ahead, keeps_stays}
-use Rattle.driver.proofs.ReadingAhead.{line_within, not_counted, stands_here, stands_still}
+use Rattle.driver.proofs.ReadingAhead.{ended_here, fault_ahead, item_ahead, keeps_stays, line_within, not_counted, stands_here, stands_still}
 use Rattle.driver.proofs.StepsAhead.{next_act}
 use Rattle.driver.proofs.step_reader.StepReader.next.Goals as goal
 

@@ -1,17 +1,10 @@
 use Rattle.std.proofs.Common.{◌≤◌, Err, ap, arith, length, refl}
-use Rattle.steps.specs.StepLines.{end_line}
-use Rattle.line_text.specs.declared.fault.TextFault.{TextFault}
-use Rattle.streams.specs.declared.stream_fault.StreamFault.{StreamFault}
-use Rattle.streams.specs.declared.stream_fault.StreamFault.TheVariants.{Text}
-use Rattle.streams.specs.Window.{room}
+use Rattle.driver.specs.Below.{end_line, TextFault, StreamFault, Text, room, steps_form, steps_so_far}
 use Rattle.line_text.proofs.Faults.{err_is}
-use Rattle.steps.specs.StepsText.{steps_form, steps_so_far}
 use Rattle.steps.proofs.ShortSteps.{ended_short, end_short, short}
 use Rattle.steps.proofs.StepsLawful.{lawful}
 use Rattle.driver.specs.TextReader.{reader_at}
-use Rattle.driver.proofs.ReadingAhead.{end_kept, ended_here, fault_ahead, item_ahead}
-use Rattle.driver.proofs.ReadingAhead.{item_kept, kept, line_within, next_kept, not_counted}
-use Rattle.driver.proofs.ReadingAhead.{read_failed, stands_after, stands_failed}
+use Rattle.driver.proofs.ReadingAhead.{end_kept, ended_here, fault_ahead, item_ahead, item_kept, kept, line_within, next_kept, not_counted, read_failed, stands_after, stands_failed}
 use Rattle.driver.proofs.StepsAhead.{next_act, next_short}
 use Rattle.driver.proofs.step_reader.StepReader.next_after_reading.Goals as goal
 

@@ -1,12 +1,8 @@
 use Rattle.std.proofs.Common.{refl, Err, ℕ, List, ap, subst}
-use Rattle.line_text.specs.declared.fault.TextFault.{TextFault}
-use Rattle.line_text.specs.Reading.{IsReading}
+use Rattle.driver.specs.Below.{TextFault, IsReading, steps_form, steps_so_far, StreamFault, Memory, Text}
 use Rattle.line_text.proofs.Faults.{err_is}
-use Rattle.steps.specs.StepsText.{steps_form, steps_so_far}
 use Rattle.steps.proofs.ShortSteps.{short}
 use Rattle.steps.proofs.StepsLawful.{lawful}
-use Rattle.streams.specs.declared.stream_fault.StreamFault.{StreamFault}
-use Rattle.streams.specs.declared.stream_fault.StreamFault.TheVariants.{Memory, Text}
 use Rattle.driver.proofs.ReadingAhead.{header_ahead, header_fault, header_kept, reading_fault, unread_yet, whole_left}
 use Rattle.driver.proofs.step_reader.StepReader.open.Goals as goal
 

@@ -1,8 +1,6 @@
 use Rattle.std.proofs.Common.{◌∷◌, ◌++◌, [], List, append_assoc, arith, subst}
-use Rattle.frame.specs.declared.acts.Act.{Act}
-use Rattle.steps.specs.StepsText.{steps_form}
-use Rattle.driver.specs.StepReader.{progress}
-use Rattle.driver.specs.TextReader.{WereRead}
+use Rattle.driver.specs.Below.{Act, steps_form}
+use Rattle.driver.specs.Prelude.{progress, WereRead}
 use Rattle.driver.proofs.ReadingAhead.{goes_on}
 use Rattle.driver.proofs.StepsAhead.{never_all}
 use Rattle.driver.proofs.step_reader.StepReader.read_to_fault.Goals as goal

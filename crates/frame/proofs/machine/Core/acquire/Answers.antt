@@ -1,6 +1,5 @@
 use Rattle.std.proofs.Common.{◌≡◌, ◌∙◌, Some, Ok, sym}
-use Rattle.history.specs.declared.step.Step.TheVariants.{Acquire}
-use Rattle.history.specs.Steps.{entry_for}
+use Rattle.frame.specs.Below.{Acquire, entry_for}
 use Rattle.frame.specs.Core.{start_of}
 use Rattle.frame.proofs.ByKind.{joins, passes}
 use Rattle.frame.proofs.Deciding.{step_next}
@@ -36,35 +35,9 @@ record-requires-then-takes g c =
 pub returns-then-queues : goal.returns-then-queues
 returns-then-queues g c =
     stepped c.args.self.now c.record.new.self c.args.seat (Acquire c.args.mode c.args.n) c.plain.result c.record.result
-    (queued g (goal.at.returns-then-queues g c).After-plain) (record {
-      recorded = c.record.ensures.recorded;
-      told = c.record.ensures.told;
-      header = c.record.ensures.header;
-      base = c.record.ensures.base;
-      fault = c.record.ensures.fault;
-      places = c.record.ensures.places;
-      refused = c.record.ensures.refused;
-      owed = c.record.ensures.owed;
-      grown = c.record.ensures.grown;
-      own = c.record.ensures.own;
-      names = c.record.ensures.names;
-      tidied = c.record.ensures.tidied;
-    })
+    (queued g (goal.at.returns-then-queues g c).After-plain) c.record.ensures
 
 pub returns-then-takes : goal.returns-then-takes
 returns-then-takes g c =
     stepped c.args.self.now c.record-then-takes.new.self c.args.seat (Acquire c.args.mode c.args.n) c.plain-then-takes.result c.record-then-takes.result
-    (got g (goal.at.returns-then-takes g c).After-plain-then-takes) (record {
-      recorded = c.record-then-takes.ensures.recorded;
-      told = c.record-then-takes.ensures.told;
-      header = c.record-then-takes.ensures.header;
-      base = c.record-then-takes.ensures.base;
-      fault = c.record-then-takes.ensures.fault;
-      places = c.record-then-takes.ensures.places;
-      refused = c.record-then-takes.ensures.refused;
-      owed = c.record-then-takes.ensures.owed;
-      grown = c.record-then-takes.ensures.grown;
-      own = c.record-then-takes.ensures.own;
-      names = c.record-then-takes.ensures.names;
-      tidied = c.record-then-takes.ensures.tidied;
-    })
+    (got g (goal.at.returns-then-takes g c).After-plain-then-takes) c.record-then-takes.ensures

@@ -1,9 +1,6 @@
 use Rattle.std.proofs.Common.{◌≡◌, ◌∙◌, ap, sym, subst}
-use Rattle.history.specs.declared.header.Header.{Header}
-use Rattle.history.specs.Counts.{counts}
-use Rattle.history.specs.Entries.{start_on}
-use Rattle.frame.specs.Core.{CoreView, start_of}
-use Rattle.frame.specs.Hooks.{level_of}
+use Rattle.frame.specs.Below.{Header, counts, start_on}
+use Rattle.frame.specs.Prelude.{CoreView, start_of, level_of}
 use Rattle.frame.proofs.Bounds.{level_most}
 use Rattle.frame.proofs.Stepping.{history_of}
 use Rattle.frame.proofs.machine.Core.available.Goals as goal

@@ -1,13 +1,9 @@
 use Rattle.std.proofs.Common.{◌≡◌, ℕ, ◌+◌, ◌-◌, ◌<◌, ◌≤◌, ◌^◌, [], length, set, Option, None, Ok, ◌∙◌, ap, sym, subst, refl, arith}
-use Rattle.history.specs.Counts.{counts}
-use Rattle.history.specs.Entries.{base_on, start_on}
-use Rattle.history.specs.Line.{line}
-use Rattle.history.specs.Room.{releases, reserves}
-use Rattle.frame.specs.Core.{CoreView, IsAdded, start_of, with_history}
-use Rattle.frame.specs.Seat.{seat_behind, told_in}
+use Rattle.frame.specs.Below.{counts, base_on, start_on, line, releases, reserves}
+use Rattle.frame.specs.Prelude.{CoreView, IsAdded, start_of, with_history, seat_behind, told_in}
 use Rattle.frame.proofs.AtOnce.{keeps_still, joined_still, names_nobody}
 use Rattle.frame.proofs.Telling.{table_behind}
-use Rattle.frame.proofs.Stepping.{Grown, Names, Needs, Next, next_seen, within, needs, grown, is_added, stands_next, exclusive_next, shared_next}
+use Rattle.frame.proofs.Stepping.{Grown, Names, Needs, Next, next_seen, within, needs, grown, is_added, stands_next, calls_next, exclusive_next, shared_next}
 use Rattle.frame.proofs.machine.Core.enter.Goals as goal
 use Rattle.frame.proofs.machine.Core.enter.Goals.{After-owed-was_owed, After-owed_behind-owed, After-add}
 
@@ -82,6 +78,12 @@ change-requires g c =
     let a = c.self.inside in
     let n = next g (goal.at.change-requires g c).After-owed-was_owed in
     (counts (start_on a.header a.history) a.history.entries, c.self.invariant.hooks, n.allowed)
+
+pub update-requires-clause-calls : goal.update-requires-clause-calls
+update-requires-clause-calls g c =
+    let a = c.self.inside in
+    let n = next g (goal.at.update-requires-clause-calls g c).After-owed-was_owed in
+    calls_next a.header a.history c.args.entry.seat c.self.invariant n.seat
 
 pub update-requires-clause-exclusive : goal.update-requires-clause-exclusive
 update-requires-clause-exclusive g c =

@@ -1,6 +1,5 @@
 use Rattle.std.proofs.Common.{◌≡◌, Some, Ok}
-use Rattle.history.specs.declared.step.Step.TheVariants.{Give}
-use Rattle.history.specs.Steps.{entry_for}
+use Rattle.frame.specs.Below.{Give, entry_for}
 use Rattle.frame.specs.Core.{start_of}
 use Rattle.frame.proofs.AtOnce.{gives_so}
 use Rattle.frame.proofs.Deciding.{step_next}
@@ -23,17 +22,4 @@ record-requires g c =
 pub returns-then-gives : goal.returns-then-gives
 returns-then-gives g c =
     stepped c.args.self.now c.record.new.self c.args.seat (Give c.args.mode c.args.n) c.plain.result c.record.result
-    (gave g (goal.at.returns-then-gives g c).After-plain) (record {
-      recorded = c.record.ensures.recorded;
-      told = c.record.ensures.told;
-      header = c.record.ensures.header;
-      base = c.record.ensures.base;
-      fault = c.record.ensures.fault;
-      places = c.record.ensures.places;
-      refused = c.record.ensures.refused;
-      owed = c.record.ensures.owed;
-      grown = c.record.ensures.grown;
-      own = c.record.ensures.own;
-      names = c.record.ensures.names;
-      tidied = c.record.ensures.tidied;
-    })
+    (gave g (goal.at.returns-then-gives g c).After-plain) c.record.ensures

@@ -1,7 +1,6 @@
 use Rattle.std.proofs.Common.{◌≡◌, ◌∙◌, ap, subst}
 use Rattle.history.specs.Could.{held_back}
-use Rattle.frame.specs.Core.{CoreView, counts_of}
-use Rattle.frame.specs.Hooks.{line_mode}
+use Rattle.frame.specs.Prelude.{CoreView, counts_of, line_mode}
 use Rattle.frame.proofs.machine.Core.holds_back.Goals as goal
 
 pub returns : goal.returns

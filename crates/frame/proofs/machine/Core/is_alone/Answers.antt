@@ -3,8 +3,7 @@ use Rattle.history.specs.Entries.{start_on}
 use Rattle.deciding.proofs.Bounds.{waits_by}
 use Rattle.condition_queue.proofs.Movable.{sleeps_is}
 use Rattle.frame.specs.inner.AtOnce.{IsAlone}
-use Rattle.frame.specs.Core.{CoreView, with_history}
-use Rattle.frame.specs.Seat.{told_in}
+use Rattle.frame.specs.Prelude.{CoreView, with_history, told_in}
 use Rattle.frame.proofs.AtOnce.{alone}
 use Rattle.frame.proofs.Stepping.{history_of}
 use Rattle.frame.proofs.machine.Core.is_alone.Goals as goal

@@ -1,13 +1,9 @@
-use Rattle.std.proofs.Common.{◌≡◌, ◌∙◌, ℕ, ◌<◌, get_or, ap, sym, subst, arith, rules, tests}
-use Rattle.std.specs.Prelude.{is_some}
+use Rattle.std.proofs.Common.{◌≡◌, ◌∙◌, ℕ, ◌<◌, get_or, ap, sym, subst, arith, rules, tests, is_some}
 use Rattle.std.specs.List.{list_any}
 use Rattle.std.proofs.lemmas.Iterator.{YieldsList-from_slice}
 use Rattle.std.proofs.lemmas.Iterator.Search.{any_from_yields_List}
-use Rattle.history.specs.declared.header.Header.{Header}
-use Rattle.history.specs.Counts.{counts, owner}
-use Rattle.history.specs.Entries.{start_on}
-use Rattle.frame.specs.Core.{CoreView, start_of}
-use Rattle.frame.specs.Seat.{IsSeat, no_holds}
+use Rattle.frame.specs.Below.{Header, counts, owner, start_on}
+use Rattle.frame.specs.Prelude.{CoreView, start_of, IsSeat, no_holds}
 use Rattle.frame.proofs.Bounds.{holds_exclusively, held_by_any}
 use Rattle.frame.proofs.machine.Core.is_held.Goals as goal
 

@@ -1,11 +1,9 @@
 use Rattle.std.proofs.Common.{◌∙◌, ap, not, subst}
-use Rattle.history.specs.Entries.{start_on}
-use Rattle.history.specs.Line.{place_of}
+use Rattle.frame.specs.Below.{start_on, place_of}
 use Rattle.deciding.proofs.Bounds.{waits_by}
 use Rattle.condition_queue.proofs.Movable.{sleeps_is}
 use Rattle.frame.specs.inner.AtOnce.{IsIdle}
-use Rattle.frame.specs.Core.{CoreView, with_history}
-use Rattle.frame.specs.Seat.{told_in}
+use Rattle.frame.specs.Prelude.{CoreView, with_history, told_in}
 use Rattle.frame.proofs.ByKind.{idle}
 use Rattle.frame.proofs.Stepping.{history_of}
 use Rattle.frame.proofs.machine.Core.is_idle.Goals as goal

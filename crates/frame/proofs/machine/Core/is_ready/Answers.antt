@@ -1,10 +1,5 @@
-use Rattle.std.proofs.Common.{◌≡◌, ◌∙◌, Some, true, ap, subst, sym}
-use Rattle.std.proofs.lemmas.Bool.{eq-eqb}
-use Rattle.history.specs.Could.{is_seat}
-use Rattle.history.specs.Counts.{counts}
-use Rattle.history.specs.Entries.{start_on}
-use Rattle.history.specs.Line.{first_of, line}
-use Rattle.history.specs.Naming.{ready_by}
+use Rattle.std.proofs.Common.{◌≡◌, ◌∙◌, Some, true, ap, subst, sym, eq-eqb}
+use Rattle.frame.specs.Below.{is_seat, counts, start_on, first_of, line, ready_by}
 use Rattle.frame.specs.Core.{CoreView, start_of}
 use Rattle.frame.specs.inner.Core.{ready_of}
 use Rattle.frame.proofs.ByKind.{ready_is}

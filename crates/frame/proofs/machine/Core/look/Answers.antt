@@ -1,7 +1,5 @@
 use Rattle.std.proofs.Common.{◌≡◌, ◌∙◌, Some, Ok, ap, sym, subst}
-use Rattle.history.specs.declared.step.Step.TheVariants.{Look}
-use Rattle.history.specs.Line.{first_of, line, place_of}
-use Rattle.history.specs.Steps.{entry_for}
+use Rattle.frame.specs.Below.{Look, first_of, line, place_of, entry_for}
 use Rattle.frame.specs.Core.{CoreView, start_of}
 use Rattle.frame.proofs.ByKind.{takes_turn, waits_on}
 use Rattle.frame.proofs.Deciding.{step_next}
@@ -36,17 +34,4 @@ returns-then-is_some g c =
 pub returns-else-first : goal.returns-else-first
 returns-else-first g c =
     stepped c.args.self.now c.record.new.self c.args.seat Look c.granted.result c.record.result
-    (granted g (goal.at.returns-else-first g c).After-granted) (record {
-      recorded = c.record.ensures.recorded;
-      told = c.record.ensures.told;
-      header = c.record.ensures.header;
-      base = c.record.ensures.base;
-      fault = c.record.ensures.fault;
-      places = c.record.ensures.places;
-      refused = c.record.ensures.refused;
-      owed = c.record.ensures.owed;
-      grown = c.record.ensures.grown;
-      own = c.record.ensures.own;
-      names = c.record.ensures.names;
-      tidied = c.record.ensures.tidied;
-    })
+    (granted g (goal.at.returns-else-first g c).After-granted) c.record.ensures

@@ -1,9 +1,5 @@
 use Rattle.std.proofs.Common.{◌≡◌, [], replicate, ap, ◌∙◌, sym, subst, rules}
-use Rattle.history.specs.declared.header.Header.{Header}
-use Rattle.history.specs.declared.header.Object.{Object}
-use Rattle.history.specs.Base.{opening_base}
-use Rattle.history.specs.Fold.{MayFold}
-use Rattle.history.specs.Header.{IsInRange}
+use Rattle.frame.specs.Below.{Header, Object, opening_base, MayFold, IsInRange}
 use Rattle.frame.specs.Seat.{no_holds}
 use Rattle.frame.proofs.Opening.{opening_stands}
 use Rattle.frame.proofs.Telling.{marks_free, marks_seen}

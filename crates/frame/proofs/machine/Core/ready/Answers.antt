@@ -1,8 +1,5 @@
 use Rattle.std.proofs.Common.{◌≡◌, ◌∙◌, ap, subst}
-use Rattle.history.specs.Counts.{counts}
-use Rattle.history.specs.Entries.{start_on}
-use Rattle.history.specs.Line.{first_of}
-use Rattle.history.specs.Naming.{ready_by}
+use Rattle.frame.specs.Below.{counts, start_on, first_of, ready_by}
 use Rattle.frame.specs.Core.{CoreView}
 use Rattle.frame.specs.inner.Core.{ready_of}
 use Rattle.frame.proofs.machine.Core.ready.Goals as goal

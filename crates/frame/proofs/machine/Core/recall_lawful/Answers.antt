@@ -1,16 +1,9 @@
 use Rattle.std.proofs.Common.{◌≡◌, ◌+◌, ◌^◌, ◌<◌, ◌≤◌, ◌∙◌, length, sym, subst, arith}
 use Rattle.std.proofs.lemmas.List.{length-map}
-use Rattle.history.specs.Base.{based}
-use Rattle.history.specs.Entries.{base_on}
-use Rattle.history.specs.Fold.{MayFold}
-use Rattle.history.specs.Legal.{IsLegal, AreSeated}
-use Rattle.history.specs.Marks.{AreTold, StandInLine}
-use Rattle.history.specs.Order.{IsInOrder, IsFairOrder}
-use Rattle.history.specs.Room.{owed}
+use Rattle.frame.specs.Below.{based, base_on, MayFold, IsLegal, AreSeated, AreTold, StandInLine, IsInOrder, IsFairOrder, owed}
 use Rattle.history.proofs.GoodBases.{good_waits}
 use Rattle.history.proofs.Passing.{fair_order, in_order_from}
-use Rattle.frame.specs.declared.seat.Seat.{Seat}
-use Rattle.frame.specs.Core.{CoreView, marks_of, start_of}
+use Rattle.frame.specs.Prelude.{Seat, CoreView, marks_of, start_of}
 use Rattle.frame.proofs.Telling.{marks_seen}
 use Rattle.frame.proofs.machine.Core.recall_lawful.Goals as goal
 

@@ -1,17 +1,17 @@
-use Rattle.std.proofs.Common.{rules, subst}
-use Rattle.history.proofs.Answering.{entry_seat}
-use Rattle.frame.specs.Core.{CoreView, start_of, IsTold}
+use Rattle.std.proofs.Common.{None, Ok, sym, subst}
+use Rattle.frame.specs.Below.{Recorded}
+use Rattle.frame.specs.Core.{CoreView, IsStepped}
+use Rattle.frame.proofs.Past.{done_alone}
 use Rattle.frame.proofs.machine.Core.step.Goals as goal
 
-pub returns-in-Some-clause-own : goal.returns-in-Some-clause-own
-returns-in-Some-clause-own g c =
-    let v = c.args.self.now in
-    entry_seat (start_of v) v.entries c.args.seat c.args.step c.in-Some.entry c.in-Some.ensures.done.made
+pub returns-in-Some : goal.returns-in-Some
+returns-in-Some g c =
+    let done = c.in-Some.ensures.done in
+    subst (λ x. IsStepped c.args.self.now c.args.seat c.args.step (Ok (Recorded x None)) c.step_alone.new.self)
+    (sym done.is)
+    (done_alone c.args.self.now c.step_alone.new.self c.args.seat c.args.step c.in-Some.entry done)
 
-pub returns-in-None-clause-told : goal.returns-in-None-clause-told
-returns-in-None-clause-told g c =
-    subst (λ (v : CoreView). IsTold v c.args.seat c.step_by_kind.result c.step_by_kind.new.self)
-    c.in-None.ensures.none c.step_by_kind.ensures.told
-
-pub returns-in-Some-clause-names : goal.returns-in-Some-clause-names
-returns-in-Some-clause-names g c = search rules
+pub returns-in-None : goal.returns-in-None
+returns-in-None g c =
+    subst (λ (v : CoreView). IsStepped v c.args.seat c.args.step c.step_by_kind.result c.step_by_kind.new.self)
+    c.in-None.ensures.none c.step_by_kind.ensures

@@ -1,6 +1,5 @@
 use Rattle.std.proofs.Common.{◌≡◌, ◌∙◌, Some, Ok, ap, sym, subst}
-use Rattle.history.specs.declared.entry.Entry.{Entry}
-use Rattle.history.specs.Steps.{entry_for}
+use Rattle.frame.specs.Below.{Entry, entry_for}
 use Rattle.frame.specs.inner.AtOnce.{MakesAtOnce}
 use Rattle.frame.specs.Core.{start_of}
 use Rattle.frame.proofs.Deciding.{step_next}

@@ -1,7 +1,6 @@
 use Rattle.std.proofs.Common.{◌≡◌, ◌<◌, ◌∙◌, Some, ap, sym, subst}
-use Rattle.frame.specs.Core.{CoreView, unmarked_at, with_history}
+use Rattle.frame.specs.Prelude.{CoreView, unmarked_at, with_history, told_in}
 use Rattle.frame.specs.inner.Core.{ready_of}
-use Rattle.frame.specs.Seat.{told_in}
 use Rattle.frame.proofs.Stepping.{stands_untold}
 use Rattle.frame.proofs.Telling.{view_untold}
 use Rattle.frame.proofs.machine.Core.untell.Goals as goal

@@ -1,21 +1,12 @@
-use Rattle.std.proofs.Common.{◌≡◌, ℕ, ◌+◌, ◌-◌, ◌<◌, ◌≤◌, ◌^◌, ◌∷◌, cond, length, Option, None, Result, Ok, Err, ◌∙◌, ap, sym, subst, arith, rules}
-use Rattle.std.proofs.lemmas.List.{length-set}
-use Rattle.std.specs.Prelude.{IfSome}
-use Rattle.history.specs.Counts.{counts}
-use Rattle.history.specs.declared.fault.Fault.{Fault}
-use Rattle.history.specs.Entries.{base_on, start_on}
-use Rattle.history.specs.Naming.{named, ready}
-use Rattle.history.specs.Room.{releases, reserves}
-use Rattle.condition_queue.specs.Following.{Keeps}
-use Rattle.frame.specs.Core.{CoreView, IsAdded, with_history}
+use Rattle.std.proofs.Common.{◌≡◌, ℕ, ◌+◌, ◌-◌, ◌<◌, ◌≤◌, ◌^◌, ◌∷◌, cond, length, Option, None, Result, Ok, Err, ◌∙◌, ap, sym, subst, arith, rules, length-set, IfSome}
+use Rattle.frame.specs.Below.{counts, Fault, base_on, start_on, named, ready, releases, reserves, Keeps}
+use Rattle.frame.specs.Prelude.{CoreView, IsAdded, with_history, counts_after, seat_behind, telling, told_in}
 use Rattle.frame.specs.inner.Core.{ready_of}
-use Rattle.frame.specs.Effects.{counts_after}
 use Rattle.frame.specs.inner.Effects.{asks_before}
-use Rattle.frame.specs.Seat.{seat_behind, telling, told_in}
 use Rattle.condition_queue.proofs.Movable.{joined_next, movable, keeps_next}
 use Rattle.frame.proofs.Telling.{table_behind}
 use Rattle.frame.proofs.Naming.{named_below, named_now}
-use Rattle.frame.proofs.Stepping.{Grown, Names, Needs, Next, next_seen, within, needs, refused, grown, is_added, stands_next, exclusive_next, history_of, shared_next}
+use Rattle.frame.proofs.Stepping.{Grown, Names, Needs, Next, next_seen, within, needs, refused, grown, is_added, stands_next, calls_next, exclusive_next, history_of, shared_next}
 use Rattle.frame.proofs.machine.Core.write.Goals as goal
 use Rattle.frame.proofs.machine.Core.write.Goals.{After-owed-was_owed, After-owed_behind-owed, After-whom_named-name, After-tell}
 
@@ -151,6 +142,12 @@ move_waiters-requires g c =
           movable (start_on a.header a.history) h c.args.entry a.queue a.waiters (b.entries + length h)
           s.waiting s.joins few (history_of s) n.can.seated.0 n.known;
     }
+
+pub update-requires-clause-calls : goal.update-requires-clause-calls
+update-requires-clause-calls g c =
+    let a = c.self.inside in
+    let n = next g (goal.at.update-requires-clause-calls g c).After-owed-was_owed in
+    calls_next a.header a.history c.args.entry.seat c.self.invariant n.seat
 
 pub update-requires-clause-exclusive : goal.update-requires-clause-exclusive
 update-requires-clause-exclusive g c =

@@ -1,10 +1,7 @@
 use Rattle.std.proofs.Common.{rules, ◌≡◌, Bool, true, false, Ok, Err, refl, sym, subst, ◌∙◌}
 use Rattle.std.specs.Fn.{FnReturns, FnReturnsAt}
 use Rattle.monitor.specs.declared.how.How.TheVariants.{Interruptible}
-use Rattle.guarded.specs.Asking.{CallReturns, awaits}
-use Rattle.guarded.specs.Reading.{Sees}
-use Rattle.guarded.specs.Stowed.{MutexView}
-use Rattle.guarded.specs.Waiting.{WaitFailed, Waited, WaitsWhile, owner}
+use Rattle.guarded.specs.Prelude.{CallReturns, awaits, Sees, MutexView, WaitFailed, Waited, WaitsWhile, owner}
 use Rattle.guarded.proofs.Waits.{waited_again, waits_there}
 use Rattle.guarded.proofs.guard.Guard.wait_while.Goals as goal
 

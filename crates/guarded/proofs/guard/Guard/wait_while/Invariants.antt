@@ -1,12 +1,7 @@
 use Rattle.std.proofs.Common.{◌≡◌}
 use Rattle.std.specs.Fn.{FnReturnsAt}
-use Rattle.monitor.specs.Stepping.{IsSame}
-use Rattle.monitor.specs.declared.how.How.TheVariants.{Interruptible}
-use Rattle.monitor_fronts.specs.Holding.{holds}
-use Rattle.guarded.specs.Asking.{CallReturns, awaits}
-use Rattle.guarded.specs.Guarding.{Guards}
-use Rattle.guarded.specs.Stowed.{Kept}
-use Rattle.guarded.specs.Waiting.{Waited, WaitsWhile, owner}
+use Rattle.guarded.specs.Below.{IsSame, Interruptible, holds}
+use Rattle.guarded.specs.Prelude.{CallReturns, awaits, Guards, Kept, Waited, WaitsWhile, owner}
 use Rattle.guarded.proofs.guard.Guard.wait_while.Given as goal
 
 abbrev pub invariant-loop : goal.invariant-loop

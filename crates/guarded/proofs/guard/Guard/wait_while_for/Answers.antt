@@ -1,109 +1,33 @@
-use Rattle.std.proofs.Common.{rules, ◌≡◌, Bool, true, false, Ok, Err, refl, sym, subst, ◌∙◌}
-use Rattle.std.specs.Fn.{FnReturns, FnReturnsAt}
-use Rattle.monitor.specs.Acquire.{moment_after}
-use Rattle.guarded.specs.Reading.{Sees}
-use Rattle.guarded.specs.Stowed.{MutexView}
-use Rattle.guarded.specs.Waiting.{AwaitsUntil, WaitFailed, Waited, WaitsWhile, owner}
-use Rattle.guarded.proofs.Waits.{waited_again, waits_there}
+use Rattle.std.proofs.Common.{ℕ, Bool}
+use Rattle.std.specs.Fn.{FnReturnsAt}
+use Rattle.history.specs.declared.fault.Fault.{Fault}
+use Rattle.guarded.specs.Prelude.{AwaitsUntil, WaitFailed, Waited, WaitsWhile, owner}
+use Rattle.guarded.proofs.Waits.{err_since, ok_since, was_up}
 use Rattle.guarded.proofs.guard.Guard.wait_while_for.Goals as goal
 
-pub returns-then-not-predicate-clause-over : goal.returns-then-not-predicate-clause-over
-returns-then-not-predicate-clause-over g c =
-    let is : c.predicate.result ≡ false = search rules in (
-      c.value.result.now,
-      sym c.value.ensures.value,
-      record {
-        shown = c.value.result;
-        shows = refl;
-        says = subst (λ (b : Bool). FnReturns g.F.Fn c.args.predicate (c.value.result, tt) b) is
-            record { met = c.predicate.ensures };
-      },
-    )
+pub returns-clause-in_time : goal.returns-clause-in_time
+returns-clause-in_time g c = λ told.
+    was_up (g.P.Parking.did c.args.self.now.parking.now) c.now-begun.result c.args.ms c.moment_after.result
+    c.now-begun.ensures c.moment_after.ensures (c.wait_while_until.ensures.in_time told)
 
-pub returns-then-end-moment-clause-over : goal.returns-then-end-moment-clause-over
-returns-then-end-moment-clause-over g c =
-    let is : c.predicate.result ≡ true = search rules in (
-      c.value.result.now,
-      sym c.value.ensures.value,
-      record {
-        shown = c.value.result;
-        shows = refl;
-        says = subst (λ (b : Bool). FnReturns g.F.Fn c.args.predicate (c.value.result, tt) b) is
-            record { met = c.predicate.ensures };
-      },
-    )
+pub returns-clause-waited : goal.returns-clause-waited
+returns-clause-waited g c =
+    let did = g.P.Parking.did c.args.self.now.parking.now in
+    ok_since did c.now-begun.result c.args.ms c.moment_after.result c.now-begun.ensures c.moment_after.ensures
+    (λ (end : ℕ) (is_over : Bool). Waited
+    (WaitsWhile (FnReturnsAt g.F.Fn c.args.predicate) (AwaitsUntil did
+    c.args.self.now.lock.now.when_full c.args.condition end))
+    (owner c.args.self.now.pass.now c.args.self.now.slot)
+    (owner c.wait_while_until.new.self.pass.now c.wait_while_until.new.self.slot))
+    c.wait_while_until.result c.wait_while_until.ensures.waited
 
-pub loop-preserved : goal.loop-preserved
-loop-preserved g c =
-    let is : c.predicate.result ≡ true = search rules in
-    let sees : Sees (FnReturnsAt g.F.Fn c.args.predicate) c.loop.self.slot true = (
-      c.value.result.now,
-      sym c.value.ensures.value,
-      record {
-        shown = c.value.result;
-        shows = refl;
-        says = subst (λ (b : Bool). FnReturns g.F.Fn c.args.predicate (c.value.result, tt) b) is
-            record { met = c.predicate.ensures };
-      },
-    ) in
-    let awaited : AwaitsUntil (g.P.Parking.did c.loop.self.parking.now) c.loop.self.lock.now.when_full
-    c.args.condition (moment_after c.now-begun.result c.args.ms)
-    c.loop.self.pass.now c.wait_for.new.self.pass.now (Ok c.in_ok-wait_for.field-0) = search rules in
-    let one = WaitsWhile (FnReturnsAt g.F.Fn c.args.predicate) (AwaitsUntil
-    (g.P.Parking.did c.args.self.now.parking.now) c.args.self.now.lock.now.when_full c.args.condition
-    (moment_after c.now-begun.result c.args.ms)) in
-    let next : Waited one (owner c.args.self.now.pass.now c.args.self.now.slot)
-    (owner c.wait_for.new.self.pass.now c.wait_for.new.self.slot)
-    = waited_again one (owner c.args.self.now.pass.now c.args.self.now.slot)
-    (owner c.loop.self.pass.now c.loop.self.slot)
-    (owner c.wait_for.new.self.pass.now c.wait_for.new.self.slot)
-    c.in_ok-wait_for.field-0 c.loop.invariant.9
-    (waits_there (FnReturnsAt g.F.Fn c.args.predicate)
-    (λ (m : MutexView) (place : _). AwaitsUntil (g.P.Parking.did place) m.when_full
-    c.args.condition (moment_after c.now-begun.result c.args.ms))
-    (owner c.loop.self.pass.now c.loop.self.slot)
-    (owner c.wait_for.new.self.pass.now c.wait_for.new.self.slot)
-    (Ok c.in_ok-wait_for.field-0) c.loop.invariant.3 c.loop.invariant.4 sees awaited) in (
-      tt,
-      tt,
-      c.wait_for.ensures.same_reference ∙ c.loop.invariant.2,
-      c.wait_for.ensures.same_lock.0 ∙ c.loop.invariant.3,
-      c.wait_for.ensures.same_lock.1 ∙ c.loop.invariant.4,
-      c.wait_for.ensures.guards,
-      c.wait_for.ensures.kept,
-      search rules,
-      c.wait_for.ensures.keeps ∙ c.loop.invariant.8,
-      next,
-    )
-
-pub returns-in_err-wait_for-clause-failed : goal.returns-in_err-wait_for-clause-failed
-returns-in_err-wait_for-clause-failed g c =
-    let is : c.predicate.result ≡ true = search rules in
-    let sees : Sees (FnReturnsAt g.F.Fn c.args.predicate) c.loop.self.slot true = (
-      c.value.result.now,
-      sym c.value.ensures.value,
-      record {
-        shown = c.value.result;
-        shows = refl;
-        says = subst (λ (b : Bool). FnReturns g.F.Fn c.args.predicate (c.value.result, tt) b) is
-            record { met = c.predicate.ensures };
-      },
-    ) in
-    let awaited : AwaitsUntil (g.P.Parking.did c.loop.self.parking.now) c.loop.self.lock.now.when_full
-    c.args.condition (moment_after c.now-begun.result c.args.ms)
-    c.loop.self.pass.now c.wait_for.new.self.pass.now (Err c.in_err-wait_for.field-0.0) = search rules in
-    let one = WaitsWhile (FnReturnsAt g.F.Fn c.args.predicate) (AwaitsUntil
-    (g.P.Parking.did c.args.self.now.parking.now) c.args.self.now.lock.now.when_full c.args.condition
-    (moment_after c.now-begun.result c.args.ms)) in
-    let failed : WaitFailed one (owner c.args.self.now.pass.now c.args.self.now.slot)
-    (owner c.wait_for.new.self.pass.now c.wait_for.new.self.slot) c.in_err-wait_for.field-0.0 = (
-      owner c.loop.self.pass.now c.loop.self.slot,
-      c.loop.invariant.9,
-      waits_there (FnReturnsAt g.F.Fn c.args.predicate)
-          (λ (m : MutexView) (place : _). AwaitsUntil (g.P.Parking.did place) m.when_full
-          c.args.condition (moment_after c.now-begun.result c.args.ms))
-          (owner c.loop.self.pass.now c.loop.self.slot)
-          (owner c.wait_for.new.self.pass.now c.wait_for.new.self.slot)
-          (Err c.in_err-wait_for.field-0.0) c.loop.invariant.3 c.loop.invariant.4 sees awaited,
-    ) in
-    search rules
+pub returns-clause-failed : goal.returns-clause-failed
+returns-clause-failed g c =
+    let did = g.P.Parking.did c.args.self.now.parking.now in
+    err_since did c.now-begun.result c.args.ms c.moment_after.result c.now-begun.ensures c.moment_after.ensures
+    (λ (end : ℕ) (fault : Fault). WaitFailed
+    (WaitsWhile (FnReturnsAt g.F.Fn c.args.predicate) (AwaitsUntil did
+    c.args.self.now.lock.now.when_full c.args.condition end))
+    (owner c.args.self.now.pass.now c.args.self.now.slot)
+    (owner c.wait_while_until.new.self.pass.now c.wait_while_until.new.self.slot) fault)
+    c.wait_while_until.result c.wait_while_until.ensures.failed

@@ -1,8 +1,6 @@
 use Rattle.std.proofs.Common.{◌≡◌, List, sym, subst}
 use Rattle.std.specs.List.{All}
-use Rattle.monitor.specs.Lawful.{blank}
-use Rattle.monitor.specs.Shown.{Shown}
-use Rattle.monitor_fronts.specs.Holding.{holds}
+use Rattle.guarded.specs.Below.{blank, Shown, holds}
 use Rattle.monitor_fronts.proofs.Counting.{none_yet}
 use Rattle.guarded.proofs.mutex.Mutex+T+I.open_keeping.Goals as goal
 

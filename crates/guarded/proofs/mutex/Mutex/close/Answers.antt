@@ -1,6 +1,5 @@
 use Rattle.std.proofs.Common.{subst}
-use Rattle.history.specs.Counts.{counts}
-use Rattle.history.specs.Entries.{start_on}
+use Rattle.guarded.specs.Below.{counts, start_on}
 use Rattle.guarded.specs.inner.Stowed.{value_in}
 use Rattle.guarded.specs.Stowed.{MutexView, Rests}
 use Rattle.guarded.proofs.Stowing.{kept_value, rests_as, value_as}

@@ -1,5 +1,4 @@
-use Rattle.history.specs.declared.entry.Mode.TheVariants.{S}
-use Rattle.monitor_fronts.specs.Holding.{Takes, with_yes}
+use Rattle.guarded.specs.Below.{S, Takes, with_yes}
 use Rattle.monitor_fronts.proofs.Owning.{read_takes}
 use Rattle.guarded.proofs.Calling.{is_of_lock}
 use Rattle.guarded.proofs.mutex.Mutex.end_reading.Goals as goal

@@ -1,8 +1,6 @@
 use Rattle.std.proofs.Common.{subst}
-use Rattle.history.specs.Counts.{counts}
-use Rattle.history.specs.Entries.{start_on}
-use Rattle.guarded.specs.Shelved.{Lies}
-use Rattle.guarded.specs.Stowed.{MutexView}
+use Rattle.guarded.specs.Below.{counts, start_on}
+use Rattle.guarded.specs.Prelude.{Lies, MutexView}
 use Rattle.guarded.proofs.Shelving.{lies_available}
 use Rattle.guarded.proofs.pool.Pool.close.Goals as goal
 

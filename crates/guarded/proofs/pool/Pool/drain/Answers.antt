@@ -1,10 +1,7 @@
 use Rattle.std.proofs.Common.{◌∙◌, ℕ, Result, sym, ap, length, subst}
-use Rattle.history.specs.declared.fault.Fault.{Fault}
-use Rattle.monitor_fronts.specs.Permits.{DrainsFree}
-use Rattle.monitor_fronts.specs.Returned.{number_of}
+use Rattle.guarded.specs.Below.{Fault, DrainsFree, number_of}
 use Rattle.monitor_fronts.proofs.Permits.{drains_left, drains_take_free}
-use Rattle.guarded.specs.Pooling.{drains}
-use Rattle.guarded.specs.Stowed.{MutexView}
+use Rattle.guarded.specs.Prelude.{drains, MutexView}
 use Rattle.guarded.proofs.Fetching.{as_many, drained_items}
 use Rattle.guarded.proofs.Shelving.{in_none}
 use Rattle.guarded.proofs.pool.Pool.drain.Goals as goal

@@ -1,8 +1,5 @@
 use Rattle.std.proofs.Common.{◌∙◌, refl, sym, ap, subst}
-use Rattle.history.specs.Header.{IsInRange}
-use Rattle.history.specs.declared.header.Object.{Object}
-use Rattle.frame.specs.Core.{header_of}
-use Rattle.monitor.specs.Load.{opened_counts}
+use Rattle.guarded.specs.Below.{IsInRange, Object, header_of, opened_counts}
 use Rattle.guarded.specs.Shelved.{Lies}
 use Rattle.guarded.proofs.Shelving.{short}
 use Rattle.guarded.proofs.pool.Pool.open_keeping.Goals as goal

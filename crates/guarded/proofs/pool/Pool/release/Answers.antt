@@ -1,8 +1,7 @@
 use Rattle.std.proofs.Common.{rules, ◌≡◌, ◌∙◌, ℕ, Bool, true, false, Ok, Result, sym, ap, subst}
-use Rattle.history.specs.declared.fault.Fault.{Fault}
+use Rattle.guarded.specs.Below.{Fault, is_done}
 use Rattle.guarded.specs.declared.asking.PoolCall.TheVariants as asks
 use Rattle.guarded.specs.Pooling.{Answers, gives_back}
-use Rattle.monitor_fronts.specs.Returned.{is_done}
 use Rattle.guarded.specs.inner.Pooling.{has_after}
 use Rattle.guarded.proofs.pool.Pool.release.Goals as goal
 

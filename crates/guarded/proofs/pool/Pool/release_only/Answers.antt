@@ -1,6 +1,5 @@
 use Rattle.std.proofs.Common.{ℕ, true, Ok, Err, subst}
-use Rattle.guarded.specs.Asking.{CallReturns}
-use Rattle.guarded.specs.Pooling.{gives_back}
+use Rattle.guarded.specs.Prelude.{CallReturns, gives_back}
 use Rattle.guarded.proofs.pool.Pool.release_only.Goals as goal
 
 pub returns-in-Ok-clause-returned : goal.returns-in-Ok-clause-returned

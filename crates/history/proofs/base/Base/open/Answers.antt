@@ -1,6 +1,5 @@
 use Rattle.std.proofs.Common.{[], subst, sym, ◌∙◌}
-use Rattle.history.specs.Base.{Base, nothing}
-use Rattle.history.specs.Fold.{MayFold}
+use Rattle.history.specs.Prelude.{Base, nothing, MayFold}
 use Rattle.history.proofs.Folding.{each_same}
 use Rattle.history.proofs.FoldSteps.{may_open}
 use Rattle.history.proofs.base.Base.open.Goals as goal

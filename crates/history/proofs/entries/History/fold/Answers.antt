@@ -1,10 +1,6 @@
-use Rattle.std.proofs.Common.{true, false, ◌≡◌, ◌+◌, ◌<◌, [], reverse, subst, sym, ◌∙◌, refl}
+use Rattle.std.proofs.Common.{true, false, ◌≡◌, ◌+◌, ◌<◌, [], reverse, subst, sym, ◌∙◌, refl, IsSomeAnd, Option}
 use Rattle.std.proofs.lemmas.List.{length-reverse}
-use Rattle.std.specs.Prelude.{IsSomeAnd, Option}
-use Rattle.history.specs.declared.limits.TheConstants.{MOST_FOLDED}
-use Rattle.history.specs.Base.{Base}
-use Rattle.history.specs.Entries.{HistoryView}
-use Rattle.history.specs.Fold.{MayFold}
+use Rattle.history.specs.Prelude.{MOST_FOLDED, Base, HistoryView, MayFold}
 use Rattle.history.proofs.FoldSteps.{may_next}
 use Rattle.history.proofs.entries.History.fold.Goals as goal
 

@@ -1,6 +1,4 @@
-use Rattle.history.specs.EntryReading.{entry_at}
-use Rattle.history.specs.EntryWords.{entry_words}
-use Rattle.history.specs.Text.{line_of}
+use Rattle.history.specs.Prelude.{entry_at, entry_words, line_of}
 use Rattle.history.proofs.EntryAgain.{entry_again}
 use Rattle.history.proofs.Readers.{unread, not_all_read, is_line_of}
 use Rattle.history.proofs.entry.Entry.read_words.Goals as goal

@@ -1,5 +1,4 @@
-use Rattle.std.proofs.Common.{rules}
-use Rattle.std.specs.Prelude.{◌++◌, [], codes, decimal}
+use Rattle.std.proofs.Common.{rules, ◌++◌, [], codes, decimal}
 use Rattle.history.specs.Spelling.{policy_word}
 use Rattle.history.proofs.Writing.{rest_put}
 use Rattle.history.proofs.header.Header.put_part.Goals as goal

@@ -1,7 +1,5 @@
-use Rattle.std.proofs.Common.{arith, [], ◌∷◌, ◌++◌, length, ap, subst, sym, ◌∙◌}
-use Rattle.std.proofs.lemmas.List.{length-append}
-use Rattle.std.specs.Prelude.{vec_capacity}
-use Rattle.history.specs.inner.Paged.{AreKept}
+use Rattle.std.proofs.Common.{arith, [], ◌∷◌, ◌++◌, length, ap, subst, sym, ◌∙◌, length-append, vec_capacity}
+use Rattle.history.specs.inner.Paged.{AreKept, used}
 use Rattle.history.proofs.Paging.{kept_add, kept_full, kept_length, page_there}
 use Rattle.history.proofs.pages.Pages.add.Goals as goal
 
@@ -11,18 +9,18 @@ overflow_add-self c =
     let k = c.self.invariant.0 in
     let few = k.few in
     let fits = k.fits in
-    let full = kept_full a.others.items a.full a.hand.items (vec_capacity a.hand) k in
+    let full = kept_full (used a.full a.others.items) a.full a.hand.items (vec_capacity a.hand) k in
     omega (arith, few, fits, full, c.self.invariant.1)
 
 pub invariant_of-self : goal.invariant_of-self
 invariant_of-self c =
     let a = c.self.inside in
-    let ps = c.find_place.new.others.items in
     let n = c.find_place.new.full in
+    let ps = used n c.find_place.new.others.items in
     let h = c.find_place.new.hand in
     let k = c.find_place.ensures.kept in
     let room = page_there ps n h.items (vec_capacity h) k c.find_place.ensures.place in
-    let before = kept_length a.others.items a.full a.hand.items (vec_capacity a.hand) c.self.invariant.0 in
+    let before = kept_length (used a.full a.others.items) a.full a.hand.items (vec_capacity a.hand) c.self.invariant.0 in
     let now = kept_length ps n h.items (vec_capacity h) k in
     let same = ap length c.find_place.ensures.entries in
     let longer = ap length c.push_reserved.ensures.items ∙ length-append h.items (c.args.entry ∷ []) in (

@@ -1,11 +1,8 @@
 use Rattle.std.proofs.Common.{◌+◌, ◌∷◌, ◌++◌, ℕ, Err, refl, sym, ap, subst, ◌∙◌, arith}
 use Rattle.std.proofs.lemmas.Bool.{false≢true}
-use Rattle.history.specs.Base.{Base}
-use Rattle.line_text.specs.declared.fault.TextFault.TheVariants.{BadLine}
+use Rattle.history_text.specs.Below.{Base, BadLine}
 use Rattle.line_text.proofs.Growing.{broken}
-use Rattle.history_text.specs.BaseLines.{base_line}
-use Rattle.history_text.specs.BaseRules.{AllSeated}
-use Rattle.history_text.specs.NextLine.{IsBaseLineNext}
+use Rattle.history_text.specs.Prelude.{base_line, AllSeated, IsBaseLineNext}
 use Rattle.history_text.proofs.BaseLinesRead.{begins_next, few, has_whole, may_next, view_of, whole_has}
 use Rattle.history_text.proofs.BaseReadings.{bad_long, bad_other, bad_told, lacks_line}
 use Rattle.history_text.proofs.base_under_way.BaseUnderWay.next.Goals as goal

@@ -1,5 +1,4 @@
-use Rattle.std.proofs.Common.{◌∙◌, arith}
-use Rattle.std.proofs.lemmas.List.{length-set}
+use Rattle.std.proofs.Common.{◌∙◌, arith, length-set}
 use Rattle.history_text.proofs.CountingUp.{counted_up}
 use Rattle.history_text.proofs.spelt_number.SpeltNumber.count_up.Goals as goal
 

@@ -1,6 +1,5 @@
 use Rattle.std.proofs.Common.{◌≡◌, Some, None, sym, subst, ◌∙◌}
-use Rattle.monitor.specs.declared.waiting.Limits.{Limits}
-use Rattle.monitor.specs.Machine.{limits_at}
+use Rattle.monitor.specs.Prelude.{Limits, limits_at}
 use Rattle.monitor.proofs.TurnByTurn.{WasParked, comes_at}
 use Rattle.monitor.proofs.interrupts.Interrupts.next_woke.Goals as goal
 

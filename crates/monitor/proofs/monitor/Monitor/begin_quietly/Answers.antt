@@ -1,8 +1,6 @@
 use Rattle.std.proofs.Common.{rules, ◌≡◌, None, sym, ◌∙◌, subst, ℕ, ap}
 use Rattle.history.specs.declared.step.Step.{Step}
-use Rattle.monitor.specs.Load.{Brings, LetsGo, given_by, holds_of}
-use Rattle.monitor.specs.Machine.{step_by}
-use Rattle.monitor.specs.Stepping.{IsStep, answer_of}
+use Rattle.monitor.specs.Prelude.{Brings, LetsGo, given_by, holds_of, step_by, IsStep, answer_of}
 use Rattle.monitor.proofs.TurnByTurn.{begins_awake, busy_now, stepped_now, step_gives_none, step_lets}
 use Rattle.monitor.proofs.monitor.Monitor.begin_quietly.Goals.{In-Some}
 use Rattle.monitor.proofs.monitor.Monitor.begin_quietly.Goals as goal

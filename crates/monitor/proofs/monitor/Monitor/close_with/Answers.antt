@@ -1,22 +1,9 @@
 use Rattle.std.proofs.Common.{rules, ◌≡◌, ◌<◌, ◌≤◌, ◌^◌, ℕ, List, [], ◌∷◌, ◌++◌, length, Some, append_assoc, refl, sym, ap, ◌∙◌, subst, arith}
 use Rattle.std.specs.List.{All}
 use Rattle.std.proofs.lemmas.List.Elements.{All-nil, All-cons}
-use Rattle.deciding.specs.Balance.{balance}
-use Rattle.frame.specs.Core.{CoreView}
-use Rattle.history.specs.Base.{Base, based}
-use Rattle.history.specs.declared.header.Header.{Header}
-use Rattle.history.specs.Entries.{IsBasedWell, base_on, or_opening, start_on}
-use Rattle.history.specs.Counts.{counts}
-use Rattle.history.specs.Legal.{calls}
-use Rattle.history.specs.declared.point.Point.{Point}
-use Rattle.word_lock.specs.declared.view.SeatLog.{SeatLog}
-use Rattle.word_lock.specs.Point.{Before, Agrees}
-use Rattle.word_lock.specs.Rule.{AllAgree, AreDistinct}
-use Rattle.word_lock.specs.Ticket.{LockId}
+use Rattle.monitor.specs.Below.{balance, CoreView, Base, based, Header, IsBasedWell, base_on, or_opening, start_on, counts, calls, Point, SeatLog, Before, Agrees, AllAgree, AreDistinct, LockId}
 use Rattle.word_lock.proofs.PointLaws.{before_refl}
-use Rattle.monitor.specs.Lawful.{point_of, start_at, IsLawful}
-use Rattle.monitor.specs.Shown.{Shown, IsSound}
-use Rattle.monitor.specs.Closing.{IsBased, left_by, shares, passes_of}
+use Rattle.monitor.specs.Prelude.{point_of, start_at, IsLawful, Shown, IsSound, IsBased, left_by, shares, passes_of}
 use Rattle.monitor.proofs.Opening.{shown_as, header_shown}
 use Rattle.monitor.proofs.Sections.{all_calls_few}
 use Rattle.monitor.proofs.Merging.{log_of, logs_of, all_last, all_seen, all_agree, all_within, seats_below, none_twice, each_once, some_missing, shares_are_calls}

@@ -1,10 +1,5 @@
 use Rattle.std.proofs.Common.{◌≡◌, ◌<◌, ◌≤◌, ◌∙◌, ap, sym, subst, Ok, Result, IfSome}
-use Rattle.history.specs.declared.entry.Entry.{Entry}
-use Rattle.history.specs.declared.fault.Fault.{Fault}
-use Rattle.history.specs.declared.step.Answer.{Answer}
-use Rattle.history.specs.declared.step.Answer.TheVariants.{Recorded}
-use Rattle.frame.specs.AtOnce.{entry_at_once}
-use Rattle.word_lock.specs.Ticket.{LockId}
+use Rattle.monitor.specs.Below.{Entry, Fault, Answer, Recorded, entry_at_once, LockId}
 use Rattle.monitor.specs.Room.{IsEnteredIn, IsStepIn}
 use Rattle.monitor.specs.inner.Stepping.{named_in}
 use Rattle.monitor.proofs.FastWay.{entered_in}

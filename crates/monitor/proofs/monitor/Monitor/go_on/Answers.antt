@@ -1,7 +1,6 @@
 use Rattle.std.proofs.Common.{ap, ◌∙◌, subst, ℕ, sym}
 use Rattle.history.specs.declared.step.Step.{Step}
-use Rattle.monitor.specs.Machine.{later_turn}
-use Rattle.monitor.specs.Load.{Brings, LetsGo, given_by, holds_of}
+use Rattle.monitor.specs.Prelude.{later_turn, Brings, LetsGo, given_by, holds_of}
 use Rattle.monitor.proofs.TurnByTurn.{goes_on, later_gives_none, later_lets_none, step_as}
 use Rattle.monitor.proofs.monitor.Monitor.go_on.Goals as goal
 

@@ -1,8 +1,6 @@
 use Rattle.std.proofs.Common.{rules, ◌≡◌, None, sym, ap, ◌∙◌, subst, ℕ}
 use Rattle.history.specs.declared.step.Step.{Step}
-use Rattle.monitor.specs.Load.{Brings, LetsGo, given_by, holds_of}
-use Rattle.monitor.specs.Machine.{later_turn, step_of_waiting}
-use Rattle.monitor.specs.Stepping.{IsStep, answer_of}
+use Rattle.monitor.specs.Prelude.{Brings, LetsGo, given_by, holds_of, later_turn, step_of_waiting, IsStep, answer_of}
 use Rattle.monitor.proofs.TurnByTurn.{goes_on, busy_now, stepped_now, later_gives_none, later_lets_none}
 use Rattle.monitor.proofs.monitor.Monitor.go_on_quietly.Goals.{In-Some}
 use Rattle.monitor.proofs.monitor.Monitor.go_on_quietly.Goals as goal

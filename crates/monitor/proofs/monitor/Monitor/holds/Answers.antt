@@ -1,8 +1,5 @@
 use Rattle.std.proofs.Common.{◌<◌, ap, subst, sym}
-use Rattle.frame.specs.Core.{CoreView}
-use Rattle.history.specs.declared.header.Header.{Header}
-use Rattle.word_lock.specs.Held.{held_ticket}
-use Rattle.word_lock.specs.Ticket.{LockId}
+use Rattle.monitor.specs.Below.{CoreView, Header, held_ticket, LockId}
 use Rattle.monitor.specs.Lawful.{point_of}
 use Rattle.monitor.proofs.Looking.{Looked, look, may_give_back}
 use Rattle.monitor.proofs.Sections.{seat_below}

@@ -1,12 +1,5 @@
 use Rattle.std.proofs.Common.{◌≡◌, ◌<◌, ◌∙◌, true, Some, ap, subst, sym}
-use Rattle.frame.specs.Core.{CoreView, marks_of}
-use Rattle.history.specs.declared.header.Header.{Header}
-use Rattle.history.specs.declared.point.Point.{Point}
-use Rattle.history.specs.Line.{line, place_of}
-use Rattle.history.specs.Marks.{is_placed}
-use Rattle.history.specs.Naming.{ready}
-use Rattle.word_lock.specs.Held.{held_ticket}
-use Rattle.word_lock.specs.Ticket.{LockId}
+use Rattle.monitor.specs.Below.{CoreView, marks_of, Header, Point, line, place_of, is_placed, ready, held_ticket, LockId}
 use Rattle.monitor.specs.Lawful.{point_of, start_at}
 use Rattle.monitor.proofs.Looking.{Looked, look, may_give_back}
 use Rattle.monitor.proofs.Sections.{seat_below}

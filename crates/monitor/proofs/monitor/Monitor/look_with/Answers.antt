@@ -1,7 +1,5 @@
 use Rattle.std.proofs.Common.{sym, subst}
-use Rattle.history.specs.declared.point.Point.{Point}
-use Rattle.history.specs.Counts.{counts}
-use Rattle.word_lock.specs.Held.{held_ticket}
+use Rattle.monitor.specs.Below.{Point, counts, held_ticket}
 use Rattle.monitor.specs.Lawful.{point_of, start_at}
 use Rattle.monitor.proofs.Looking.{Looked, look, may_give_back}
 use Rattle.monitor.proofs.monitor.Monitor.look_with.Goals as goal

@@ -1,17 +1,8 @@
 use Rattle.std.proofs.Common.{rules, ◌≡◌, ◌≤◌, ◌∙◌, false, None, Ok, ℕ, ap, sym, subst}
-use Rattle.word_lock.specs.Ticket.{LockId}
-use Rattle.monitor.specs.Acquire.{WasNotInterrupted}
-use Rattle.history.specs.declared.entry.Entry.{Entry}
-use Rattle.history.specs.declared.step.Answer.TheVariants.{Recorded}
-use Rattle.history.specs.declared.step.Step.{Step}
-use Rattle.frame.specs.AtOnce.{entry_at_once}
-use Rattle.monitor.specs.Load.{Brings, LetsGo, free_of, given_by, holds_of}
-use Rattle.monitor.specs.Machine.{begun, step_by}
-use Rattle.history.specs.declared.point.Point.{Point}
-use Rattle.monitor.specs.Room.{IsBegunIn, IsCallIn, IsStepIn, at_point}
+use Rattle.monitor.specs.Below.{LockId, Entry, Recorded, Step, entry_at_once, Point}
+use Rattle.monitor.specs.Prelude.{WasNotInterrupted, Brings, LetsGo, free_of, given_by, holds_of, begun, step_by, IsBegunIn, IsCallIn, IsStepIn, at_point, Waiting}
 use Rattle.monitor.specs.inner.Waits.{MayBegin}
 use Rattle.monitor.specs.declared.machine.Next.TheVariants as next
-use Rattle.monitor.specs.declared.machine.Waiting.{Waiting}
 use Rattle.monitor.proofs.Acquiring.{found_none, found_one}
 use Rattle.monitor.proofs.FastWay.{made_at_once}
 use Rattle.monitor.proofs.Freeing.{brings_still, fit_still, moves_since, stays}

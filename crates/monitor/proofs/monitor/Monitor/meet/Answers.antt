@@ -1,6 +1,5 @@
 use Rattle.std.proofs.Common.{subst}
-use Rattle.monitor.specs.Calling.{Called}
-use Rattle.monitor.specs.Shown.{Shown, IsPass, shown}
+use Rattle.monitor.specs.Prelude.{Called, Shown, IsPass, shown}
 use Rattle.monitor.proofs.Sections.{met, met_called}
 use Rattle.monitor.proofs.monitor.Monitor.meet.Goals as goal
 

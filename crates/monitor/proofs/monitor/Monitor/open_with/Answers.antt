@@ -1,12 +1,8 @@
 use Rattle.std.proofs.Common.{◌≡◌, ◌≤◌, List, ap, ◌∙◌, sym, subst, arith}
 use Rattle.std.specs.List.{All}
-use Rattle.history.specs.declared.header.Header.{Header}
-use Rattle.history.specs.declared.point.Point.{Point}
-use Rattle.history.specs.Base.{opening_base}
+use Rattle.monitor.specs.Below.{Header, Point, opening_base, opening_tickets}
 use Rattle.word_lock.proofs.PointLaws.{agrees_empty}
-use Rattle.word_lock.specs.Ticket.{opening_tickets}
-use Rattle.monitor.specs.Lawful.{point_of, blank, IsLawful}
-use Rattle.monitor.specs.Shown.{Shown}
+use Rattle.monitor.specs.Prelude.{point_of, blank, IsLawful, Shown}
 use Rattle.monitor.proofs.Opening.{shows_blank, header_shown, opening_own}
 use Rattle.monitor.proofs.monitor.Monitor.open_with.Goals as goal
 

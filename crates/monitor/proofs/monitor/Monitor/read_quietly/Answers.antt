@@ -1,7 +1,6 @@
 use Rattle.std.proofs.Common.{Some, refl, sym, ap, ◌∙◌}
 use Rattle.std.proofs.lemmas.Fn.{gave_at}
-use Rattle.history.specs.declared.point.Point.{Point}
-use Rattle.word_lock.specs.Held.{held_ticket}
+use Rattle.monitor.specs.Below.{Point, held_ticket}
 use Rattle.monitor.specs.Lawful.{point_of}
 use Rattle.monitor.proofs.Looking.{Looked, look, may_give_back}
 use Rattle.monitor.proofs.monitor.Monitor.read_quietly.Goals as goal

@@ -1,6 +1,5 @@
 use Rattle.std.proofs.Common.{◌≡◌, ◌≤◌, ◌∙◌, sym, subst, true}
-use Rattle.permit.specs.Deed.{interrupted}
-use Rattle.word_lock.specs.Ticket.{LockId}
+use Rattle.monitor.specs.Below.{interrupted, LockId}
 use Rattle.monitor.proofs.RoomTurns.{never_waits_in, place_first_in, refused_in}
 use Rattle.monitor.proofs.monitor.Monitor.refuse.Goals as goal
 

@@ -1,8 +1,6 @@
 use Rattle.std.proofs.Common.{subst}
 use Rattle.word_lock.specs.Held.{held_ticket}
-use Rattle.monitor.specs.Calling.{Called}
-use Rattle.monitor.specs.Room.{IsStepIn}
-use Rattle.monitor.specs.Shown.{Shown, shown}
+use Rattle.monitor.specs.Prelude.{Called, IsStepIn, Shown, shown}
 use Rattle.monitor.specs.inner.Sections.{Taking}
 use Rattle.monitor.proofs.monitor.Monitor.signal_step.Goals.{After-lock-held}
 use Rattle.monitor.proofs.monitor.Monitor.signal_step.Goals as goal

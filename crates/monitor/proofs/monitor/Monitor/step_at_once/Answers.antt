@@ -1,13 +1,6 @@
 use Rattle.std.proofs.Common.{rules, ◌≡◌, Ok, ap, sym, subst}
-use Rattle.history.specs.declared.step.Answer.TheVariants.{Recorded}
-use Rattle.frame.specs.AtOnce.{entry_at_once}
-use Rattle.frame.specs.Core.{CoreView, counts_of}
-use Rattle.word_lock.specs.Held.{held_ticket}
-use Rattle.word_lock.specs.Ticket.{Ticket}
-use Rattle.monitor.specs.Calling.{Called}
-use Rattle.monitor.specs.Load.{LetsGo, Moves, free_of, holds_of}
-use Rattle.monitor.specs.Room.{IsStepIn}
-use Rattle.monitor.specs.Shown.{Shown, shown}
+use Rattle.monitor.specs.Below.{Recorded, entry_at_once, CoreView, counts_of, held_ticket, Ticket}
+use Rattle.monitor.specs.Prelude.{Called, LetsGo, Moves, free_of, holds_of, IsStepIn, Shown, shown}
 use Rattle.monitor.specs.inner.CoreSteps.{IsCoreStepBy}
 use Rattle.monitor.specs.inner.Sections.{Taking, Went}
 use Rattle.monitor.proofs.FastWay.{found_room, moves_by, one_more, went}

@@ -1,7 +1,5 @@
 use Rattle.std.proofs.Common.{ap, subst, sym}
-use Rattle.monitor.specs.Load.{LetsGo, free_of, holds_of}
-use Rattle.monitor.specs.Room.{IsStepIn}
-use Rattle.monitor.specs.Shown.{Shown}
+use Rattle.monitor.specs.Prelude.{LetsGo, free_of, holds_of, IsStepIn, Shown}
 use Rattle.monitor.proofs.Freeing.{brings_still, moves_since}
 use Rattle.monitor.proofs.Sections.{called_since}
 use Rattle.monitor.proofs.monitor.Monitor.step_first.Goals as goal

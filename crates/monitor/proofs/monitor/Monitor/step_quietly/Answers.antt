@@ -1,10 +1,6 @@
 use Rattle.std.proofs.Common.{rules, ◌≡◌, subst, sym}
-use Rattle.word_lock.specs.Held.{held_ticket}
-use Rattle.word_lock.specs.Ticket.{Ticket}
-use Rattle.monitor.specs.Calling.{Called}
-use Rattle.monitor.specs.Load.{LetsGo, Moves, free_of, holds_of}
-use Rattle.monitor.specs.Shown.{Shown, shown}
-use Rattle.monitor.specs.Stepping.{IsStep}
+use Rattle.monitor.specs.Below.{held_ticket, Ticket}
+use Rattle.monitor.specs.Prelude.{Called, LetsGo, Moves, free_of, holds_of, Shown, shown, IsStep}
 use Rattle.monitor.specs.inner.Sections.{Taking}
 use Rattle.monitor.proofs.Sections.{as_step_now, not_called}
 use Rattle.monitor.proofs.Taking.{fit_taken}

@@ -1,9 +1,6 @@
 use Rattle.std.proofs.Common.{subst, sym}
 use Rattle.word_lock.specs.Held.{held_ticket}
-use Rattle.monitor.specs.Calling.{Called}
-use Rattle.monitor.specs.Load.{LetsGo, Moves, free_of, holds_of}
-use Rattle.monitor.specs.Room.{IsStepIn}
-use Rattle.monitor.specs.Shown.{Shown, shown}
+use Rattle.monitor.specs.Prelude.{Called, LetsGo, Moves, free_of, holds_of, IsStepIn, Shown, shown}
 use Rattle.monitor.specs.inner.Sections.{Taking}
 use Rattle.monitor.proofs.Taking.{fit_taken}
 use Rattle.monitor.proofs.monitor.Monitor.step_with.Goals.{After-lock-held}

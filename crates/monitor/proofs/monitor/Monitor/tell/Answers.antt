@@ -1,8 +1,6 @@
 use Rattle.std.proofs.Common.{◌≡◌, Ok, rules, subst}
-use Rattle.history.specs.declared.step.Answer.{Answer}
-use Rattle.history.specs.declared.step.Answer.TheVariants.{Sleep}
-use Rattle.monitor.specs.Room.{IsStepIn}
-use Rattle.monitor.specs.Stepping.{IsUnparked}
+use Rattle.monitor.specs.Below.{Answer, Sleep}
+use Rattle.monitor.specs.Prelude.{IsStepIn, IsUnparked}
 use Rattle.monitor.specs.inner.Stepping.{named_in}
 use Rattle.monitor.proofs.Loads.{signal_idle}
 use Rattle.monitor.proofs.RoomTurns.{entered_err, entered_ok, no_sleep_in}

@@ -1,9 +1,6 @@
 use Rattle.std.proofs.Common.{rules, ◌≡◌, subst, sym}
-use Rattle.word_lock.specs.Held.{held_ticket}
-use Rattle.word_lock.specs.Ticket.{Ticket}
-use Rattle.monitor.specs.Calling.{Called}
-use Rattle.monitor.specs.Lawful.{point_of}
-use Rattle.monitor.specs.Shown.{Shown, shown}
+use Rattle.monitor.specs.Below.{held_ticket, Ticket}
+use Rattle.monitor.specs.Prelude.{Called, point_of, Shown, shown}
 use Rattle.monitor.proofs.Sections.{not_called}
 use Rattle.monitor.proofs.Trims.{Trim, follows_trimmed, trim_called, trim_is, trim_of, trim_pass}
 use Rattle.monitor.proofs.monitor.Monitor.trim_quietly.Goals as goal

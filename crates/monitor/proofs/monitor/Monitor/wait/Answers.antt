@@ -1,10 +1,6 @@
 use Rattle.std.proofs.Common.{rules, ◌≡◌, ◌≤◌, ◌∙◌, true, sym, subst, refl}
-use Rattle.history.specs.declared.step.Step.TheVariants.{Interrupt}
-use Rattle.permit.specs.Deed.{interrupted}
-use Rattle.word_lock.specs.Ticket.{LockId}
-use Rattle.monitor.specs.Load.{free_of}
-use Rattle.monitor.specs.Machine.{step_of_waiting}
-use Rattle.monitor.specs.Waits.{ComesOf}
+use Rattle.monitor.specs.Below.{Interrupt, interrupted, LockId}
+use Rattle.monitor.specs.Prelude.{free_of, step_of_waiting, ComesOf}
 use Rattle.monitor.proofs.StillWaiting.{AllStillWait}
 use Rattle.monitor.proofs.Freeing.{brings_still, fit_still, moves_since, stays}
 use Rattle.monitor.proofs.Sections.{called_since, not_called}

@@ -1,6 +1,5 @@
 use Rattle.std.proofs.Common.{◌≡◌, true}
-use Rattle.monitor.specs.Calling.{Called}
-use Rattle.monitor.specs.Load.{holds_of}
+use Rattle.monitor.specs.Prelude.{Called, holds_of}
 use Rattle.monitor.proofs.StillWaiting.{AllStillWait}
 use Rattle.monitor.proofs.monitor.Monitor.wait.Given as goal
 

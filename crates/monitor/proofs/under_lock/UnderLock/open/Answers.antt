@@ -1,6 +1,5 @@
 use Rattle.std.proofs.Common.{sym, subst}
-use Rattle.frame.specs.Core.{CoreView, counts_of}
-use Rattle.history.specs.declared.header.Header.{Header}
+use Rattle.monitor.specs.Below.{CoreView, counts_of, Header}
 use Rattle.monitor.specs.Load.{opened_counts}
 use Rattle.monitor.specs.declared.under_lock.Laden.{Laden}
 use Rattle.monitor.proofs.Loads.{rests_opened}

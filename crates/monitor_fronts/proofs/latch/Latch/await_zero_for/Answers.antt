@@ -1,7 +1,5 @@
 use Rattle.std.proofs.Common.{◌∙◌, ap, sym}
-use Rattle.history.specs.Object.{is_latch}
-use Rattle.word_lock.specs.Ticket.{LockId}
-use Rattle.monitor.specs.declared.how.How.TheVariants.{Timed}
+use Rattle.monitor_fronts.specs.Below.{is_latch, LockId, Timed}
 use Rattle.monitor_fronts.proofs.CountingDown.{awaits_open, awaits_shut, falls_on}
 use Rattle.monitor_fronts.proofs.latch.Latch.await_zero_for.Goals as goal
 

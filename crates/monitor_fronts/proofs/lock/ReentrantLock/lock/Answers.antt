@@ -1,6 +1,5 @@
 use Rattle.std.proofs.Common.{◌+◌, ℕ, Result, sym, ap, ◌∙◌}
-use Rattle.history.specs.declared.fault.Fault.{Fault}
-use Rattle.monitor.specs.declared.how.How.TheVariants.{Plain}
+use Rattle.monitor_fronts.specs.Below.{Fault, Plain}
 use Rattle.monitor_fronts.specs.Holding.{gained, holds, with_yes}
 use Rattle.monitor_fronts.proofs.MakingRoom.{untimed_gain}
 use Rattle.monitor_fronts.proofs.lock.ReentrantLock.lock.Goals as goal

@@ -1,5 +1,4 @@
-use Rattle.history.specs.declared.entry.Mode.TheVariants.{S}
-use Rattle.monitor.specs.declared.how.How.TheVariants.{Plain}
+use Rattle.monitor_fronts.specs.Below.{S, Plain}
 use Rattle.monitor_fronts.proofs.MakingRoom.{untimed_adds}
 use Rattle.monitor_fronts.proofs.read_write_lock.ReadWriteLock.read_lock.Goals as goal
 

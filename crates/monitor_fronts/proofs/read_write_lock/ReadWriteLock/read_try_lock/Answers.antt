@@ -1,6 +1,5 @@
 use Rattle.std.proofs.Common.{Bool, Result, refl, sym, subst}
-use Rattle.history.specs.declared.entry.Mode.TheVariants.{S}
-use Rattle.history.specs.declared.fault.Fault.{Fault}
+use Rattle.monitor_fronts.specs.Below.{S, Fault}
 use Rattle.monitor_fronts.specs.Holding.{AddsIn}
 use Rattle.monitor_fronts.proofs.read_write_lock.ReadWriteLock.read_try_lock.Goals as goal
 

@@ -1,5 +1,4 @@
-use Rattle.history.specs.declared.entry.Mode.TheVariants.{X}
-use Rattle.monitor.specs.declared.how.How.TheVariants.{Interruptible}
+use Rattle.monitor_fronts.specs.Below.{X, Interruptible}
 use Rattle.monitor_fronts.proofs.MakingRoom.{untimed_adds}
 use Rattle.monitor_fronts.proofs.read_write_lock.ReadWriteLock.write_lock_interruptibly.Goals as goal
 

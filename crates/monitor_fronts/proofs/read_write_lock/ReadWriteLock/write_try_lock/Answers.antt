@@ -1,6 +1,5 @@
 use Rattle.std.proofs.Common.{Bool, Result, refl, sym, subst}
-use Rattle.history.specs.declared.entry.Mode.TheVariants.{X}
-use Rattle.history.specs.declared.fault.Fault.{Fault}
+use Rattle.monitor_fronts.specs.Below.{X, Fault}
 use Rattle.monitor_fronts.specs.Holding.{AddsIn}
 use Rattle.monitor_fronts.proofs.read_write_lock.ReadWriteLock.write_try_lock.Goals as goal
 

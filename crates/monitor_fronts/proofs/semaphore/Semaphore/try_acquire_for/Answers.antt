@@ -1,6 +1,5 @@
 use Rattle.std.proofs.Common.{Bool, Result, sym, subst}
-use Rattle.history.specs.declared.fault.Fault.{Fault}
-use Rattle.monitor.specs.declared.how.How.TheVariants.{Timed}
+use Rattle.monitor_fronts.specs.Below.{Fault, Timed}
 use Rattle.monitor_fronts.specs.Permits.{TakesFree, TakesPermits}
 use Rattle.monitor_fronts.proofs.Permits.{acquires_take, acquires_take_free}
 use Rattle.monitor_fronts.proofs.semaphore.Semaphore.try_acquire_for.Goals as goal

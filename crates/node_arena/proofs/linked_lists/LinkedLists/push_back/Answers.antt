@@ -1,5 +1,4 @@
-use Rattle.std.proofs.Common.{◌++◌, arith, Some}
-use Rattle.std.proofs.Common.{set, [], ◌∷◌}
+use Rattle.std.proofs.Common.{◌++◌, arith, Some, set, [], ◌∷◌}
 use Rattle.node_arena.specs.LinkedLists.{items}
 use Rattle.node_arena.specs.Links.{lists_of}
 use Rattle.node_arena.proofs.FromLinks.{head_within, last_within, free_not_last, Changes, Changes-splice}

@@ -1,5 +1,4 @@
-use Rattle.std.proofs.Common.{◌+◌, sym, ap, ◌∙◌, arith, length, None, Some}
-use Rattle.std.proofs.Common.{set}
+use Rattle.std.proofs.Common.{◌+◌, sym, ap, ◌∙◌, arith, length, None, Some, set}
 use Rattle.node_arena.specs.LinkedLists.{items, without}
 use Rattle.node_arena.specs.Links.{lists_of}
 use Rattle.node_arena.proofs.FromLinks.{before_within, after_within, shorter_after_skip, Changes, Changes-skip}

@@ -1,6 +1,5 @@
-use Rattle.std.proofs.Common.{get_or, ap, ◌∙◌, sym}
+use Rattle.std.proofs.Common.{get_or, ap, ◌∙◌, sym, pos}
 use Rattle.std.proofs.lemmas.List.Sums.{fold_more}
-use Rattle.std.specs.Prelude.{pos}
 use Rattle.overview.specs.Amounts.{wider}
 use Rattle.overview.proofs.spread.Spread.of.Goals as goal
 

@@ -1,6 +1,5 @@
-use Rattle.std.proofs.Common.{get_or, ap, ◌∙◌, sym}
+use Rattle.std.proofs.Common.{get_or, ap, ◌∙◌, sym, pos}
 use Rattle.std.proofs.lemmas.List.Sums.{fold_more}
-use Rattle.std.specs.Prelude.{pos}
 use Rattle.picture.specs.Curve.{wider}
 use Rattle.picture.proofs.curve.Range.of.Goals as goal
 

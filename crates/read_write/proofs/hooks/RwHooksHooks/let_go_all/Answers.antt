@@ -1,5 +1,4 @@
-use Rattle.std.proofs.Common.{◌≡◌, ltb, true, false, slice_index, ◌∙◌, sym, refl, arith}
-use Rattle.std.proofs.lemmas.Bool.{lt-ltb, le-ltb}
+use Rattle.std.proofs.Common.{◌≡◌, ltb, true, false, slice_index, ◌∙◌, sym, refl, arith, lt-ltb, le-ltb}
 use Rattle.read_write.specs.State.{state_of}
 use Rattle.read_write.proofs.Reading.{sound_of, let_go_is}
 use Rattle.read_write.proofs.hooks.RwHooksHooks.let_go_all.Goals as goal

@@ -1,7 +1,6 @@
 use Rattle.std.proofs.Common.{◌++◌, ◌∙◌, append_assoc, reverse, subst, sym}
-use Rattle.streams.specs.Writing.{AppendsFront}
+use Rattle.run_text.specs.Below.{AppendsFront, entry_lines}
 use Rattle.driver.proofs.Gathering.{front_longer, if_failed, where_failed}
-use Rattle.history_text.specs.Pieces.{entry_lines}
 use Rattle.run_text.proofs.Written.{front_behind}
 use Rattle.run_text.proofs.part.PartText.write.Goals as goal
 

@@ -1,5 +1,5 @@
-use Rattle.std.proofs.Common.{◌≡◌, ◌+◌, ◌-◌, ◌≤◌, refl, length, take, drop, sym, ap, ◌∙◌, arith}
-use Rattle.std.proofs.lemmas.List.{drop_all, length-take, length-append, length-drop}
+use Rattle.std.proofs.Common.{◌≡◌, ◌+◌, ◌-◌, ◌≤◌, refl, length, take, drop, sym, ap, ◌∙◌, arith, length-take, length-append, length-drop}
+use Rattle.std.proofs.lemmas.List.{drop_all}
 use Rattle.streams.specs.MemorySource.{Supply}
 use Rattle.streams.proofs.Pieces.{handed}
 use Rattle.streams.proofs.memory_source.MemorySourceSource.read.Goals as goal

@@ -1,5 +1,4 @@
-use Rattle.std.proofs.Common.{◌≡◌, ℕ, ◌++◌, List, slice_range, take, arith, ap, ◌∙◌}
-use Rattle.std.proofs.lemmas.List.{length-take-le}
+use Rattle.std.proofs.Common.{◌≡◌, ℕ, ◌++◌, List, slice_range, take, arith, ap, ◌∙◌, length-take-le}
 use Rattle.std.proofs.lemmas.Grind.{common_steps}
 use Rattle.streams.specs.Window.{Seen}
 use Rattle.streams.proofs.Sliding.{grown}

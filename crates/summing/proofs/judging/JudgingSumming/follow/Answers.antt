@@ -1,8 +1,7 @@
 use Rattle.std.proofs.Common.{arith, sym, ◌∙◌, List, length, subst}
 use Rattle.std.proofs.lemmas.Bool.{false≢true}
-use Rattle.audit.specs.Verdict.{front}
+use Rattle.summing.specs.Below.{front, Entry}
 use Rattle.audit.proofs.Fronts.{front_more, front_same, has_seat, wrong_now, wrong_still}
-use Rattle.history.specs.declared.entry.Entry.{Entry}
 use Rattle.summing.specs.Summing.{HasSummed}
 use Rattle.summing.proofs.judging.JudgingSumming.follow.Goals as goal
 use Rattle.summing.proofs.judging.JudgingSumming.follow.Goals.{in-Some, in-None+then-admits, in-None+else-admits}

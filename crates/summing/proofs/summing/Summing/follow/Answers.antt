@@ -1,15 +1,7 @@
-use Rattle.std.proofs.Common.{◌≡◌, ◌<◌, ◌∷◌, None, ap, ◌∙◌, sym, subst, arith, length, get_or}
-use Rattle.std.proofs.lemmas.List.{get_or_read, length-set}
-use Rattle.std.specs.Prelude.{is_some}
+use Rattle.std.proofs.Common.{◌≡◌, ◌<◌, ◌∷◌, None, ap, ◌∙◌, sym, subst, arith, length, get_or, length-set, is_some}
+use Rattle.std.proofs.lemmas.List.{get_or_read}
 use Rattle.history.specs.Line.{line}
-use Rattle.summing.specs.declared.passing.Passing.{Passing}
-use Rattle.summing.specs.declared.tally.SeatTally.{SeatTally}
-use Rattle.summing.specs.Counting.{count, is_grant, more}
-use Rattle.summing.specs.Passing.{passed, taken_anew}
-use Rattle.summing.specs.Peak.{higher}
-use Rattle.summing.specs.Summing.{IsPassing, no_passing}
-use Rattle.summing.specs.Tallies.{no_condition_tally, no_tally, tally, tally_after}
-use Rattle.summing.specs.Waits.{begun}
+use Rattle.summing.specs.Prelude.{Passing, SeatTally, count, is_grant, more, passed, taken_anew, higher, IsPassing, no_passing, no_condition_tally, no_tally, tally, tally_after, begun}
 use Rattle.summing.specs.inner.Tables.{IsFewTally}
 use Rattle.summing.proofs.ConditionsFollow.{conditions_follow, few_conditions, noted_long}
 use Rattle.summing.proofs.PassingsFollow.{noted_few, passed_few, passing_of, passings_follow, taken_few}

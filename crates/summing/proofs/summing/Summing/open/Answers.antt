@@ -1,11 +1,6 @@
-use Rattle.std.proofs.Common.{◌≡◌, [], ℕ, refl, ap, ◌∙◌, None, get_or, arith}
-use Rattle.std.specs.Prelude.{is_some}
-use Rattle.history.specs.Base.{based}
-use Rattle.history.specs.declared.header.Header.{Header}
-use Rattle.summing.specs.declared.passing.Passing.{Passing}
-use Rattle.summing.specs.declared.peak.Peak.{Peak}
-use Rattle.summing.specs.Waits.{begun}
-use Rattle.summing.specs.Summing.{no_passing}
+use Rattle.std.proofs.Common.{◌≡◌, [], ℕ, refl, ap, ◌∙◌, None, get_or, arith, is_some}
+use Rattle.summing.specs.Below.{based, Header}
+use Rattle.summing.specs.Prelude.{Passing, Peak, begun, no_passing}
 use Rattle.summing.proofs.PassingsFollow.{none_passed}
 use Rattle.summing.proofs.summing.Summing.open.Goals as goal
 

@@ -1,12 +1,6 @@
-use Rattle.std.proofs.Common.{◌≡◌, ◌<◌, ◌≤◌, None, IfSome, ap, ◌∙◌, sym, subst, arith, length, get_or}
+use Rattle.std.proofs.Common.{◌≡◌, ◌<◌, ◌≤◌, None, IfSome, ap, ◌∙◌, sym, subst, arith, length, get_or, is_some}
 use Rattle.std.proofs.lemmas.List.{get_or_read}
-use Rattle.std.specs.Prelude.{is_some}
-use Rattle.summing.specs.declared.passing.Passing.{Passing}
-use Rattle.summing.specs.declared.tally.SeatTally.{SeatTally}
-use Rattle.summing.specs.Passing.{passed, taken_anew}
-use Rattle.summing.specs.Summing.{no_passing}
-use Rattle.summing.specs.Tallies.{no_tally, tally}
-use Rattle.summing.specs.Waits.{begun}
+use Rattle.summing.specs.Prelude.{Passing, SeatTally, passed, taken_anew, no_passing, no_tally, tally, begun}
 use Rattle.summing.proofs.PassingsFollow.{noted_few, passed_few, taken_few}
 use Rattle.summing.proofs.SeatsFollow.{begun_within}
 use Rattle.summing.proofs.summing.Summing.row.Goals as goal

@@ -1,8 +1,6 @@
 use Rattle.std.proofs.Common.{◌≡◌, List}
-use Rattle.history.specs.declared.entry.Entry.{Entry}
-use Rattle.history.specs.Start.{Start}
-use Rattle.summing.specs.Summary.{rows_below}
-use Rattle.summing.specs.Summing.{HasSummed}
+use Rattle.summing.specs.Below.{Entry, Start}
+use Rattle.summing.specs.Prelude.{rows_below, HasSummed}
 use Rattle.summing.proofs.summing.Summing.rows.Given as goal
 
 -- the rows of the seats passed

@@ -1,7 +1,5 @@
-use Rattle.std.proofs.Common.{rules, ◌≡◌, ◌≤◌, ◌<◌, ℕ, List, None, Some, length, slice_get, get_or, refl, ap, sym, subst, ◌∙◌, arith}
-use Rattle.std.proofs.lemmas.Bool.{ltb-true}
+use Rattle.std.proofs.Common.{rules, ◌≡◌, ◌≤◌, ◌<◌, ℕ, List, None, Some, length, slice_get, get_or, refl, ap, sym, subst, ◌∙◌, arith, ltb-true, IfNone}
 use Rattle.std.proofs.lemmas.Option.{slice_get_read}
-use Rattle.std.specs.Prelude.{IfNone}
 use Rattle.std.specs.Arc.{arc_value}
 use Rattle.script.specs.Script.{Named, ScriptView}
 use Rattle.script.proofs.Firsts.{object_at}

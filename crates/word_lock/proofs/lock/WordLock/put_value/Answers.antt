@@ -2,8 +2,7 @@ use Rattle.std.proofs.Common.{rules, ◌≡◌, ℕ, sym, ap, ◌∙◌, subst, 
 use mathlib.Core.Option.{none}
 use Rattle.std.specs.declared.option.Option.{Option as Maybe}
 use Rattle.atomic_table.specs.Table.{Me, step, Allows, rest}
-use Rattle.word_lock.specs.declared.view.View.{View}
-use Rattle.word_lock.specs.Rule.{RuleHolds, TellsGive}
+use Rattle.word_lock.specs.Prelude.{View, RuleHolds, TellsGive}
 use Rattle.word_lock.proofs.PointLaws.{before_header, follows_before}
 use Rattle.word_lock.proofs.Storing.{gives_back}
 use Rattle.word_lock.proofs.Tokens.{one_log}

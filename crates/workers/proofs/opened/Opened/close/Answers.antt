@@ -1,9 +1,5 @@
 use Rattle.std.proofs.Common.{rules, ◌≡◌, ◌∙◌, ap, refl, sym}
-use Rattle.history.specs.declared.header.Header.{Header}
-use Rattle.history.specs.Entries.{start_on}
-use Rattle.deciding.specs.ObjectState.{IsHistory}
-use Rattle.audit.specs.declared.verdict.Judgement.TheVariants.{Legal}
-use Rattle.word_lock.specs.Ticket.{LockId}
+use Rattle.workers.specs.Below.{Header, start_on, IsHistory, Legal, LockId}
 use Rattle.workers.proofs.Closed.{closed_history}
 use Rattle.workers.proofs.opened.Opened.close.Goals as goal
 

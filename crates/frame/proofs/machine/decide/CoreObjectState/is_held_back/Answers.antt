@@ -1,11 +1,6 @@
 use Rattle.std.proofs.Common.{◌≡◌, List, ap, ◌∙◌, subst, sym}
-use Rattle.history.specs.declared.entry.Entry.{Entry}
-use Rattle.history.specs.Could.{held_back}
-use Rattle.history.specs.Counts.{counts}
-use Rattle.history.specs.Line.{first_mode}
-use Rattle.history.specs.Start.{Start}
-use Rattle.frame.specs.Core.{CoreView, counts_of, start_of}
-use Rattle.frame.specs.Hooks.{line_mode}
+use Rattle.frame.specs.Below.{Entry, held_back, counts, first_mode, Start}
+use Rattle.frame.specs.Prelude.{CoreView, counts_of, start_of, line_mode}
 use Rattle.frame.proofs.machine.decide.CoreObjectState.is_held_back.Goals as goal
 
 pub returns : goal.returns

@@ -1,8 +1,5 @@
 use Rattle.std.proofs.Common.{◌≡◌, ◌∙◌, List, ap, subst, sym}
-use Rattle.history.specs.declared.entry.Entry.{Entry}
-use Rattle.history.specs.Sleepers.{sleeps_below}
-use Rattle.history.specs.Entries.{start_on}
-use Rattle.history.specs.Start.{Start}
+use Rattle.frame.specs.Below.{Entry, sleeps_below, start_on, Start}
 use Rattle.deciding.proofs.Bounds.{waits_by}
 use Rattle.frame.specs.Core.{CoreView, start_of}
 use Rattle.condition_queue.proofs.Movable.{sleeps_is}

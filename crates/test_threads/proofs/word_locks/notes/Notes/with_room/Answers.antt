@@ -1,5 +1,4 @@
-use Rattle.std.proofs.Common.{ap, refl}
-use Rattle.std.specs.Prelude.{reverse}
+use Rattle.std.proofs.Common.{ap, refl, reverse}
 use Rattle.word_lock.proofs.PointLaws.{agrees_empty}
 use Rattle.test_threads.proofs.word_locks.notes.Notes.with_room.Goals as goal
 
