@@ -4,14 +4,15 @@
 Each command gets a text of some size and one four times as long. It may take five times as long at most. It has the
 memory that docs/PERFORMANCE.md says of each entry and answer, and no more. Then the same calls are made in an object
 of 2 seats and in one of 256, in which the others are idle, wait in line or sleep: that may take twice as long at
-most. Then entries are made with one trim behind them all, and without it: that may take a tenth longer at most, since
-a trim looks at no entry. At last threads wait for a second by the clock, at each kind of object, and each may take five thousandths of it
-at most, since a thread that waits sleeps. All other times are those of the processor. The two runs of a case are made
-by turns, three times each, and the least time of each counts. Other work on the machine makes some runs slower, so
-they are made up to twenty times while one takes too long beside the other. A run that takes longer than a minute
-fails. If the example program `example_locks` was built beside PROGRAM, it prints a history of a lock, which goes
-through `fits` and `write_text`. If `bench_pairs` was, it opens and closes locks of 64 seats, and as many of 256: that
-may take six times as long at most. The last line is 'N passed, M failed'.
+most. Then entries are made with one trim behind them all, and without it: that may take three tenths longer at most.
+A trim looks at no entry, but a replay keeps a copy of those that it folds. At last threads wait for a second by the
+clock, at each kind of object, and each may take five thousandths of it at most, since a thread that waits sleeps.
+All other times are those of the processor. The two runs of a case are made by turns, three times each, and the least
+time of each counts. Other work on the machine makes some runs slower, so they are made up to twenty times while one
+takes too long beside the other. A run that takes longer than a minute fails. If the example program `example_locks`
+was built beside PROGRAM, it prints a history of a lock, which goes through `fits` and `write_text`. If `bench_pairs`
+was, it opens and closes locks of 64 seats, and as many of 256: that may take six times as long at most. The last
+line is 'N passed, M failed'.
 """
 
 import json
@@ -32,7 +33,7 @@ SECONDS = 60
 LONGER = 4  # the longer text, in lengths of the shorter
 TIMES = 5  # as long as the shorter at most
 CROWDED = 2  # with 256 seats as long as with 2 at most
-TRIM = 1.1  # with one trim as long as without it at most
+TRIM = 1.3  # with one trim as long as without it at most: the replay copies what is folded
 ENTRY = 12  # bytes of an entry in memory
 ANSWER = 16  # bytes of an answer that no entry says, a trim among them
 LISTED = 1.4  # answers, and entries that were folded, stand in lists, which have more room than they use
