@@ -1,11 +1,14 @@
 #!/usr/bin/env python3
-"""Tests the callers of each language: check.py [c] [pthread] [sanitizers] [rust] [python] [java].
+"""Tests the callers of each language:
+check.py [--until-one-fails] [c] [pthread] [sanitizers] [rust] [python] [java].
 
-With no words it tests them all. It builds the library first, by make. What the machine has no tools for is left
-out, and told. Each test has a time limit, since a lost wake would hang. The histories that the tests leave are
-judged by `aqs audit`, if the program is built (crates/aqs/out/aqs, or AQS), and else by the rules in Python
-(checks/rules.py). The last line is 'N passed, M failed'.
+With no words it tests them all. With --until-one-fails the first test that fails is the last, and none has more time
+than on a usual machine. It builds the library first, by make. What the machine has no tools for is left out, and told.
+Each test has a time limit, since a lost wake would hang. The histories that the tests leave are judged by `aqs audit`,
+if the program is built (crates/aqs/out/aqs, or AQS), and else by the rules in Python (checks/rules.py). The last line
+is 'N passed, M failed'.
 """
+import contextlib
 import glob
 import importlib.util
 import os
@@ -27,6 +30,7 @@ RUST = HERE / "rust" / "aqs"
 AQS = os.environ.get("AQS", str(HERE.parent / "crates" / "aqs" / "out" / "aqs"))
 # Threads and rounds of the storms: all of them together take some seconds.
 STORMS = (("4", "400"), ("16", "120"), ("256", "12"))
+UNTIL_ONE_FAILS = "--until-one-fails"
 SHOWN = 3000
 MINUTES = 60
 PATIENCE = 5  # how often as long as on a usual machine a command may take on one that is slow, or busy
@@ -91,17 +95,24 @@ def statuses_are_checked():
     return len(calls) > 40 and not without, f"{ran.stderr}\nnot warned of: {without}"
 
 
+class Ended(Exception):
+    """A test has failed, and no more are asked for."""
+
+
 class Tests:
     """Counts what passed and what failed, and tells what was left out."""
 
-    def __init__(self, folder):
+    def __init__(self, folder, until_one_fails=False):
         self.folder, self.passed, self.failed = folder, 0, 0
+        self.until_one_fails, self.patience = until_one_fails, 1 if until_one_fails else PATIENCE
 
     def count(self, name, is_good, told=""):
         self.passed, self.failed = self.passed + is_good, self.failed + (not is_good)
         print(f"{'ok' if is_good else 'FAILED'}: {name}", flush=True)
         if not is_good:
             print(told[-SHOWN:], flush=True)
+            if self.until_one_fails:
+                raise Ended
         return is_good
 
     def left_out(self, name, why):
@@ -110,16 +121,10 @@ class Tests:
     def run(self, name, words, seconds=60, cwd=C, silent=False, **environment):
         """Runs a command. With `silent` it must not complain, as a sanitizer does."""
         try:
-            ran = subprocess.run(
-                [str(word) for word in words], cwd=cwd, stdin=subprocess.DEVNULL, capture_output=True,
-                timeout=seconds * PATIENCE, errors="replace", env={**os.environ, **environment},
-            )
-        except subprocess.TimeoutExpired:
-            return self.count(name, False, f"it did not end in {seconds * PATIENCE} seconds")
+            status, output, errors = check_recorder.ran(words, seconds * self.patience, cwd, **environment)
         except OSError as error:
             return self.count(name, False, str(error))
-        told = ran.stdout + ran.stderr
-        return self.count(name, ran.returncode == 0 and not (silent and ran.stderr.strip()), told)
+        return self.count(name, status == 0 and not (silent and errors.strip()), output + errors)
 
     def audit(self, name, folder):
         """Judges each history in a folder: they must be legal, and some."""
@@ -290,7 +295,10 @@ def check_rust(tests):
         return
     kept = tests.histories("rust")
     environment = {"AQS_HISTORIES": kept, "CARGO_TARGET_DIR": str(RUST / "target")}
-    tests.run("cargo test", ["cargo", "test", "-q", "--offline"], 240, cwd=RUST, **environment)
+    words = ["cargo", "test", "-q", "--offline"]
+    if not tests.run("the Rust tests are built", [*words, "--no-run"], 240, cwd=RUST, **environment):
+        return
+    tests.run("cargo test", words, 120, cwd=RUST, **environment)
     file = f"{kept}/thread-pool.history"
     words = ["cargo", "run", "-q", "--offline", "--example", "thread_pool", file]
     if tests.run("the thread pool of Rust", words, 240, cwd=RUST, **environment):
@@ -300,7 +308,7 @@ def check_rust(tests):
 
 def check_python(tests):
     kept = tests.histories("python")
-    words = [sys.executable, "-B", "-m", "unittest", "-q"]
+    words = [sys.executable, "-B", "-m", "unittest", "-q", *(["-f"] if tests.until_one_fails else [])]
     tests.run("Python", [*words, "test_aqs"], 120, cwd=HERE / "python", AQS_HISTORIES=kept)
     tests.audit("Python", kept)
     if importlib.util.find_spec("test") and importlib.util.find_spec("test.lock_tests"):
@@ -352,15 +360,22 @@ PARTS = {
 }
 
 
+def check_parts(tests, names):
+    # Where nobody has proved the library yet, make does.
+    if tests.run("the library is built", ["make", "-s"], 60 * MINUTES):
+        for name in names:
+            PARTS[name](tests)
+
+
 def main(words):
-    if any(word not in PARTS for word in words):
+    until_one_fails = words[:1] == [UNTIL_ONE_FAILS]
+    names = words[1:] if until_one_fails else words
+    if any(name not in PARTS for name in names):
         sys.exit(__doc__)
     with tempfile.TemporaryDirectory(prefix="aqs-bindings-") as folder:
-        tests = Tests(folder)
-        # Where nobody has proved the library yet, make does.
-        if tests.run("the library is built", ["make", "-s"], 60 * MINUTES):
-            for name in words or PARTS:
-                PARTS[name](tests)
+        tests = Tests(folder, until_one_fails)
+        with contextlib.suppress(Ended):
+            check_parts(tests, names or PARTS)
     print(f"{tests.passed} passed, {tests.failed} failed", flush=True)
     return 1 if tests.failed else 0
 

@@ -260,6 +260,14 @@ def outputs(program, words, text, wanted, folder):
     (folder / "out.0.part").write_bytes(b"mine")
     yield "a file beside it stays", to(out) == fine and (folder / "out.0.part").read_bytes() == b"mine"
     (folder / "out.0.part").unlink()
+    beside = [folder / f"out.{number}.part" for number in range(100)]
+    for part in beside[:99]:
+        part.write_bytes(b"mine")
+    yield "the last name of a file beside it", to(out) == fine and not beside[99].exists()
+    beside[99].write_bytes(b"mine")
+    yield "no name for a file beside it is left", to(out) == unwritten and out.read_bytes() == wanted
+    for part in beside:
+        part.unlink()
     out.write_bytes(text)
     yield "the file that is read", run(program, [*words, "-o", str(out), str(out)]) == fine and holds(wanted)
     unmade = {"a folder": folder, "below a file": out / "below", "in no folder": folder / "none" / "out",

@@ -61,6 +61,7 @@ class Case:
     bytes: float
     itself: int = ITSELF
     program: str = ""  # in place of the one that is measured
+    status: int = 0  # with which it ends
 
 
 def steps(object, first, round, count, last="", form=1):
@@ -153,6 +154,8 @@ def growing(program):
     yield Case("draw the last entries on a page", ["draw", "--page"], 20_000, legal, 0)
     yield Case("explain", ["explain"], 100_000, legal, 2 * EXPLAINED)
     yield Case("explain an entry in the middle", ["explain", "--at", "{}"], 100_000, legal, 2 * EXPLAINED)
+    misspelt = lambda count: legal(count).replace(b"\nend ", b"\nedn ")
+    yield Case("explain a wrong last line", ["explain"], 20_000, misspelt, 4 * EXPLAINED, status=1)
     yield Case("summary", ["summary"], 100_000, legal, 0)
     yield Case("summary on a base", ["summary"], 100_000, on_base, 0)
     yield Case("run", ["run"], 100_000, lambda count: script(call, count), 2 * ENTRY, STACKS)
@@ -221,8 +224,8 @@ def folding():
     yield "a line that a seat leaves", lambda trims: steps(LOCK.format(256), line, comes, count, "trim\n" * trims, form=2)
 
 
-def once(program, words, text, size):
-    """The seconds of one run within so many bytes, or None if it failed or took too long."""
+def once(program, words, text, size, wanted=0):
+    """The seconds of one run within so many bytes, or None if it took too long or ended with another status."""
     limit = lambda: resource.setrlimit(resource.RLIMIT_DATA, (size, size))
     with tempfile.TemporaryFile() as given:
         given.write(text)
@@ -233,7 +236,7 @@ def once(program, words, text, size):
         _, status, used = os.wait4(ran.pid, 0)
         signal.alarm(0)
         ran.returncode = status
-    return used.ru_utime + used.ru_stime if status == 0 else None
+    return used.ru_utime + used.ru_stime if os.waitstatus_to_exitcode(status) == wanted else None
 
 
 def by_turns(first, second, is_good):
@@ -262,7 +265,8 @@ def grows(program, case):
 
     def run_of(rounds):
         size, text = case.itself + int(rounds * case.bytes), case.text(rounds)
-        return lambda: once(case.program or program, [it.format(rounds) for it in case.words], text, size)
+        words = [it.format(rounds) for it in case.words]
+        return lambda: once(case.program or program, words, text, size, case.status)
 
     is_good = lambda short, long: long <= TIMES * short + START
     least = by_turns(run_of(case.rounds), run_of(LONGER * case.rounds), is_good)

@@ -39,6 +39,10 @@ SECONDS = 60
 MOST_BYTES, MOST_SECONDS = 5_000_000, 1.0
 HISTORIES = ["bounded_buffer", "writer_between_readers_fair", "permits_below_zero", "latch_counts_down",
              "taken_past_the_line"]
+# Entry 4 moves a sleeper behind a waiter who was in the queue before it.
+MOVED = (b"aqs-history 1 lock fair seats 3 conditions 1 cap 64\n0 0 got x 1\n1 0 await 0 1\n2 1 got x 1\n"
+         b"3 2 queued x 1\n4 1 signal 0 1\n5 1 gave x 1\n6 2 granted x 1\n7 2 gave x 1\n8 0 back 0 1 signalled\n"
+         b"9 0 gave x 1\nend 10 8\n")
 # What the page says that an entry about a condition does.
 ABOUT_CONDITIONS = {
     "await": "released all, and waits on {}.",
@@ -405,6 +409,7 @@ def results(program, scratch):
         last = json.loads(parts(page_of(program, history))[1])["to"] - 1
         yield from stepped(program, name, history, [], 0, last, scratch)
         yield from stepped(program, name, history, ["--from", str(last // 3)], last // 3, last, scratch)
+    yield from stepped(program, "a sleeper moved by the first entry", MOVED, ["--from", "4"], 4, 9, scratch)
     yield from moves(program, history_of("bounded_buffer"), scratch)
     yield from large(program, scratch)
     try:

@@ -11,6 +11,9 @@ from unittest import mock
 
 import bindings
 
+sys.path.append(f"{bindings.ROOT}/bindings")
+import check
+
 
 class Numbers(unittest.TestCase):
     def test_the_last_line_counts(self):
@@ -94,6 +97,30 @@ class Log(unittest.TestCase):
         self.assertFalse(is_made)
         self.assertIn("error[true]", said)
         self.assertIn("status 3", said)
+
+
+class Callers(unittest.TestCase):
+    """How check.py goes on after a test that fails."""
+
+    def counted(self, *how):
+        with contextlib.redirect_stdout(io.StringIO()) as said:
+            tests = check.Tests("", *how)
+            with contextlib.suppress(check.Ended):
+                tests.count("one", True)
+                tests.run("two", ["false"])
+                tests.run("three", ["true"])
+        return tests.passed, tests.failed, said.getvalue().split("\n")[0]
+
+    def test_all_tests_are_run(self):
+        self.assertEqual(self.counted(), (2, 1, "ok: one"))
+
+    def test_or_none_after_one_that_fails(self):
+        self.assertEqual(self.counted(True), (1, 1, "ok: one"))
+
+    def test_a_test_that_hangs_is_ended(self):
+        with contextlib.redirect_stdout(io.StringIO()) as said, self.assertRaises(check.Ended):
+            check.Tests("", True).run("two", ["sleep", "60"], 0.1)
+        self.assertEqual(said.getvalue(), "FAILED: two\nit did not end in 0.1 seconds\n")
 
 
 if __name__ == "__main__":

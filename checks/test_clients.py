@@ -205,6 +205,18 @@ class LevelDB(unittest.TestCase):
                     os.utime(built.object_of("db/it.cc"), (time_, time_))
                     self.assertEqual(built.stands("db/it.cc"), stands)
 
+    @unittest.skipUnless(os.access(leveldb.TIME, os.X_OK), "GNU time is not installed")
+    def test_memory_is_that_of_the_program_alone(self):
+        ours = b"x" * (64 << 20)
+        for status, rate in ((0, 250_000), (3, None)):
+            with tempfile.TemporaryDirectory() as folder:
+                program = pathlib.Path(folder) / "db_bench"
+                program.write_text(f"#!/bin/sh\necho 'fillrandom : 4.0 micros/op;'\nexit {status}\n", encoding="utf-8")
+                program.chmod(0o755)
+                found = leveldb.bench_once(program, "fillrandom", 1, 10, folder)
+            self.assertEqual(found and found[0], rate)
+            self.assertTrue(found is None or 0 < found[1] * 1024 < len(ours))
+
     def test_cells_are_measured_by_turns(self):
         with mock.patch.object(leveldb, "bench_once", return_value=(1, 1, 1)) as once:
             cells = leveldb.measured({"std": "a", "aqs": "b"}, 10, 2, "/", (1,))

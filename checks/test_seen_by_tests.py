@@ -82,21 +82,5 @@ class Verdicts(unittest.TestCase):
         self.assertTrue(said.startswith(f"{seen_by_tests.BAD}: permit/one: no test ran: error"))
 
 
-class Tries(unittest.TestCase):
-    def counted(self, said, seen_at):
-        """The numbers for one edit that is seen at this try, and how often it was tried."""
-        trials = mock.Mock()
-        trials.tried.side_effect = [(number == seen_at, said) for number in range(1, seen_by_tests.TRIES + 2)]
-        with mock.patch("builtins.print"):
-            return seen_by_tests.tried_all(trials, ["one"], 1, None), trials.tried.call_count
-
-    def test_what_no_test_sees_is_tried_again(self):
-        most = seen_by_tests.TRIES
-        self.assertEqual(self.counted("a word", 1), ([1, 0], 1))
-        self.assertEqual(self.counted("a word", most), ([1, 0], most))
-        self.assertEqual(self.counted("a word", most + 1), ([0, 1], most))
-        self.assertEqual(self.counted("BAD EDIT: why", 2), ([0, 1], 1))
-
-
 if __name__ == "__main__":
     unittest.main()

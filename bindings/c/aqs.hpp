@@ -623,8 +623,10 @@ public:
 
     std::string history() const { return detail::history(aqs_sem_object(&semaphore_)); }
     std::uint64_t trim() { return detail::trim(aqs_sem_object(&semaphore_)); }
-    // How many threads wait for permits. It records nothing.
+    // How many threads wait for permits: all of them are in the queue. It records nothing.
+    std::uint32_t queue_length() const { return detail::queue_length(aqs_sem_object(&semaphore_)); }
     std::uint32_t waiters() const { return detail::waiters(aqs_sem_object(&semaphore_)); }
+    aqs_policy_t policy() const noexcept { return aqs_object_policy(aqs_sem_object(&semaphore_)); }
     native_handle_type native_handle() noexcept { return &semaphore_; }
 
 private:
@@ -683,8 +685,11 @@ public:
 
     std::string history() const { return detail::history(aqs_latch_object(&latch_)); }
     std::uint64_t trim() { return detail::trim(aqs_latch_object(&latch_)); }
-    // How many threads wait until the count is 0. It records nothing.
+    // How many threads wait until the count is 0: all of them are in the queue. It records nothing.
+    std::uint32_t queue_length() const { return detail::queue_length(aqs_latch_object(&latch_)); }
     std::uint32_t waiters() const { return detail::waiters(aqs_latch_object(&latch_)); }
+    // What it was opened with. A latch ignores it.
+    aqs_policy_t policy() const noexcept { return aqs_object_policy(aqs_latch_object(&latch_)); }
     native_handle_type native_handle() noexcept { return &latch_; }
 
 private:

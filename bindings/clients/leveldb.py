@@ -33,6 +33,8 @@ BENCHMARKS = ("fillrandom", "readrandom", "readwhilewriting")
 THREADS = (1, 4, 8, 16)
 ROUNDS = 5
 TEST_SECONDS = 900
+# GNU time, if it is installed.
+TIME = "/usr/bin/time"
 
 
 def patched(text):
@@ -169,20 +171,29 @@ def run_tests(tests, tree, out, gtest):
     tests.count(name, bool(sources) and not failed, "\n".join(failed))
 
 
+def with_peak(words, told):
+    """The command, which also writes the most memory that it had into a file, in kB: what the system says of a child of
+    Python is never less than what Python has itself."""
+    return [TIME, "-f", "%M", "-o", str(told), *words] if os.access(TIME, os.X_OK) else words
+
+
 def bench_once(program, benchmark, threads, operations, data):
     """Operations a second, the most memory in kB, and the processor's seconds. None: it failed."""
     used = "fillrandom" if benchmark == "fillrandom" else f"fillrandom,{benchmark}"
     with room_for_data(data) as room:
+        peak = pathlib.Path(room) / "peak"
         words = [str(program), f"--benchmarks={used}", f"--threads={threads}", f"--num={operations // threads}",
                  f"--db={room}/db"]
         ran = subprocess.Popen(
-            words, stdin=subprocess.DEVNULL, stdout=subprocess.PIPE, stderr=subprocess.DEVNULL, text=True)
+            with_peak(words, peak), stdin=subprocess.DEVNULL, stdout=subprocess.PIPE, stderr=subprocess.DEVNULL,
+            text=True)
         with ran.stdout as printed:
             told = printed.read()
         _, status, use = os.wait4(ran.pid, 0)
         ran.returncode = os.waitstatus_to_exitcode(status)
+        memory = int(peak.read_text(encoding="utf-8").split()[-1]) if peak.exists() else use.ru_maxrss
     rate = rate_in(told, benchmark, threads)
-    return (rate, use.ru_maxrss, use.ru_utime + use.ru_stime) if ran.returncode == 0 and rate else None
+    return (rate, memory, use.ru_utime + use.ru_stime) if ran.returncode == 0 and rate else None
 
 
 def measured(programs, operations, rounds, data, threads=THREADS):

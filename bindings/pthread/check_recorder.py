@@ -8,6 +8,7 @@ import shutil
 import signal
 import subprocess
 import time
+from typing import NamedTuple, Optional
 
 HERE = pathlib.Path(__file__).resolve().parent
 OUT = HERE / "out"
@@ -21,17 +22,19 @@ SECONDS = 120
 MOST_KILOBYTES = 20 * 1024
 
 
-def ran(words, **environment):
+def ran(words, seconds=SECONDS, cwd=None, **environment):
     """The exit status and both outputs of a command, or why there are none. What hangs is killed as a whole."""
     run = subprocess.Popen(
-        words, stdin=subprocess.DEVNULL, stdout=subprocess.PIPE, stderr=subprocess.PIPE, errors="replace",
-        env={**os.environ, **environment}, start_new_session=True)
+        [str(word) for word in words], cwd=cwd, stdin=subprocess.DEVNULL, stdout=subprocess.PIPE,
+        stderr=subprocess.PIPE, errors="replace", env={**os.environ, **environment}, start_new_session=True)
     try:
-        output, errors = run.communicate(timeout=SECONDS)
-    except subprocess.TimeoutExpired:
+        output, errors = run.communicate(timeout=seconds)
+    except BaseException as stop:
         os.killpg(run.pid, signal.SIGKILL)
         run.communicate()
-        return None, "", f"it did not end in {SECONDS} seconds"
+        if isinstance(stop, subprocess.TimeoutExpired):
+            return None, "", f"it did not end in {seconds} seconds"
+        raise
     return run.returncode, output, errors
 
 
@@ -44,20 +47,47 @@ def first_process(folder):
     return max(processes(folder), key=lambda path: len(os.listdir(path)))
 
 
+class Line(NamedTuple):
+    """A line of an index, with a file if there is one."""
+
+    entries: int
+    kept: int
+    waits: int
+    waited: float
+    sleeps: int
+    slept: float
+    file: Optional[str]
+
+
+def line_of(text):
+    words = text.split()
+    file = re.search(r"\S+\.history", text)
+    kept = int(words[1]) if file else 0
+    return Line(
+        int(words[0]), kept, int(words[2]), float(words[3]), int(words[4]), float(words[5]), file and file[0])
+
+
 def index_of(folder):
-    """The lines of an index below its two heads: their entries, and the file's name if they have one."""
-    lines = pathlib.Path(folder, "index").read_text().splitlines()[2:]
-    return [(int(line.split()[0]), re.search(r"\S+\.history", line)) for line in lines]
+    """The lines of an index below its two heads."""
+    return [line_of(text) for text in pathlib.Path(folder, "index").read_text().splitlines()[2:]]
+
+
+def entries_in(file):
+    """How many entries a history has."""
+    return len(re.findall(r"(?m)^\d+ ", pathlib.Path(file).read_text()))
 
 
 def check_index(tests, name, folder):
-    lines = index_of(folder)
-    entries = [count for count, file in lines if file]
-    files = {file[0] for _, file in lines if file}
+    lines = [line for line in index_of(folder) if line.file]
+    entries = [line.entries for line in lines]
+    files = {line.file for line in lines}
     there = {os.path.basename(file) for file in glob.glob(f"{folder}/*.history")}
     is_good = entries == sorted(entries, reverse=True) and files == there and len(files) > 5
     told = f"{entries}\n{files ^ there}"
-    tests.count(f"the index of {name} has each file, the busiest first", is_good, told)
+    if not tests.count(f"the index of {name} has each file, the busiest first", is_good, told):
+        return
+    others = [line for line in lines if line.kept != entries_in(f"{folder}/{line.file}")]
+    tests.count(f"the index of {name} says how many entries each file has", not others, str(others))
     kinds = {file.split("-")[1] for file in there}
     tests.count(f"{name} recorded each kind", kinds == {"mutex", "rwlock", "semaphore"}, str(kinds))
 
@@ -91,12 +121,39 @@ def check_rare_cases(tests):
     tests.count("a fault isn't written to a file of the program", told[1] == "0 bytes\n", str(told))
 
 
+def texts_of(folder):
+    """The histories of a process, those of the objects first that were used first."""
+    files = sorted(glob.glob(f"{folder}/*.history"), key=lambda file: int(os.path.basename(file).split("-")[0]))
+    return [pathlib.Path(file).read_text() for file in files]
+
+
+def check_what_is_recorded(tests):
+    """What is recorded of rare cases whose threads make known calls in a known order."""
+    folder = first_process(tests.histories("record-threads_come_one_after_another"))
+    seats = [re.findall(r"(?m)^\d+ (\d+) got x 1$", text) for text in texts_of(folder)]
+    is_good = seats == [["0", "1", "2"], ["1", "2"]]
+    tests.count("a thread has the same number in each history", is_good, str(seats))
+    texts = texts_of(first_process(tests.histories("record-a_reader_has_another_seat")))
+    seats = [re.findall(r"(?m)^\d+ (\d+) gave s 1$", text) for text in texts if " rw " in text.split("\n")[0]]
+    is_good = seats == [["0", "1", "0"], ["0"]]
+    tests.count("a reader gives back the seat that it has", is_good, str(seats))
+    folder = first_process(tests.histories("record-one_signal_and_a_broadcast"))
+    signals = [re.findall(r"(?m)^\d+ 0 (signal|signalall) 0 (\d+)$", text) for text in texts_of(folder)]
+    is_good = signals == [[("signal", "1"), ("signalall", "2")]]
+    tests.count("a signal wakes one thread, and a broadcast those that are left", is_good, str(signals))
+    lines = index_of(first_process(tests.histories("record-waits_take_a_known_time")))
+    is_good = [(line.waits, line.sleeps) for line in lines] == [(1, 1)]
+    is_good = is_good and 50 <= lines[0].waited < 10_000 and 50 <= lines[0].slept < 10_000
+    tests.count("the index says how often and how long threads waited and slept", is_good, str(lines))
+
+
 def longest_kept(tests, keeps):
     """How many lines the longest history has of a program that keeps so many entries of each object."""
     folder = tests.histories(f"record-keeps-{keeps}")
     told = ran([RECORD, "-o", folder, "-k", keeps, "--", PROGRAM, "40", "60"])
     tests.count(f"a recorded program that keeps {keeps} entries", told[0] == 0, str(told))
     tests.audit(f"{keeps} entries", f"{folder}/*")
+    check_index(tests, f"a program that keeps {keeps} entries", first_process(folder))
     texts = [pathlib.Path(file).read_text() for file in glob.glob(f"{folder}/*/*.history")]
     return max((text.count("\n") for text in texts), default=0)
 
@@ -177,12 +234,13 @@ def check_refusals(tests):
 def check(tests, judged):
     if not tests.run("the recorder is built", ["make", "-s", "all", "tests"], 300, cwd=HERE):
         return
+    check_refusals(tests)
+    check_rare_cases(tests)
+    check_what_is_recorded(tests)
     for words in RUNS:
         check_run(tests, words)
-    check_rare_cases(tests)
     check_folded(tests)
     check_killed(tests, " when asked by SIGUSR2", judged, True, AQS_EVERY="0")
     check_killed(tests, " by itself", judged, False)
     check_cost(tests)
     check_stripped(tests)
-    check_refusals(tests)

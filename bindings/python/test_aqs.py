@@ -388,6 +388,15 @@ class Objects(Tests):
                     self.assertFalse(wait(microseconds / 1e6))
                     self.assertGreaterEqual(time.monotonic() - begin, microseconds / 1e6, name)
 
+    def test_times_longer_than_a_slice_are_not_cut_short(self):
+        permits, lock = aqs.Semaphore(0), aqs.RLock()
+        time_ = 2.5 * _waiting.SLICE
+        with lock:
+            for wait in (lambda it: permits.acquire(timeout=it), lock.wait, aqs.Event().wait):
+                begin = time.monotonic()
+                self.assertFalse(wait(time_))
+                self.assertGreaterEqual(time.monotonic() - begin, time_)
+
     def test_times_longer_than_those_of_c(self):
         permits = aqs.Semaphore(0)
         threads = run_all(2, lambda number: permits.acquire(timeout=(2**32, aqs.TIMEOUT_MAX)[number]))
@@ -690,6 +699,31 @@ class Conditions(Tests):
             condition.notify()
         join_all(threads)
         self.assertEqual(woken, [0])
+
+    def test_an_interrupt_before_a_notify_is_kept(self):
+        lock, told, seen = aqs.RLock(), [], []
+        condition = aqs.Condition(lock)
+
+        def wait(_number):
+            with lock:
+                told.append(aqs.current_thread())
+                seen.extend((condition.wait(interruptible=True), aqs.interrupted()))
+
+        threads = run_all(1, wait)
+        until(lambda: len(condition._queue) == 1)
+        with lock:
+            aqs.interrupt(told[0])
+            until(lambda: lock.queue_length() == 1)
+            condition.notify()
+        join_all(threads)
+        self.assertEqual(seen, [True, True])
+
+    def test_a_wait_by_a_number_is_recorded_by_it(self):
+        for lock in (aqs.RLock(conditions=4, keep_history=True), aqs.RWLock(conditions=4, keep_history=True)):
+            side = lock if isinstance(lock, aqs.RLock) else lock.write
+            with side:
+                self.assertFalse(side.wait(0.01, condition=3))
+            self.assertEqual(set(re.findall(r"(?m) await (\d+) ", lock.history())), {"3"})
 
     def test_a_time_does_not_begin_anew_at_a_notify(self):
         for condition in (aqs.RLock(), aqs.RWLock().write, aqs.Condition(), aqs.Condition(threading.Lock())):

@@ -104,7 +104,7 @@ static void pieces() {
     std::vector<std::uint32_t> asked;
     auto never = [&](std::uint32_t time) {
         asked.push_back(time);
-        return AQS_TIMED_OUT;
+        return asked.size() < 9 ? AQS_TIMED_OUT : AQS_MISUSE;
     };
     CHECK(aqs::detail::for_time(std::chrono::milliseconds(4294967295), never) == AQS_TIMED_OUT);
     CHECK(asked == std::vector<std::uint32_t>{4294967295});
@@ -123,6 +123,38 @@ static void pieces() {
     };
     CHECK(aqs::detail::for_time(std::chrono::hours::max(), at_last) == AQS_INTERRUPTED);
     CHECK(asked.size() == 3);
+}
+
+// A clock that goes on as the test says.
+struct set_clock {
+    typedef std::chrono::milliseconds duration;
+    typedef duration::rep rep;
+    typedef duration::period period;
+    typedef std::chrono::time_point<set_clock> time_point;
+    static constexpr bool is_steady = true;
+    static inline time_point shown;
+    static time_point now() { return shown; }
+};
+
+// A call that ends at the moment, or after it, is the last. One that ends before is made again with what is left.
+static void moments() {
+    std::vector<std::uint32_t> asked;
+    auto all = [&](std::uint32_t time) {
+        asked.push_back(time);
+        set_clock::shown += std::chrono::milliseconds(time);
+        return AQS_TIMED_OUT;
+    };
+    CHECK(aqs::detail::until_moment(set_clock::now() + 20ms, all) == AQS_TIMED_OUT);
+    CHECK(aqs::detail::until_moment(set_clock::now() - 1ms, all) == AQS_TIMED_OUT);
+    CHECK((asked == std::vector<std::uint32_t>{20, 0}));
+    asked.clear();
+    auto half = [&](std::uint32_t time) {
+        asked.push_back(time);
+        set_clock::shown += std::chrono::milliseconds((time + 1) / 2);
+        return AQS_TIMED_OUT;
+    };
+    CHECK(aqs::detail::until_moment(set_clock::now() + 20ms, half) == AQS_TIMED_OUT);
+    CHECK((asked == std::vector<std::uint32_t>{20, 10, 5, 2, 1}));
 }
 
 template <class Clock, class Call>
@@ -181,6 +213,7 @@ static void never_early() {
 int main() {
     alarm(60);
     pieces();
+    moments();
     over_at_once();
     never_early();
     waits_long();

@@ -114,11 +114,38 @@ static void fork_once(int way) {
     ends_well(child);
 }
 
+/* A call that gets no seat leaves nothing for which a fork waits. */
+
+static aqs_lock_t *narrow; /* with one seat */
+static atomic_bool was_refused, has_forked;
+
+static void *is_refused(void *none) {
+    IS(aqs_lock_trylock(narrow), AQS_TOO_MANY_THREADS);
+    atomic_store(&was_refused, true);
+    while (!atomic_load(&has_forked)) usleep(1000);
+    return none;
+}
+
+static void fork_after_a_refusal(void) {
+    pthread_t thread;
+    IS(aqs_lock_open(&narrow, &(aqs_options_t){.threads = 1}), AQS_OK);
+    IS(aqs_lock_lock(narrow), AQS_OK);
+    CHECK(pthread_create(&thread, NULL, is_refused, NULL) == 0);
+    while (!atomic_load(&was_refused)) usleep(1000);
+    fork_once(HOLDS_NOTHING);
+    atomic_store(&has_forked, true);
+    CHECK(pthread_join(thread, NULL) == 0);
+    IS(aqs_lock_unlock(narrow), AQS_OK);
+    aqs_lock_close(narrow);
+}
+
 int main(void) {
     pthread_t threads[THREADS];
-    alarm(100);
+    alarm(20);
     CHECK(pthread_atfork(lock_before_late, unlock_after_late, unlock_after_late) == 0);
     use_all();
+    fork_after_a_refusal();
+    alarm(100);
     for (int i = 0; i < THREADS; i++) CHECK(pthread_create(&threads[i], NULL, go_on_trying, NULL) == 0);
     for (int i = 0; i < FORKS; i++) fork_once(i % BY_EARLY_HANDLERS);
     atomic_store(&is_over, true);

@@ -261,6 +261,8 @@ static void questions() {
     aqs::plain_mutex plain;
     aqs::shared_mutex shared(aqs::options().fair());
     CHECK(mutex.policy() == AQS_STRICT && plain.policy() == AQS_NONFAIR && shared.policy() == AQS_FAIR);
+    aqs::semaphore any(1), fair(1, aqs::options().fair());
+    CHECK(any.policy() == AQS_NONFAIR && fair.policy() == AQS_FAIR && aqs::latch(1).policy() == AQS_NONFAIR);
     CHECK(!mutex.is_mine() && mutex.holds() == 0 && !plain.is_mine() && !shared.is_mine());
     CHECK(!mutex.is_locked() && !plain.is_locked() && !shared.is_write_locked());
     {
@@ -303,6 +305,7 @@ static void waiters() {
     while (mutex.queue_length() != 1 || plain.queue_length() != 1 || shared.queue_length() != 1)
         std::this_thread::yield();
     while (permits.waiters() != 1 || latch.waiters() != 1) std::this_thread::yield();
+    CHECK(permits.queue_length() == 1 && latch.queue_length() == 1);
     CHECK(mutex.waiters() == 1 && plain.waiters() == 1 && shared.waiters() == 1);
     one.unlock();
     while (mutex.queue_length() != 0 || mutex.is_locked()) std::this_thread::yield();

@@ -208,6 +208,37 @@ static void released_by_its_own_handler(void) {
     }
 }
 
+/* The same at a latch, of which a handler of the thread that waits counts the last. */
+
+static aqs_latch_t *gate;
+
+static void on_counting(int number) {
+    (void)number;
+    IS(aqs_latch_count_down(gate), AQS_OK);
+}
+
+static void *pass_once(void *none) {
+    atomic_store(&in_call, 1);
+    IS(aqs_latch_await(gate), AQS_OK);
+    return none;
+}
+
+static void opened_by_its_own_handler(void) {
+    struct sigaction action = {.sa_handler = on_counting};
+    CHECK(sigaction(SIGUSR1, &action, NULL) == 0);
+    for (int i = 0; i < 100; i++) {
+        pthread_t thread;
+        atomic_store(&in_call, 0);
+        IS(aqs_latch_open(&gate, 1, NULL), AQS_OK);
+        CHECK(pthread_create(&thread, NULL, pass_once, NULL) == 0);
+        while (atomic_load(&in_call) == 0) sched_yield();
+        if (i % 2) usleep(2000);
+        CHECK(pthread_kill(thread, SIGUSR1) == 0);
+        CHECK(pthread_join(thread, NULL) == 0);
+        aqs_latch_close(gate);
+    }
+}
+
 /* The same, with a handler that interrupts the thread that waits. */
 
 static void on_interrupting(int number) {
@@ -413,6 +444,7 @@ int main(void) {
     without_memory();
     take_the_only_one();
     released_by_its_own_handler();
+    opened_by_its_own_handler();
     interrupted_by_its_own_handler();
     IS(aqs_sem_release(semaphore, 3), AQS_OK);
     storm();

@@ -112,12 +112,14 @@ PUTS(aqs_sem_getvalue, aqs_sem_t, int64_t, -10)
 PUTS(aqs_latch_getcount, aqs_latch_t, uint32_t, 11)
 PUTS(aqs_barrier_wait, aqs_barrier_t, aqs_bool_t, true)
 
+// A text for which more room is asked than it takes.
+static const std::string the_text = "a text of 20 letters";
 extern "C" aqs_status_t aqs_history_text(aqs_object_t *it, char *buffer, size_t size, size_t *length) {
     note("aqs_history_text", it, {});
-    *length = 4;
+    *length = the_text.size();
     if (answer != AQS_OK) return answer;
-    if (size < 4) return AQS_NO_SPACE;
-    buffer[0] = 't', buffer[1] = 'e', buffer[2] = 'x', buffer[3] = 't';
+    if (size < the_text.size()) return AQS_NO_SPACE;
+    the_text.copy(buffer, the_text.size());
     return AQS_OK;
 }
 extern "C" aqs_status_t aqs_sem_init(aqs_sem_t *it, int32_t permits, const aqs_options_t *options) {
@@ -192,6 +194,12 @@ static void says(const std::string &call, const void *object, long value, const 
     CHECK(member() == value && made == call && of[0] == object);
 }
 
+// One that is given a guard which doesn't own its lock makes no call.
+static void refuses(const std::function<void()> &member) {
+    made.clear();
+    CHECK(told([&] { member(); return 1; }) == thrown(AQS_NOT_OWNER) && made.empty());
+}
+
 static const auto past = std::chrono::steady_clock::now();
 
 // The members that each lock has to lock it, or one side of it.
@@ -226,6 +234,9 @@ static void conditions(Lock &lock, const std::string &kind) {
     CHECK(!condition.wait_for(guard, 0ms, no) && made == call + "timedwait 2 0");
     answer = AQS_OK;
     does(call + "signal 0", it, [&] { lock.condition().notify_one(); });
+    std::unique_lock<Lock> without(lock, std::defer_lock);
+    refuses([&] { condition.wait(without); });
+    refuses([&] { condition.wait_for(without, 5ms); });
 }
 
 // Those of each object.
@@ -234,7 +245,7 @@ static void histories(Object &object) {
     const void *it = object.native_handle();
     tells("aqs_history_trim", it, 8, [&] { return (long)object.trim(); });
     made.clear();
-    CHECK(object.history() == "text" && made == "aqs_history_text; aqs_history_text" && of.back() == it);
+    CHECK(object.history() == the_text && made == "aqs_history_text; aqs_history_text" && of.back() == it);
 }
 template <class Object>
 static void questions(Object &object) {
@@ -295,6 +306,9 @@ static void condition_objects() {
     tries("aqs_cond_timedwait 0", it, [&] { return condition.wait_until(guard, past); });
     does("aqs_cond_signal", it, [&] { condition.notify_one(); });
     does("aqs_cond_signal_all", it, [&] { condition.notify_all(); });
+    std::unique_lock<Lock> without(lock, std::defer_lock);
+    refuses([&] { condition.wait(without); });
+    refuses([&] { condition.wait_for(without, 5ms); });
 }
 
 static void semaphores() {
@@ -314,7 +328,7 @@ static void semaphores() {
     does("aqs_sem_release 5", it, [&] { permits.release(5); });
     tells("aqs_sem_drain", it, 9, [&] { return permits.drain(); });
     tells("aqs_sem_getvalue", it, -10, [&] { return permits.available(); });
-    tells("aqs_object_waiters", it, 7, [&] { return permits.waiters(); });
+    questions(permits);
     histories(permits);
 }
 
@@ -328,7 +342,7 @@ static void latches() {
     tries("aqs_latch_timedawait 0", it, [&] { return latch.wait_until(past); });
     tells("aqs_latch_getcount", it, 11, [&] { return latch.count(); });
     tells("aqs_latch_getcount", it, 0, [&] { return latch.try_wait(); });
-    tells("aqs_object_waiters", it, 7, [&] { return latch.waiters(); });
+    questions(latch);
     histories(latch);
     made.clear();
     latch.arrive_and_wait(2);

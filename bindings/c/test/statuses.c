@@ -67,6 +67,10 @@ static const play_t plays_of_locks[] = {
      "0 timedlock 5 = HISTORY_FULL; 1 lock = HISTORY_FULL; 1 timedlock 5 = HISTORY_FULL; "
      "1 timedlock 0 = TIMED_OUT; 0 signal 0 = OK; [15: 0 unlock = OK]; "
      "0 unlock = NOT_OWNER; 1 lock = OK; 1 unlock = OK", NULL},
+    {"a signal for which there is no room leaves the lock free", "lock fair seats 3 conditions 1 cap 16",
+     "1 lock = OK; 1 await_interruptibly 0 ..; [3: 0 lock = OK; 0 unlock = OK]; 2 lock = OK; 0 notify 0 ..; "
+     "2 interrupt 1 = OK; 1 waits; 2 unlock = OK; 0 = HISTORY_FULL; 1 = INTERRUPTED; 1 unlock = OK; "
+     "0 is_mine = 0; 0 trim = 16; 2 trylock = OK; 2 unlock = OK", NULL},
 };
 
 static const play_t plays_of_rwlocks[] = {

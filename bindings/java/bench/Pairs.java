@@ -1,12 +1,16 @@
 import aqs.AqsLock;
 import aqs.AqsReadWriteLock;
 import aqs.AqsSemaphore;
+import java.util.Arrays;
 import java.util.concurrent.Semaphore;
 import java.util.concurrent.locks.Lock;
 import java.util.concurrent.locks.ReentrantLock;
 import java.util.concurrent.locks.ReentrantReadWriteLock;
 
-/** Nanoseconds of a pair of calls by one thread, the best of some rounds: java Pairs [ROUNDS]. */
+/**
+ * Nanoseconds of a pair of calls by one thread, the best and the median of some rounds: java Pairs [ROUNDS]. As many
+ * rounds before them are not counted, in which the calls are compiled.
+ */
 final class Pairs {
     private static final int PAIRS = 10_000;
 
@@ -45,17 +49,18 @@ final class Pairs {
     }
 
     static void tell(String name, int rounds, Work work) throws InterruptedException {
-        long best = Long.MAX_VALUE;
-        for (int i = 0; i < rounds; i++) {
+        double[] took = new double[rounds];
+        for (int i = -rounds; i < rounds; i++) {
             long begin = System.nanoTime();
             work.run();
-            best = Math.min(best, System.nanoTime() - begin);
+            took[Math.max(i, 0)] = (double) (System.nanoTime() - begin) / PAIRS;
         }
-        System.out.printf("%-40s %7.1f ns%n", name, (double) best / PAIRS);
+        Arrays.sort(took);
+        System.out.printf("%-34s best %7.1f, median %7.1f ns%n", name, took[0], took[rounds / 2]);
     }
 
     public static void main(String[] words) throws InterruptedException {
-        int rounds = words.length > 0 ? Integer.parseInt(words[0]) : 600;
+        int rounds = words.length > 0 ? Integer.parseInt(words[0]) : 300;
         try (AqsLock lock = new AqsLock();
                 AqsReadWriteLock sides = new AqsReadWriteLock();
                 AqsSemaphore permits = new AqsSemaphore(1)) {

@@ -527,6 +527,48 @@ final class AqsTest {
         }
     }
 
+    /** One that comes while the last thread's action fails stays set too, though the barrier is broken. */
+    static void lateInterruptAtABrokenBarrier() throws Exception {
+        Thread[] waiter = new Thread[1];
+        AtomicInteger kept = new AtomicInteger();
+        Runnable failing = () -> {
+            waiter[0].interrupt();
+            LockSupport.parkNanos(50_000_000);
+            throw new IllegalStateException();
+        };
+        try (AqsCyclicBarrier barrier = new AqsCyclicBarrier(2, failing)) {
+            waiter[0] = start(() -> {
+                throwing(BrokenBarrierException.class, barrier::await);
+                kept.set(Thread.interrupted() ? 1 : 2);
+            });
+            while (barrier.getNumberWaiting() < 1) {
+                Thread.sleep(1);
+            }
+            throwing(IllegalStateException.class, barrier::await);
+            waiter[0].join();
+            same(kept.get(), 1);
+        }
+    }
+
+    /** A time that is up while the last thread's action runs ends nothing: all have come. */
+    static void lateTime() throws Exception {
+        long end = System.nanoTime() + 2_100_000_000L;
+        Runnable long_ = () -> {
+            while (System.nanoTime() < end) {
+                LockSupport.parkNanos(10_000_000);
+            }
+        };
+        try (AqsCyclicBarrier barrier = new AqsCyclicBarrier(2, long_)) {
+            Thread waiter = start(() -> same(barrier.await(2, TimeUnit.SECONDS), 1));
+            while (barrier.getNumberWaiting() < 1) {
+                Thread.sleep(1);
+            }
+            same(barrier.await(), 0);
+            waiter.join();
+            check(!barrier.isBroken());
+        }
+    }
+
     public static void main(String[] words) throws Exception {
         folder = Paths.get(words[0]);
         options();
@@ -535,6 +577,8 @@ final class AqsTest {
         conditions();
         barriers();
         lateInterrupt();
+        lateInterruptAtABrokenBarrier();
+        lateTime();
         interruptedLocks(false);
         interruptedLocks(true);
         System.out.println("java: good");

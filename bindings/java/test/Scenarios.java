@@ -281,6 +281,12 @@ final class Scenarios {
             arguments.add(Long.parseLong(word.replace("ns", "")));
             return Math.max(0, (long) arguments.get(0));
         }
+        if (word.matches("\\d+s")) {
+            long seconds = Long.parseLong(word.replace("s", ""));
+            arguments.add(seconds);
+            arguments.add(TimeUnit.SECONDS);
+            return TimeUnit.SECONDS.toNanos(seconds);
+        }
         if (word.equals("always")) {
             arguments.add(Long.MAX_VALUE);
             arguments.add(TimeUnit.DAYS);

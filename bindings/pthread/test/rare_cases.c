@@ -582,6 +582,186 @@ static void waits_until_long_ago(void) {
     CHECK(pthread_rwlock_unlock(&lock) == 0 && pthread_mutex_unlock(&mutex) == 0);
 }
 
+/* What is recorded --------------------------------------------------------------------------------------- */
+
+static pthread_mutex_t second = PTHREAD_MUTEX_INITIALIZER;
+static atomic_int stage;
+
+static void wait_for_stage(int number) {
+    while (stage != number) usleep(1000);
+}
+
+/* Locks both in its stage. It lives until the last stage. */
+static void *lock_both(void *mine) {
+    wait_for_stage((int)(long)mine);
+    use_mutex();
+    CHECK(!pthread_mutex_lock(&second) && !pthread_mutex_unlock(&second));
+    stage++;
+    wait_for_stage(2);
+    return NULL;
+}
+
+static void threads_come_one_after_another(void) {
+    pthread_t threads[2];
+    for (long i = 0; i < 2; i++) threads[i] = started(lock_both, (void *)i);
+    for (int i = 0; i < 2; i++) join(threads[i]);
+    printf("%d threads\n", stage);
+}
+
+/* A thread of number 4 reads, whose seat is that of the main thread, which then reads by another, and by its own at
+   another lock. It gives back what it has. */
+static pthread_rwlock_t crowded = PTHREAD_RWLOCK_INITIALIZER, calm = PTHREAD_RWLOCK_INITIALIZER;
+
+static void *read_first(void *mine) {
+    wait_for_stage((int)(long)mine);
+    use_mutex(); /* now it has a number */
+    if (mine == (void *)4) CHECK(pthread_rwlock_rdlock(&crowded) == 0);
+    stage++;
+    wait_for_stage(6);
+    if (mine == (void *)4) CHECK(pthread_rwlock_unlock(&crowded) == 0);
+    return NULL;
+}
+
+static void a_reader_has_another_seat(void) {
+    pthread_t threads[4];
+    CHECK(!pthread_rwlock_rdlock(&crowded) && !pthread_rwlock_unlock(&crowded));
+    stage = 1;
+    for (long i = 0; i < 4; i++) threads[i] = started(read_first, (void *)(i + 1));
+    wait_for_stage(5);
+    CHECK(!pthread_rwlock_rdlock(&crowded) && !pthread_rwlock_rdlock(&calm));
+    CHECK(!pthread_rwlock_unlock(&crowded) && !pthread_rwlock_unlock(&calm));
+    stage = 6;
+    for (int i = 0; i < 4; i++) join(threads[i]);
+    printf("%d threads\n", stage);
+}
+
+static long resident(void) {
+    long pages = 0, all = 0;
+    FILE *file = fopen("/proc/self/statm", "r");
+    CHECK(file && fscanf(file, "%ld %ld", &all, &pages) == 2 && fclose(file) == 0);
+    return pages * sysconf(_SC_PAGESIZE) / 1024;
+}
+
+static void wait_with_a_new_mutex(void) {
+    struct timespec past = {1, 0};
+    pthread_mutex_t own;
+    CHECK(!pthread_mutex_init(&own, NULL) && !pthread_mutex_lock(&own));
+    CHECK(pthread_cond_timedwait(&condition, &own, &past) == ETIMEDOUT);
+    CHECK(!pthread_mutex_unlock(&own) && !pthread_mutex_destroy(&own));
+}
+
+/* What a mutex and its conditions took is free again when it is destroyed. */
+static void destroyed_mutexes_leave_no_memory(void) {
+    for (int i = 0; i < 1000; i++) wait_with_a_new_mutex();
+    long before = resident();
+    for (int i = 0; i < 40000; i++) wait_with_a_new_mutex();
+    long more = resident() - before;
+    if (more < 2000) printf("no more memory\n");
+    else printf("%ld kB more\n", more);
+}
+
+static int allowed, woken;
+
+static void *wait_until_allowed(void *nothing) {
+    CHECK(pthread_mutex_lock(&mutex) == 0);
+    is_done++;
+    while (!allowed) CHECK(pthread_cond_wait(&condition, &mutex) == 0);
+    allowed--, woken++;
+    CHECK(pthread_mutex_unlock(&mutex) == 0);
+    return nothing;
+}
+
+static void wait_for_woken(int number) {
+    for (int is_so = 0; !is_so;) {
+        CHECK(pthread_mutex_lock(&mutex) == 0);
+        is_so = woken == number;
+        CHECK(pthread_mutex_unlock(&mutex) == 0);
+        if (!is_so) usleep(1000);
+    }
+}
+
+/* The owner wakes one of three threads, and then the others. */
+static void one_signal_and_a_broadcast(void) {
+    pthread_t threads[3];
+    for (int i = 0; i < 3; i++) threads[i] = started(wait_until_allowed, NULL);
+    while (is_done < 3) usleep(1000);
+    CHECK(pthread_mutex_lock(&mutex) == 0);
+    allowed = 1;
+    CHECK(!pthread_cond_signal(&condition) && !pthread_mutex_unlock(&mutex));
+    wait_for_woken(1);
+    CHECK(pthread_mutex_lock(&mutex) == 0);
+    allowed = 2;
+    CHECK(!pthread_cond_broadcast(&condition) && !pthread_mutex_unlock(&mutex));
+    for (int i = 0; i < 3; i++) join(threads[i]);
+    printf("%d woken\n", woken);
+}
+
+static void *wait_and_sleep(void *nothing) {
+    is_done = 1;
+    CHECK(pthread_mutex_lock(&mutex) == 0);
+    struct timespec soon = after(CLOCK_REALTIME, 150);
+    CHECK(pthread_cond_timedwait(&condition, &mutex, &soon) == ETIMEDOUT);
+    CHECK(pthread_mutex_unlock(&mutex) == 0);
+    return nothing;
+}
+
+/* A thread waits for the mutex for 300 ms, and then sleeps on the condition for 150 ms. */
+static void waits_take_a_known_time(void) {
+    CHECK(pthread_mutex_lock(&mutex) == 0);
+    pthread_t thread = started(wait_and_sleep, NULL);
+    while (!is_done) usleep(1000);
+    usleep(300000);
+    CHECK(pthread_mutex_unlock(&mutex) == 0);
+    join(thread);
+    printf("done\n");
+}
+
+/* How a wait until a moment ended, and whether that has come. */
+static void tell_end(const char *call, int error, clockid_t clock, struct timespec moment) {
+    struct timespec now;
+    CHECK(clock_gettime(clock, &now) == 0);
+    int is_early = now.tv_sec == moment.tv_sec ? now.tv_nsec < moment.tv_nsec : now.tv_sec < moment.tv_sec;
+    printf("%s: %s, %s\n", call, strerrorname_np(error), is_early ? "early" : "in time");
+}
+
+static void wait_by_clock(pthread_rwlock_t *lock, pthread_mutex_t *own, clockid_t clock, clockid_t other) {
+    pthread_condattr_t attributes;
+    pthread_cond_t variable;
+    CHECK(!pthread_condattr_init(&attributes) && !pthread_condattr_setclock(&attributes, clock));
+    CHECK(pthread_cond_init(&variable, &attributes) == 0);
+    struct timespec moment = after(clock, 30);
+    tell_end("condition", pthread_cond_timedwait(&variable, own, &moment), clock, moment);
+    moment = after(other, 30);
+    tell_end("condition, by the other", pthread_cond_clockwait(&variable, own, other, &moment), other, moment);
+    moment = after(clock, 30);
+    tell_end("mutex", pthread_mutex_clocklock(&mutex, clock, &moment), clock, moment);
+    moment = after(clock, 30);
+    tell_end("to read", pthread_rwlock_clockrdlock(lock, clock, &moment), clock, moment);
+    moment = after(clock, 30);
+    tell_end("to write", pthread_rwlock_clockwrlock(lock, clock, &moment), clock, moment);
+    moment = after(clock, 30);
+    tell_end("semaphore", sem_clockwait(&nothing_comes, clock, &moment) ? errno : 0, clock, moment);
+    CHECK(pthread_cond_destroy(&variable) == 0);
+}
+
+static void *wait_by_each_clock(void *lock) {
+    pthread_mutex_t own = PTHREAD_MUTEX_INITIALIZER;
+    CHECK(pthread_mutex_lock(&own) == 0);
+    wait_by_clock(lock, &own, CLOCK_REALTIME, CLOCK_MONOTONIC);
+    wait_by_clock(lock, &own, CLOCK_MONOTONIC, CLOCK_REALTIME);
+    CHECK(pthread_mutex_unlock(&own) == 0);
+    return NULL;
+}
+
+/* No wait ends before its time, by whichever clock. */
+static void waits_end_by_their_clocks(void) {
+    pthread_rwlock_t lock = PTHREAD_RWLOCK_INITIALIZER;
+    CHECK(sem_init(&nothing_comes, 0, 0) == 0);
+    CHECK(pthread_mutex_lock(&mutex) == 0 && pthread_rwlock_wrlock(&lock) == 0);
+    join(started(wait_by_each_clock, &lock));
+    CHECK(pthread_rwlock_unlock(&lock) == 0 && pthread_mutex_unlock(&mutex) == 0);
+}
+
 #define CASE(name) {#name, name}
 static const struct {
     const char *name;
@@ -607,6 +787,12 @@ static const struct {
     CASE(reader_asks_to_write),
     CASE(reader_comes_while_a_writer_waits),
     CASE(waits_until_long_ago),
+    CASE(threads_come_one_after_another),
+    CASE(a_reader_has_another_seat),
+    CASE(destroyed_mutexes_leave_no_memory),
+    CASE(one_signal_and_a_broadcast),
+    CASE(waits_take_a_known_time),
+    CASE(waits_end_by_their_clocks),
 };
 
 int main(int argc, char **argv) {

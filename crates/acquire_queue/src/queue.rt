@@ -157,7 +157,7 @@ impl Queue {
     }
 
     /// Returns what a seat in the queue asks for, in constant time.
-    pub fn arrival_of(&self, seat: u16) -> Option<Arrival>
+    pub fn place_of(&self, seat: u16) -> Option<Arrival>
         ensures { result ≡ place_of seat self.now.arrivals }
     {
         let number = self.number_of(seat)?;

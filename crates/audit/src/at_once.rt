@@ -78,9 +78,7 @@ impl Ledger {
         ensures { (s : Start) (h : List Entry) → LedgerStand s h self.now → IsTrue result →
             acquired (counts s h) (first_mode s h) seat mode n ≡ word.Got }
     {
-        !self.is_held_back(seat, mode)
-            && !self.is_at_limit(seat, mode)
-            && self.could_take(seat, mode, n)
+        !self.holds_back(seat, mode) && !self.at_limit(seat, mode) && self.could(seat, mode, n)
     }
 
     /// Returns whether an acquire of an idle seat is queued.
@@ -90,10 +88,10 @@ impl Ledger {
         ensures { (s : Start) (h : List Entry) → LedgerStand s h self.now → IsTrue result →
             acquired (counts s h) (first_mode s h) seat mode n ≡ word.Queued }
     {
-        if self.is_held_back(seat, mode) {
+        if self.holds_back(seat, mode) {
             return true;
         }
-        !self.is_at_limit(seat, mode) && !self.could_take(seat, mode, n)
+        !self.at_limit(seat, mode) && !self.could(seat, mode, n)
     }
 
     /// Returns whether the release of an idle seat gives back a hold of a lock.
@@ -118,7 +116,7 @@ impl Ledger {
                 && !first.back
                 && is_same_mode(first.mode, mode)
                 && first.n == n
-                && self.could_take(seat, mode, n),
+                && self.could(seat, mode, n),
             None => false,
         }
     }

@@ -89,12 +89,12 @@ impl ObjectState for Ledger {
     }
 
     #[inline(always)]
-    fn is_held_back(&self, seat: u16, mode: Mode) -> bool {
+    fn holds_back(&self, seat: u16, mode: Mode) -> bool {
         !self.is_reentrant(seat, mode) && self.line_blocks(mode)
     }
 
     #[inline(always)]
-    fn is_at_limit(&self, seat: u16, mode: Mode) -> bool {
+    fn at_limit(&self, seat: u16, mode: Mode) -> bool {
         match (self.header.object, mode) {
             (Object::Lock(_), Mode::X) => self.holds.exclusive[seat as usize] == MAX_HOLDS,
             (Object::ReadWrite(_), Mode::X) => self.holds.exclusive[seat as usize]
@@ -106,7 +106,7 @@ impl ObjectState for Ledger {
     }
 
     #[inline(always)]
-    fn could_take(&self, seat: u16, mode: Mode, n: u32) -> bool {
+    fn could(&self, seat: u16, mode: Mode, n: u32) -> bool {
         match (self.header.object, mode) {
             (Object::Lock(_), Mode::X) => {
                 self.is_free_for(seat) && self.holds.exclusive[seat as usize] < MAX_HOLDS
@@ -147,7 +147,7 @@ impl ObjectState for Ledger {
         }
     }
 
-    fn line_length(&self) -> u16 {
+    fn queue_length(&self) -> u16 {
         self.waiting.line.live_len()
     }
 
@@ -158,7 +158,7 @@ impl ObjectState for Ledger {
 
     #[inline(always)]
     fn place_of(&self, seat: u16) -> Option<Arrival> {
-        self.waiting.line.arrival_of(seat)
+        self.waiting.line.place_of(seat)
     }
 
     #[inline(always)]
@@ -166,7 +166,7 @@ impl ObjectState for Ledger {
         self.waiting.asleep.sleeper_of(seat).is_some()
     }
 
-    fn sleepers(&self, condition: u8) -> u16 {
+    fn waiters(&self, condition: u8) -> u16 {
         self.waiting.asleep.len(condition)
     }
 

@@ -7,8 +7,9 @@
 //!
 //! `bench_pairs` makes a few of each, and `bench_pairs NAME` a few of one. `bench_pairs lock_pairs measure`
 //! and `bench_pairs monitor_pairs measure MS` measure how many pairs the threads make. `bench_pairs closes
-//! SEATS TIMES` closes this many locks of this many seats, and `bench_pairs trims PAIRS TIMES` measures this many trims, each
-//! behind as many pairs.
+//! SEATS TIMES` closes this many locks of this many seats. `bench_pairs trims PAIRS TIMES` measures this many
+//! trims, each behind as many pairs. With `cold` as a third word, 64 MB of other memory are written over before
+//! each trim.
 #![tactic(auto)]
 
 mod closes;
@@ -38,12 +39,15 @@ fn run<R: Print + Eprint + AllocGlobal + Threads + Wait + Clock + Sync>(
             lock_pairs::run(rt, false)?;
             monitor_pairs::run(rt, false, None)?;
             closes::run(rt, None, None)?;
-            trims::run(rt, None, None)
+            trims::run(rt, None, None, false)
         }
         Some("lock_pairs") => lock_pairs::run(rt, measure),
         Some("monitor_pairs") => monitor_pairs::run(rt, measure, milliseconds),
         Some("closes") => closes::run(rt, word_at(words, 1), word_at(words, 2)),
-        Some("trims") => trims::run(rt, word_at(words, 1), word_at(words, 2)),
+        Some("trims") => {
+            let cold = word_at(words, 3) == Some("cold");
+            trims::run(rt, word_at(words, 1), word_at(words, 2), cold)
+        }
         Some(other) => eprintln!(rt; "bench_pairs: no pairs {other}"),
     }
 }

@@ -184,10 +184,12 @@ impl Waiters {
         Some(seat as u16)
     }
 
-    /// Returns the waiter right after another one of its condition.
+    /// Returns the waiter right after another one of its condition. There is none after the last one, nor after a
+    /// seat that waits on no condition.
     pub fn behind(&self, seat: u16) -> Option<u16>
-        ensures { (c k : ℕ) → slice_get (asleep_on self.now c) k ≡ Some seat
+        ensures next { (c k : ℕ) → slice_get (asleep_on self.now c) k ≡ Some seat
             → result ≡ slice_get (asleep_on self.now c) (k + 1) }
+        ensures awake { sleeper_of self.now seat ≡ None → result ≡ None }
     {
         let _sleeper = self.sleeper_of(seat)?;
         let next = self.lists.behind(seat as usize)?;

@@ -37,7 +37,7 @@ pub fn balance_of<T: ObjectState>(state: &T) -> Balance
     Balance {
         exclusive: held_by_all(state, Mode::X),
         shared: held_by_all(state, Mode::S),
-        line: state.line_length(),
+        line: state.queue_length(),
         sleepers: all_asleep(state),
         available: available(state),
         count: state.latch_count(),
@@ -63,7 +63,7 @@ fn all_asleep<T: ObjectState>(state: &T) -> u32
 {
     let mut all = 0;
     for condition in 0..state.header().conditions {
-        all += u32::from(state.sleepers(condition));
+        all += u32::from(state.waiters(condition));
     }
     all
 }

@@ -39,7 +39,7 @@ pub fn ready<T: ObjectState>(state: &T) -> Option<u16>
     match state.first() {
         None => None,
         Some(first) => {
-            if state.could_take(first.seat, first.mode, first.n) {
+            if state.could(first.seat, first.mode, first.n) {
                 Some(first.seat)
             } else {
                 None
@@ -56,7 +56,7 @@ fn is_ready<T: ObjectState>(state: &T, seat: u16) -> bool
 {
     match state.first() {
         None => false,
-        Some(first) => first.seat == seat && state.could_take(seat, first.mode, first.n),
+        Some(first) => first.seat == seat && state.could(seat, first.mode, first.n),
     }
 }
 
@@ -66,11 +66,11 @@ fn acquired<T: ObjectState>(state: &T, seat: u16, mode: Mode, n: u32) -> Word
     ensures { (s : Start) (h : List Entry) → T.stands s h state.now
         → result ≡ acquired (counts s h) (first_mode s h) seat mode n }
 {
-    if state.is_held_back(seat, mode) {
+    if state.holds_back(seat, mode) {
         Word::Queued
-    } else if state.is_at_limit(seat, mode) {
+    } else if state.at_limit(seat, mode) {
         Word::Refused(Fault::TooManyHolds)
-    } else if state.could_take(seat, mode, n) {
+    } else if state.could(seat, mode, n) {
         Word::Got
     } else {
         Word::Queued
@@ -82,11 +82,11 @@ fn tried<T: ObjectState>(state: &T, seat: u16, mode: Mode, n: u32) -> Word
     ensures { (s : Start) (h : List Entry) → T.stands s h state.now
         → result ≡ tried (counts s h) (first_mode s h) seat mode n }
 {
-    if state.is_strict() && state.is_held_back(seat, mode) {
+    if state.is_strict() && state.holds_back(seat, mode) {
         Word::Missed
-    } else if state.is_at_limit(seat, mode) {
+    } else if state.at_limit(seat, mode) {
         Word::Refused(Fault::TooManyHolds)
-    } else if state.could_take(seat, mode, n) {
+    } else if state.could(seat, mode, n) {
         Word::TryGot
     } else {
         Word::Missed
@@ -98,11 +98,11 @@ fn tried_fairly<T: ObjectState>(state: &T, seat: u16, mode: Mode, n: u32) -> Wor
     ensures { (s : Start) (h : List Entry) → T.stands s h state.now
         → result ≡ tried_fairly (counts s h) (first_mode s h) seat mode n }
 {
-    if state.is_held_back(seat, mode) {
+    if state.holds_back(seat, mode) {
         Word::Missed
-    } else if state.is_at_limit(seat, mode) {
+    } else if state.at_limit(seat, mode) {
         Word::Refused(Fault::TooManyHolds)
-    } else if state.could_take(seat, mode, n) {
+    } else if state.could(seat, mode, n) {
         Word::Got
     } else {
         Word::Missed
@@ -223,7 +223,7 @@ fn idle_entry<T: ObjectState>(state: &T, seat: u16, step: Step) -> Entry
         Step::Give(mode, n) => plain(seat, gave(state, seat, mode, n), mode, n),
         Step::Await(condition) => awaits(state, seat, condition),
         Step::Signal(condition) => {
-            let moved = state.sleepers(condition).min(1);
+            let moved = state.waiters(condition).min(1);
             signals(state, seat, Word::Signal, moved, condition)
         }
         Step::SignalAll(condition) => {
@@ -231,7 +231,7 @@ fn idle_entry<T: ObjectState>(state: &T, seat: u16, step: Step) -> Entry
                 state,
                 seat,
                 Word::SignalAll,
-                state.sleepers(condition),
+                state.waiters(condition),
                 condition,
             )
         }

@@ -33,19 +33,19 @@ pub trait ObjectState {
         ensures { (s : Start) (h : List Entry) → stands s h self.now → result ≡ is_strict s.header.object };
 
     /// Returns whether the queue holds a new call back.
-    fn is_held_back(&self, seat: u16, mode: Mode) -> bool
+    fn holds_back(&self, seat: u16, mode: Mode) -> bool
         requires { HasSeat stands self.now seat }
         ensures { (s : Start) (h : List Entry) → stands s h self.now
             → result ≡ held_back (counts s h) (first_mode s h) seat mode };
 
     /// Returns whether the seat has the greatest number of holds.
-    fn is_at_limit(&self, seat: u16, mode: Mode) -> bool
+    fn at_limit(&self, seat: u16, mode: Mode) -> bool
         requires { HasSeat stands self.now seat }
         ensures { (s : Start) (h : List Entry) → stands s h self.now
             → result ≡ limit (counts s h) seat mode };
 
     /// Returns whether the seat could acquire now.
-    fn could_take(&self, seat: u16, mode: Mode, n: u32) -> bool
+    fn could(&self, seat: u16, mode: Mode, n: u32) -> bool
         requires { HasSeat stands self.now seat }
         ensures { (s : Start) (h : List Entry) → stands s h self.now
             → result ≡ could (counts s h) seat mode n };
@@ -66,7 +66,7 @@ pub trait ObjectState {
         ensures { (s : Start) (h : List Entry) → stands s h self.now → result ≡ count s h };
 
     /// Returns how many seats are in the queue.
-    fn line_length(&self) -> u16
+    fn queue_length(&self) -> u16
         ensures { (s : Start) (h : List Entry) → stands s h self.now → result ≡ length (line s h) };
 
     /// Returns the head of the queue, which has waited longest.
@@ -83,7 +83,7 @@ pub trait ObjectState {
             → result ≡ sleeps_below s.header.conditions s h seat };
 
     /// Returns how many seats wait on a condition.
-    fn sleepers(&self, condition: u8) -> u16
+    fn waiters(&self, condition: u8) -> u16
         ensures { (s : Start) (h : List Entry) → stands s h self.now
             → result ≡ length (sleepers s h condition) };
 

@@ -57,8 +57,8 @@ fn blocks<T: ObjectState>(state: &T, seat: u16, mode: Mode, step: Step) -> bool
         → result ≡ blocks (counts s h) (first_mode s h) seat mode step }
 {
     match step {
-        Step::Try(_, _) => state.is_strict() && state.is_held_back(seat, mode),
-        _ => state.is_held_back(seat, mode),
+        Step::Try(_, _) => state.is_strict() && state.holds_back(seat, mode),
+        _ => state.holds_back(seat, mode),
     }
 }
 

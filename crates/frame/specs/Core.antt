@@ -208,15 +208,24 @@ IsTrimmed old (Err fault) new = IsTrimFull old × (fault ≡ TrimFull) × (new �
 -- a step was answered; all that is known of it
 pub record IsStepped (old : CoreView) (i : ℕ) (step : Step) (r : Result Answer Fault) (new : CoreView)
     : Type 0 where
+  -- the answer is the sequential object's, or there was no memory
   pub answered : IsAnswered old i step r new
+  -- the marks are those that the definitions give
   pub told : IsTold old i r new
   pub header : new.header ≡ old.header
   pub base : new.base ≡ old.base
+  -- a fault leaves the core as it was
   pub fault : OnErr r (new ≡ old)
   pub places : new.places ≡ places_behind old r
+  -- a refusal is recorded, and the holds stay
   pub refused : IfOk r (λ answer. KeepsHolds old i answer new)
+  -- what was owed before it came never fails
   pub owed : MakesOwed old i step → IsOk r
+  -- at most one entry is new
   pub grown : new.entries ≡ made_by r ++ old.entries
+  -- the new entry is of the seat that stepped
   pub own : IfOk r (λ answer. IsOf i answer)
+  -- whom the answer names has a seat of the object
   pub names : IfOk r (λ answer. NamesBelow old.header.seats answer)
+  -- before a seat slept on, the cancelled nodes right before it were freed
   pub tidied : IfOk r (λ answer. HasTidied i answer)

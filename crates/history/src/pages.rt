@@ -138,8 +138,8 @@ impl Pages {
         self.len += 1;
     }
 
-    /// Removes all entries. Their places stay. A page is cleared when it is taken, so this takes the same time
-    /// whatever the number of entries.
+    /// Removes all entries. Their places stay. A page is cleared when it is taken, so this looks at no page but the
+    /// one at hand.
     pub(crate) fn clear(&mut self)
         ensures { self.new ≡ record self.old { entries = [] } }
     {

@@ -80,7 +80,7 @@ impl Summing {
         let passings = no_passings(alloc, header.seats)?;
         let conditions = no_conditions(alloc, header.conditions)?;
         let peak = Peak {
-            seats: ledger.line_length(),
+            seats: ledger.queue_length(),
             place: None,
         };
         Ok(Summing {
@@ -114,7 +114,7 @@ impl Summing {
         self.seats[seat] = tally_after(entry, self.count, &tally);
         note_condition(&mut self.conditions, entry);
         self.ledger.note(entry);
-        self.peak = higher(self.ledger.line_length(), self.count, self.peak);
+        self.peak = higher(self.ledger.queue_length(), self.count, self.peak);
         self.grants = more(self.grants, is_grant(entry.word));
         self.count += 1;
     }

@@ -38,7 +38,7 @@ fn a_node_stands_until_it_comes_to_the_head(rt: HostRuntime) -> Result<(), Fail>
     assert!(rt; queue.leave(1) && queue.live_len() == 2 && queue.standing() == 2);
     assert!(rt; queue.leave(2) && queue.joined() == 4 && queue.position(3) == Some(0));
     queue.sweep();
-    assert!(rt; queue.standing() == 1 && queue.arrival_of(3) == Some(asks(3)));
+    assert!(rt; queue.standing() == 1 && queue.place_of(3) == Some(asks(3)));
     assert!(rt; queue.take_first() == Some(asks(3)) && queue.is_empty());
     Ok(())
 }

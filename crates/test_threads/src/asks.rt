@@ -62,6 +62,10 @@ pub enum Ask {
     Count,
     /// The seat is interrupted.
     Interrupt,
+    /// Seat 1 is interrupted, whosever pass it is.
+    InterruptSecond,
+    /// Seat 1 is interrupted when the clock is read next.
+    InterruptLate,
     /// The pass is dropped. It is the last of the list.
     DropPass,
     /// The last two passes of the list meet.

@@ -5,7 +5,7 @@ use history::fault::Fault;
 use permit::{Call, Parking, ScriptedParking, Woke};
 use std::alloc::{AllocError, Global};
 use std::sync::Wait;
-use std::sync::atomic::{AtomicU64, Ordering};
+use std::sync::atomic::{AtomicBool, AtomicU64, Ordering};
 use std::thread;
 use std::time::{Clock, Duration};
 
@@ -26,6 +26,8 @@ pub struct NotedParking {
     clock: AtomicU64,
     /// How far the clock goes on each time it is read.
     tick: u64,
+    /// Whether the next reading of the clock interrupts seat 1.
+    is_late: AtomicBool,
 }
 
 impl NotedParking {
@@ -43,6 +45,7 @@ impl NotedParking {
             ends: AtomicU64::new(0),
             clock: AtomicU64::new(0),
             tick,
+            is_late: AtomicBool::new(false),
         })
     }
 
@@ -61,6 +64,12 @@ impl NotedParking {
     pub fn next_park<R: Clock>(&self, rt: &R) -> bool {
         let ended = self.ends.fetch_add(1, Ordering::SeqCst);
         self.wait_for_parks(rt, ended.saturating_add(2))
+    }
+
+    /// Lets the next reading of the clock interrupt seat 1: a call reads it after it has looked for a pending
+    /// interrupt, and before its first step.
+    pub fn interrupt_late(&self) {
+        self.is_late.store(true, Ordering::SeqCst);
     }
 
     /// Ends all parks, also later ones.
@@ -83,6 +92,9 @@ impl Parking for NotedParking {
     ghost did = { λ place deed. IsDone place deed };
 
     fn now<R: Clock>(&self, _rt: &R) -> u64 {
+        if self.is_late.swap(false, Ordering::SeqCst) {
+            self.notes.interrupt(1);
+        }
         self.clock.fetch_add(self.tick, Ordering::SeqCst)
     }
 

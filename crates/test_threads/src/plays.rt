@@ -11,7 +11,7 @@ use history_text::fitting::fits;
 use history_text::write_text;
 use monitor::{Closed, Monitor, Pass};
 use monitor_fronts::{open_latch, open_lock, open_read_write_lock, open_semaphore};
-use permit::{Call, Woke};
+use permit::{Call, Parking, Woke};
 use std::alloc::Global;
 use std::process::Abort;
 use std::sync::Wait;
@@ -153,6 +153,14 @@ fn act<H: Front, R: Abort + Wait + Clock>(
         Ask::Meet => meet_last(rt, monitor, passes),
         Ask::DropPass => Ok(u32::from(passes.pop().is_some())),
         Ask::NextPark => Ok(u32::from(parking.next_park(rt))),
+        Ask::InterruptSecond => {
+            parking.interrupt(1);
+            DONE
+        }
+        Ask::InterruptLate => {
+            parking.interrupt_late();
+            DONE
+        }
         _ => match passes.get_mut(place) {
             Some(pass) => perform(rt, monitor, parking, pass, ask),
             None => NO,

@@ -163,6 +163,27 @@ impl<T: ?Sized> Mutex<T> {
         self.raw.holds()
     }
 
+    /// Gives the value up for a guard that was forgotten, as `lock_api::RawMutex::unlock` has to.
+    ///
+    /// ```
+    /// use aqs::Mutex;
+    ///
+    /// static LOCK: Mutex<()> = Mutex::new(());
+    ///
+    /// std::mem::forget(LOCK.lock());
+    /// // SAFETY: the guard of this thread was forgotten above.
+    /// unsafe { LOCK.force_unlock() };
+    /// assert!(!LOCK.is_locked());
+    /// ```
+    ///
+    /// # Safety
+    ///
+    /// The calling thread has locked the mutex, and its guard was forgotten. No reference to the value that the
+    /// guard lent is used any more.
+    pub unsafe fn force_unlock(&self) {
+        self.raw.unlock();
+    }
+
     /// The value, which nobody else can reach.
     pub fn get_mut(&mut self) -> &mut T {
         self.value.get_mut()

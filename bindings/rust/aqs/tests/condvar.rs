@@ -92,6 +92,32 @@ fn a_notify_never_waits_for_the_mutex() {
 }
 
 #[test]
+fn each_notify_beside_an_owner_counts() {
+    let (counts, condvar) = (Mutex::new([0, 0]), Condvar::new());
+    thread::scope(|scope| {
+        for _ in 0..3 {
+            scope.spawn(|| {
+                let mut counts = counts.lock();
+                counts[0] += 1;
+                condvar.wait(&mut counts);
+                counts[1] += 1;
+            });
+        }
+        until(|| counts.lock()[0] == 3);
+        let guard = counts.lock();
+        scope.spawn(|| assert!(condvar.notify_one() && condvar.notify_one())).join().unwrap();
+        drop(guard);
+        let late = Instant::now() + LONG;
+        while counts.lock()[1] < 2 && Instant::now() < late {
+            thread::yield_now();
+        }
+        let woken = counts.lock()[1];
+        condvar.notify_all();
+        assert_eq!(woken, 2);
+    });
+}
+
+#[test]
 fn more_condvars_than_numbers() {
     for conditions in [1, 2, 16] {
         let options = Options::new().conditions(conditions).keep_history();
@@ -132,6 +158,26 @@ fn a_second_mutex_is_refused() {
         until(|| *one.lock());
         let tried = panic::catch_unwind(panic::AssertUnwindSafe(|| condvar.wait(&mut two.lock())));
         assert!(condvar.notify_one() && !two.is_locked());
+        panic::resume_unwind(tried.unwrap_err());
+    });
+}
+
+#[test]
+#[should_panic(expected = "with another mutex")]
+fn one_that_was_notified_has_the_condvar_until_it_is_back() {
+    let (one, two, condvar) = (Mutex::new(false), Mutex::new(()), Condvar::new());
+    thread::scope(|scope| {
+        scope.spawn(|| {
+            let mut guard = one.lock();
+            *guard = true;
+            condvar.wait(&mut guard);
+        });
+        until(|| *one.lock());
+        let guard = one.lock();
+        assert!(condvar.notify_one());
+        let wait = || condvar.wait_for(&mut two.lock(), SHORT);
+        let tried = panic::catch_unwind(panic::AssertUnwindSafe(wait));
+        drop(guard);
         panic::resume_unwind(tried.unwrap_err());
     });
 }
@@ -204,6 +250,26 @@ fn interrupts_end_waits_that_mind_them() {
     assert_eq!(condvar.wait_interruptibly_for(&mut guard, LONG), Err(Error::Interrupted));
     assert_eq!(condvar.wait_interruptibly_for(&mut guard, SHORT), Err(Error::TimedOut));
     assert!(!interrupted());
+}
+
+#[test]
+fn an_interrupt_after_a_notify_is_kept() {
+    let (waiter, condvar) = (Mutex::new(None), Condvar::new());
+    thread::scope(|scope| {
+        let ended = scope.spawn(|| {
+            let mut guard = waiter.lock();
+            *guard = Some(Thread::current());
+            (condvar.wait_interruptibly(&mut guard), interrupted())
+        });
+        until(|| waiter.lock().is_some());
+        // The notify is due when this thread gives the mutex up. The interrupt ends the wait before.
+        let guard = waiter.lock();
+        scope.spawn(|| assert!(condvar.notify_one())).join().unwrap();
+        guard.unwrap().interrupt().unwrap();
+        until(|| waiter.queue_length() == 1);
+        drop(guard);
+        assert_eq!(ended.join().unwrap(), (Ok(()), true));
+    });
 }
 
 #[test]

@@ -6,7 +6,7 @@ use aqs::{Condvar, Error, MappedMutexGuard, Mutex, MutexGuard, Options, Thread};
 use std::sync::atomic::{AtomicU32, Ordering};
 use std::sync::Arc;
 use std::time::{Duration, Instant};
-use std::{panic, thread};
+use std::{mem, panic, thread};
 use support::{until, LONG, SHORT};
 
 #[derive(Debug, PartialEq, Eq)]
@@ -204,12 +204,76 @@ fn a_panic_leaves_it_usable() {
     assert_eq!(*mutex.lock(), 2);
 }
 
+/// The trait of this name in `lock_api` has these members.
+trait RawMutex {
+    const INIT: Self;
+    fn lock(&self);
+    fn try_lock(&self) -> bool;
+    /// # Safety
+    ///
+    /// The calling thread has the mutex.
+    unsafe fn unlock(&self);
+    fn is_locked(&self) -> bool;
+}
+
+struct Raw(Mutex<()>);
+
+impl RawMutex for Raw {
+    const INIT: Raw = Raw(Mutex::new(()));
+
+    fn lock(&self) {
+        mem::forget(self.0.lock());
+    }
+
+    fn try_lock(&self) -> bool {
+        self.0.try_lock().map(mem::forget).is_some()
+    }
+
+    unsafe fn unlock(&self) {
+        // SAFETY: the guard of this thread was forgotten.
+        unsafe { self.0.force_unlock() };
+    }
+
+    fn is_locked(&self) -> bool {
+        self.0.is_locked()
+    }
+}
+
+/// Adds under the mutex what a load and a store would lose without it.
+fn add_often(raw: &Raw, sum: &AtomicU32) {
+    for turn in 0..500 {
+        if turn % 2 == 0 || !raw.try_lock() {
+            raw.lock();
+        }
+        sum.store(sum.load(Ordering::Relaxed) + 1, Ordering::Relaxed);
+        // SAFETY: the thread has it.
+        unsafe { raw.unlock() };
+    }
+}
+
+#[test]
+fn a_raw_mutex_is_written_over_it() {
+    static RAW: Raw = Raw::INIT;
+    static SUM: AtomicU32 = AtomicU32::new(0);
+    thread::scope(|scope| {
+        for _ in 0..4 {
+            scope.spawn(|| add_often(&RAW, &SUM));
+        }
+    });
+    assert_eq!(SUM.load(Ordering::Relaxed), 4 * 500);
+    assert!(!RAW.is_locked() && RAW.try_lock() && RAW.is_locked());
+    assert!(!thread::scope(|scope| scope.spawn(|| RAW.try_lock()).join().unwrap()));
+    // SAFETY: the thread has it.
+    unsafe { RAW.unlock() };
+    assert!(!RAW.is_locked());
+}
+
 #[test]
 fn it_is_unlocked_in_between() {
     let mutex = Mutex::new(0);
     let mut guard = mutex.lock();
     let seen = MutexGuard::unlocked(&mut guard, || {
-        thread::scope(|scope| scope.spawn(|| *mutex.lock() += 5).join().unwrap());
+        thread::scope(|scope| scope.spawn(|| *mutex.try_lock().unwrap() += 5).join().unwrap());
         mutex.is_locked()
     });
     assert_eq!((*guard, seen), (5, false));
@@ -257,6 +321,10 @@ fn faults_have_names() {
     let said = failed.unwrap_err().downcast_ref::<String>().unwrap().clone();
     assert_eq!(said, "aqs: the history is full (AQS_HISTORY_FULL)");
     assert_eq!(full.lock_interruptibly().err(), Some(Error::HistoryFull));
+    for call in [&(|| drop(full.try_lock())) as &dyn Fn(), &|| drop(full.try_lock_for(SHORT))] {
+        let failed = panic::catch_unwind(panic::AssertUnwindSafe(call));
+        assert!(failed.unwrap_err().downcast_ref::<String>().unwrap().ends_with("(AQS_HISTORY_FULL)"));
+    }
     assert_eq!(format!("{:?}", Error::HistoryFull), "HistoryFull");
     let error: Box<dyn std::error::Error> = Box::new(Error::OutOfMemory);
     assert_eq!(error.to_string(), "the library got no memory");

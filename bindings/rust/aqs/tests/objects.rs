@@ -280,6 +280,33 @@ fn an_interrupt_ends_no_wait_that_does_not_mind_it() {
 }
 
 #[test]
+fn interruptible_waits_end_at_their_time_or_by_an_interrupt() {
+    let (mutex, lock, permits, latch) = (Mutex::new(()), RwLock::new(()), Semaphore::new(0), Latch::new(1));
+    let (own, condvar) = (Mutex::new(()), Condvar::new());
+    let waits: [&(dyn Fn(Duration) -> Option<Error> + Sync); 6] = [
+        &|time| mutex.lock_interruptibly_for(time).err(),
+        &|time| lock.read_interruptibly_for(time).err(),
+        &|time| lock.write_interruptibly_for(time).err(),
+        &|time| permits.acquire_interruptibly_for(1, time).err(),
+        &|time| latch.wait_interruptibly_for(time).err(),
+        &|time| condvar.wait_interruptibly_for(&mut own.lock(), time).err(),
+    ];
+    let (_guard, _writer) = (mutex.lock(), lock.write());
+    thread::scope(|scope| {
+        scope.spawn(|| {
+            for wait in waits {
+                let begin = Instant::now();
+                assert_eq!(wait(SHORT), Some(Error::TimedOut));
+                assert!(begin.elapsed() >= SHORT);
+                Thread::current().interrupt().unwrap();
+                assert_eq!(wait(LONG), Some(Error::Interrupted));
+                assert!(!interrupted() && begin.elapsed() < LONG);
+            }
+        });
+    });
+}
+
+#[test]
 fn options_that_no_object_has_are_refused() {
     let error = Mutex::with((), Options::new().threads(257)).err().unwrap();
     assert_eq!((error, error.name()), (Error::OutOfRange, "AQS_OUT_OF_RANGE"));

@@ -73,6 +73,20 @@ fn tries_tell_readers_from_writers() {
 }
 
 #[test]
+fn a_read_that_failed_is_not_counted() {
+    let lock = RwLock::new(0);
+    let writer = lock.write();
+    thread::scope(|scope| {
+        scope.spawn(|| {
+            assert!(lock.try_read().is_none() && lock.try_read_for(SHORT).is_none());
+            assert_eq!(lock.read_interruptibly_for(SHORT).err(), Some(Error::TimedOut));
+        });
+    });
+    drop(writer);
+    assert!(!lock.is_locked());
+}
+
+#[test]
 fn the_writer_that_comes_again_is_told() {
     let lock = RwLock::new(0);
     let _writer = lock.write();

@@ -66,7 +66,7 @@ impl<H: Hooks + Drop> Core<H> {
             } else {
                 self.record(granted(seat, first))
             }
-        } else if self.queue.arrival_of(seat).is_some() {
+        } else if self.queue.place_of(seat).is_some() {
             self.sleep(seat);
             Ok(Answer::Sleep)
         } else {
@@ -79,7 +79,7 @@ impl<H: Hooks + Drop> Core<H> {
     pub(super) fn is_idle(&self, seat: u16) -> bool
         ensures { IsTrue result → IsIdle self.now seat }
     {
-        self.queue.arrival_of(seat).is_none() && self.waiters.sleeper_of(seat).is_none()
+        self.queue.place_of(seat).is_none() && self.waiters.sleeper_of(seat).is_none()
     }
 
     /// Returns whether the seat is the head of the queue and could acquire what it asks for.

@@ -66,15 +66,15 @@ impl<H: Hooks + Drop> ObjectState for Core<H> {
         self.hooks.strict()
     }
 
-    fn is_held_back(&self, seat: u16, mode: Mode) -> bool {
+    fn holds_back(&self, seat: u16, mode: Mode) -> bool {
         self.hooks.holds_back(seat, mode, self.line())
     }
 
-    fn is_at_limit(&self, seat: u16, mode: Mode) -> bool {
+    fn at_limit(&self, seat: u16, mode: Mode) -> bool {
         self.hooks.at_limit(seat, mode)
     }
 
-    fn could_take(&self, seat: u16, mode: Mode, n: u32) -> bool {
+    fn could(&self, seat: u16, mode: Mode, n: u32) -> bool {
         self.hooks.could(seat, mode, n)
     }
 
@@ -90,7 +90,7 @@ impl<H: Hooks + Drop> ObjectState for Core<H> {
         self.count()
     }
 
-    fn line_length(&self) -> u16 {
+    fn queue_length(&self) -> u16 {
         self.queue_length()
     }
 
@@ -99,14 +99,14 @@ impl<H: Hooks + Drop> ObjectState for Core<H> {
     }
 
     fn place_of(&self, seat: u16) -> Option<Arrival> {
-        self.queue.arrival_of(seat)
+        self.queue.place_of(seat)
     }
 
     fn sleeps(&self, seat: u16) -> bool {
         self.waiters.sleeper_of(seat).is_some()
     }
 
-    fn sleepers(&self, condition: u8) -> u16 {
+    fn waiters(&self, condition: u8) -> u16 {
         self.waiters(condition)
     }
 

@@ -1,7 +1,7 @@
 //! Short lists of calls with each entry that they record, and each park, unpark and interrupt.
 use crate::asks::{DONE, INTERRUPTED, NO, YES};
 use crate::plays::{LOCK, TWO, Tale, play_all};
-use crate::tales::{INTERRUPTS, PLAIN, WAKES};
+use crate::tales::{HEARS, INTERRUPTS, PLAIN, WAKES};
 use history::header::{Header, Object, Policy};
 use history::step::Step;
 use permit::{Call, Woke};
@@ -54,6 +54,27 @@ const INTERRUPTED_ONCE: Tale = Tale {
         },
         INTERRUPTS,
     ],
+    ..LOCK
+};
+
+const INTERRUPTED_TWICE: Tale = Tale {
+    name: "an interrupt that comes while another ends a wait is pending after it",
+    answers: &[Woke::Interrupted],
+    waiter: rows![1 Lock => DONE, 1 Wait(0) => INTERRUPTED, 1 TryLockFor(0) => INTERRUPTED],
+    others: rows![0 InterruptSecond => DONE],
+    calls: 3,
+    lines: "\n0 1 got x 1\n1 1 await 0 1\n2 1 lapse 0 interrupt\n3 1 back 0 1 interrupt\n\
+        4 1 refused x 1 Interrupted\nend 5 3\n",
+    parked: &[HEARS, INTERRUPTS],
+    ..LOCK
+};
+
+const INTERRUPTED_LATE: Tale = Tale {
+    name: "an interrupt that comes while an acquire succeeds is pending after it",
+    rows: rows![1 InterruptLate => DONE, 1 TryLockFor(5) => YES, 1 TryLockFor(0) => INTERRUPTED],
+    calls: 2,
+    lines: "\n0 1 got x 1\n1 1 refused x 1 Interrupted\nend 2 2\n",
+    parked: &[INTERRUPTS],
     ..LOCK
 };
 
@@ -140,9 +161,11 @@ const OF_A_LATCH: Tale = Tale {
     ..LOCK
 };
 
-static KNOWN: [Tale; 8] = [
+static KNOWN: [Tale; 10] = [
     TIMED_OUT,
     INTERRUPTED_ONCE,
+    INTERRUPTED_TWICE,
+    INTERRUPTED_LATE,
     MET,
     SHORT,
     HANDED_OVER,

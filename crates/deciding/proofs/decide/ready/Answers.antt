@@ -2,8 +2,8 @@ use Rattle.std.proofs.Common.{◌∙◌, sym}
 use Rattle.deciding.proofs.Bounds.{first_below}
 use Rattle.deciding.proofs.decide.ready.Goals as goal
 
-pub could_take-requires : goal.could_take-requires
-could_take-requires g c =
+pub could-requires : goal.could-requires
+could-requires g c =
     let r = c.requires in (
       r.0,
       r.1,
@@ -12,7 +12,7 @@ could_take-requires g c =
           (sym c.in-Some.is ∙ c.first.ensures r.0 r.1 r.2),
     )
 
-pub returns-then-could_take-clause-below : goal.returns-then-could_take-clause-below
-returns-then-could_take-clause-below g c s h st =
+pub returns-then-could-clause-below : goal.returns-then-could-clause-below
+returns-then-could-clause-below g c s h st =
     first_below s h c.in-Some.first (g.met.T.ObjectState.is_history s h c.args.state.now st)
     (sym c.in-Some.is ∙ c.first.ensures s h st)

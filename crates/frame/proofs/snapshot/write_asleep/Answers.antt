@@ -22,7 +22,7 @@ loop-preserved c =
     let asleep = asleep_on c.args.waiters.now c.args.condition in
     let at = sym c.loop.invariant.next ∙ c.in-Some.is in
     record {
-      next = c.behind-next.ensures c.args.condition c.loop.counter at;
+      next = c.behind-next.ensures.next c.args.condition c.loop.counter at;
       items = c.push_reserved.ensures.items
           ∙ one_waiter (sleeper_in c.args.seats.now) asleep c.loop.counter c.in-Some.seat c.loop.list.items
           c.sleeper_in.result at c.loop.invariant.items c.sleeper_in.ensures;

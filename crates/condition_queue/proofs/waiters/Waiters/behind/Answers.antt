@@ -19,6 +19,6 @@ overflow_cast-result c =
     (sym (c.in_ok-next.ensures sleeper.condition there.0 there.1)) in
     omega (arith, low)
 
-pub returns-in_err-_sleeper : goal.returns-in_err-_sleeper
-returns-in_err-_sleeper c =
+pub returns-in_err-_sleeper-clause-next : goal.returns-in_err-_sleeper-clause-next
+returns-in_err-_sleeper-clause-next c =
     λ d k at. absurd (awake_nowhere d k c.args.seat _ (c.in_err-_sleeper.ensures.listed d) at)

@@ -14,8 +14,8 @@ returns-then-is_none g c = λ t.
     let i = c.self.invariant in
     let seat = c.args.seat in
     subst (λ (v : CoreView). IsIdle v seat) c.self.view_is
-    (idle (with_history a.header a.history (told_in a.seats.items)) seat c.arrival_of.result
-    c.sleeper_of.result i.based (c.arrival_of.ensures ∙ ap (place_of seat) i.waiting.line)
+    (idle (with_history a.header a.history (told_in a.seats.items)) seat c.place_of.result
+    c.sleeper_of.result i.based (c.place_of.ensures ∙ ap (place_of seat) i.waiting.line)
     (c.is_none.ensures ∙ ap not c.if-is_none.true)
     (sleeps_is (start_on a.header a.history) a.history.entries seat a.waiters c.sleeper_of.result
     (waits_by (start_on a.header a.history) a.history.entries (history_of i)) i.waiting.sleepers

@@ -25,10 +25,10 @@ pub returns-then-is_some : goal.returns-then-is_some
 returns-then-is_some g c =
     let v = c.args.self.now in
     let header = subst (λ (v : CoreView). (start_of v).header ≡ v.header) c.self.view_is c.self.invariant.based in
-    let place = subst (λ (v : CoreView). c.arrival_of.result ≡ place_of c.args.seat (line (start_of v) v.entries))
-    c.self.view_is (c.arrival_of.ensures ∙ ap (place_of c.args.seat) c.self.invariant.waiting.line) in
+    let place = subst (λ (v : CoreView). c.place_of.result ≡ place_of c.args.seat (line (start_of v) v.entries))
+    c.self.view_is (c.place_of.ensures ∙ ap (place_of c.args.seat) c.self.invariant.waiting.line) in
     waited v c.sleep.new.self c.args.seat Look
-    (waits_on v c.args.seat c.arrival_of.result header place (sym c.is_some.ensures ∙ c.if-is_some.true)
+    (waits_on v c.args.seat c.place_of.result header place (sym c.is_some.ensures ∙ c.if-is_some.true)
     (sym c.is_ready.ensures ∙ c.if-is_ready.false)) c.sleep.ensures.unmarked c.sleep.ensures.tidied
 
 pub returns-else-first : goal.returns-else-first

@@ -80,7 +80,7 @@ returns c = λ s h was seat next.
           ∙ ap (more (count (λ x. is_grant x.word) h)) c.is_grant.ensures;
       taken = taken;
       highest = c.higher-self.ensures
-          ∙ ap (λ n. higher n old.count old.peak) (c.line_length.ensures s (e ∷ h) stand)
+          ∙ ap (λ n. higher n old.count old.peak) (c.queue_length.ensures s (e ∷ h) stand)
           ∙ ap (λ n. higher (length (line s (e ∷ h))) n old.peak) was.number
           ∙ ap (higher (length (line s (e ∷ h))) (length h)) was.highest;
       seats = length-set old.seats.items i c.tally_after.result ∙ was.seats;

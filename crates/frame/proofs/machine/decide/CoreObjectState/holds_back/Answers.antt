@@ -1,7 +1,7 @@
 use Rattle.std.proofs.Common.{◌≡◌, List, ap, ◌∙◌, subst, sym}
 use Rattle.frame.specs.Below.{Entry, held_back, counts, first_mode, Start}
 use Rattle.frame.specs.Prelude.{CoreView, counts_of, start_of, line_mode}
-use Rattle.frame.proofs.machine.decide.CoreObjectState.is_held_back.Goals as goal
+use Rattle.frame.proofs.machine.decide.CoreObjectState.holds_back.Goals as goal
 
 pub returns : goal.returns
 returns g c s h st =

@@ -2,7 +2,7 @@ use Rattle.std.proofs.Common.{◌≡◌, Some, sym, ap, ◌∙◌}
 use Rattle.std.proofs.lemmas.Option.{none-some, same_Some}
 use Rattle.acquire_queue.specs.Below.{place_of, Node}
 use Rattle.acquire_queue.proofs.Nodes.{no_place, find_seat, found_under}
-use Rattle.acquire_queue.proofs.queue.Queue.arrival_of.Goals as goal
+use Rattle.acquire_queue.proofs.queue.Queue.place_of.Goals as goal
 
 pub returns-in_err-number : goal.returns-in_err-number
 returns-in_err-number c =
