@@ -96,7 +96,7 @@ class Tree:
         raise NotImplementedError
 
     def copy(self, name, number):
-        """Makes a copy for the so-manieth try of an edit."""
+        """Makes a copy for a try of an edit, which has this number."""
         raise NotImplementedError
 
     def seen_by(self, copy, name, path, text):

@@ -15,9 +15,11 @@ Compared are the exit status, standard output and standard error. The last line 
 the status is 0 only if nothing failed and something passed.
 """
 
+import functools
 import json
 import pathlib
 import re
+import resource
 import subprocess
 import sys
 import tempfile
@@ -250,6 +252,16 @@ def left_histories(program, scratch):
     yield "the file has the object's history", held(folder) == {**before, "a": before["a.history"]}
 
 
+def with_small_files(program, words, given):
+    """Runs a program whose files may have only 16 bytes, as on a disk that is nearly full. Python ignores the signal of
+    a write beyond that, and so does the program."""
+    limit = functools.partial(resource.setrlimit, resource.RLIMIT_FSIZE, (16, 16))
+    done = subprocess.run(
+        [program, *words], input=given, capture_output=True, timeout=SECONDS, restore_signals=False, preexec_fn=limit
+    )
+    return done.returncode, done.stdout, done.stderr
+
+
 def unleft_histories(program, scratch):
     """After a fault a run with --dir leaves nothing, and what was there stays."""
     folder, elsewhere = scratch / "unleft", scratch / "elsewhere"
@@ -260,6 +272,7 @@ def unleft_histories(program, scratch):
     with open("/dev/full", "wb") as full:
         done = subprocess.run([program, *words], input=ONE_THREAD, stdout=full, stderr=subprocess.PIPE, timeout=SECONDS)
     yield "a full standard output", (done.returncode, done.stderr) == (4, b"aqs: write failed\n")
+    yield "a history that doesn't fit", with_small_files(program, words, ONE_THREAD) == WRITE_FAILED
     yield "a wrong name", run(program, [*words, "--object=c"], ONE_THREAD) == (2, b"", b"aqs: bad --object\n")
     yield "a wrong script", run(program, words, b"[]") == (3, b"", b"aqs: bad top\n")
     yield "a folder as a script", run(program, [*words, folder]) == (4, b"", b"aqs: read failed\n")

@@ -52,7 +52,7 @@ static aqs_status_t opened(jint kind, jint number, const aqs_options_t *options,
 NATIVE(jlong, open)(JNIEnv *env, jclass class, jint kind, jint number, jint policy, jboolean keeps,
                     jint entries, jint threads, jint conditions) {
     (void)env, (void)class;
-    bool in_range = 0 <= threads && threads <= UINT16_MAX && 0 <= conditions && conditions <= UINT8_MAX;
+    bool in_range = 0 <= entries && 0 <= threads && threads <= UINT16_MAX && 0 <= conditions && conditions <= UINT8_MAX;
     if (!in_range) return -AQS_OUT_OF_RANGE;
     aqs_options_t options = {
         .policy = (aqs_policy_t)policy,

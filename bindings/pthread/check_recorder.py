@@ -8,18 +8,24 @@ import shutil
 import signal
 import subprocess
 import time
+from concurrent.futures import ThreadPoolExecutor
 from typing import NamedTuple, Optional
 
 HERE = pathlib.Path(__file__).resolve().parent
 OUT = HERE / "out"
 PROGRAM = str(OUT / "objects_of_each_kind")
 RARE_CASES = str(OUT / "rare_cases")
+ANSWERS = str(OUT / "answers")
 RECORD = str(OUT / "aqs-record")
+LIBRARY = str(OUT / "libaqs_pthread.so")
 LEFT = "aqs: not recorded, left to glibc: 1 robust mutexes, 1 objects shared among processes, 1 barriers"
 # Threads, rounds, and more words.
 RUNS = (("4", "40"), ("300", "3"), ("4", "20", "fork"), ("8", "20"))
 SECONDS = 120
 MOST_KILOBYTES = 20 * 1024
+AT_A_TIME = 4
+# What glibc keeps of the case `objects_of_other_kinds`.
+KEPT = "4 objects shared among processes, 2 mutexes with priority protocols, 1 spinlocks"
 
 
 def ran(words, seconds=SECONDS, cwd=None, **environment):
@@ -77,19 +83,19 @@ def entries_in(file):
     return len(re.findall(r"(?m)^\d+ ", pathlib.Path(file).read_text()))
 
 
-def check_index(tests, name, folder):
+def check_index(tests, name, folder, wanted=("mutex", "rwlock", "semaphore")):
     lines = [line for line in index_of(folder) if line.file]
-    entries = [line.entries for line in lines]
+    entries = [(-line.entries, int(line.file.split("-")[0])) for line in lines]
     files = {line.file for line in lines}
     there = {os.path.basename(file) for file in glob.glob(f"{folder}/*.history")}
-    is_good = entries == sorted(entries, reverse=True) and files == there and len(files) > 5
+    is_good = entries == sorted(entries) and files == there and len(files) > 5
     told = f"{entries}\n{files ^ there}"
     if not tests.count(f"the index of {name} has each file, the busiest first", is_good, told):
         return
     others = [line for line in lines if line.kept != entries_in(f"{folder}/{line.file}")]
     tests.count(f"the index of {name} says how many entries each file has", not others, str(others))
     kinds = {file.split("-")[1] for file in there}
-    tests.count(f"{name} recorded each kind", kinds == {"mutex", "rwlock", "semaphore"}, str(kinds))
+    tests.count(f"{name} recorded each kind", kinds == {*wanted}, str(kinds))
 
 
 def check_run(tests, words):
@@ -145,6 +151,96 @@ def check_what_is_recorded(tests):
     is_good = [(line.waits, line.sleeps) for line in lines] == [(1, 1)]
     is_good = is_good and 50 <= lines[0].waited < 10_000 and 50 <= lines[0].slept < 10_000
     tests.count("the index says how often and how long threads waited and slept", is_good, str(lines))
+    check_child(tests, tests.histories("record-child_of_a_process_that_did_much"))
+
+
+def check_child(tests, folder):
+    """The index of a child and its one file say what it did, and nothing of its parent."""
+    parent = first_process(folder)
+    children = [path for path in processes(folder) if path != parent]
+    lines = [index_of(path) for path in children]
+    files = [[os.path.basename(file) for file in glob.glob(f"{path}/*.history")] for path in children]
+    is_good = [[line[:6] for line in of_one] for of_one in lines] == [[(2, 2, 0, 0.0, 0, 0.0)]]
+    is_good = is_good and files == [[lines[0][0].file]] and len(index_of(parent)) > 20
+    tests.count("the index of a child has nothing of its parent", is_good, f"{lines}\n{files}")
+
+
+def record_answers(tests, case, *options):
+    """The folder, and what a case of `answers` told without the recorder and with it."""
+    folder = tests.histories("".join(["answers-", case, *options]))
+    recorded = ran([RECORD, "-o", folder, *options, "--", ANSWERS, case])
+    return folder, case, ran([ANSWERS, case]), recorded
+
+
+def check_answers(tests):
+    """What each call answers is the same recorded, also where few entries are kept and nothing is written meanwhile."""
+    runs = [(case,) for case in ran([ANSWERS])[1].split()]
+    runs += [("one_thread_locks_often", "-k", most) for most in ("1", "4000")]
+    runs += [("full_histories_leave_no_memory", "-k", "64"), ("a_program_rests", "-e", "0")]
+    with ThreadPoolExecutor(AT_A_TIME) as pool:
+        for folder, case, told, recorded in list(pool.map(lambda run: record_answers(tests, *run), runs)):
+            name = f"answers of {os.path.basename(folder)[8:].replace('_', ' ')}"
+            tests.count(name, told[0] is not None and told[:2] == recorded[:2], f"{told}\n{recorded}")
+            tests.audit(name, f"{folder}/*")
+            if case == "objects_of_other_kinds":
+                is_told = recorded[2] == f"aqs: not recorded, left to glibc: {KEPT}\n"
+                tests.count("objects that glibc keeps are counted", is_told, recorded[2])
+
+
+def seats_of(text):
+    """Which seats got the object of a history, in their order, and how many it has."""
+    return re.findall(r"(?m)^\d+ (\d+) got x 1$", text), re.findall(r" seats (\d+) ", text)[0]
+
+
+def check_numbers(tests):
+    folder = tests.histories("answers-threads_share_numbers")
+    parent = first_process(folder)
+    seats = [seats_of(text) for text in texts_of(parent)]
+    is_good = seats == [([*"012322230"], "5"), (["0"], "5"), (["0"], "17")]
+    tests.count("threads have the numbers of those that ended, the least first", is_good, str(seats))
+    seats = [[seats_of(text) for text in texts_of(path)] for path in processes(folder) if path != parent]
+    tests.count("a child numbers its threads anew", seats == [[(["0", "1"], "5")]], str(seats))
+
+
+def check_gone(tests):
+    """What the index says of objects that are gone: 16 of a place have a file, and so has one that had it before."""
+    folder = first_process(tests.histories("answers-mutexes_that_are_gone"))
+    lines = index_of(folder)
+    told = [(line.entries, line.kept, line.waits, line.sleeps) for line in lines]
+    wanted = [(9, 9, 0, 1), *[(5, 5, 0, 1)] * 16, (4, 4, 0, 0), (25, 0, 0, 5)]
+    tests.count("the index adds up what is gone and has no file", told == wanted, str(told))
+    text = pathlib.Path(folder, "index").read_text()
+    is_good = "and 5 more of this place, which are gone" in text and ": 18 objects\n" in text
+    tests.count("it says how many there were", is_good, text)
+    check_index(tests, "a process whose mutexes are gone", folder, ("mutex",))
+
+
+def check_counts(tests):
+    """How many entries and sleeps the index has of threads whose calls are known."""
+    for words, most in (("", 16384), ("-k1", 1000), ("-k4000", 4000)):
+        folder = tests.histories(f"answers-one_thread_locks_often{words}")
+        parent = first_process(folder)
+        [child] = [path for path in processes(folder) if path != parent]
+        entries = [[line.entries for line in index_of(path)] for path in (parent, child)]
+        is_good = entries == [[12000] * 3, [4] * 3] and all(line.kept <= most for line in index_of(parent))
+        tests.count(f"each entry is counted{words}", is_good, str(entries))
+    folder = first_process(tests.histories("answers-conditions_change_their_mutex"))
+    sleeps = [line.sleeps for line in index_of(folder)]
+    tests.count("each wait on a condition has a number", sleeps == [21, 3, 1], str(sleeps))
+    seats = [seats_of(text)[1] for text in texts_of(folder)]
+    tests.count("one that sleeps at a time needs few seats", seats == ["5"] * 3, str(seats))
+    entries = [line.entries for line in index_of(first_process(tests.histories("answers-objects_have_no_end")))]
+    tests.count("memory that is used again is another object", entries == [6, 4, 4, 4, 2, 2, 2], str(entries))
+    lines = index_of(first_process(tests.histories("answers-more_come_than_there_are_seats")))
+    waits = [line for line in lines if "-semaphore-" in line.file]
+    is_good = [(line.sleeps, line.slept) for line in waits] == [(0, 0.0)]
+    is_good = is_good and waits[0].waits > 0 and waits[0].waited >= 20
+    tests.count("a wait for a permit is no sleep", is_good, str(waits))
+    [text] = texts_of(first_process(tests.histories("answers-signals_beside_the_owner")))
+    signals = re.findall(r"(?m)^\d+ 0 (signal|signalall) (\d+) (\d+)$", text)
+    wanted = [("signal", "1", "1")] * 2 + [("signal", "0", "1")] * 2
+    wanted += [("signalall", "0", "2"), ("signalall", "1", "2")]
+    tests.count("the owner makes the signals of others", signals == wanted, str(signals))
 
 
 def longest_kept(tests, keeps):
@@ -177,7 +273,7 @@ def waiting(folder, judged):
 def check_killed(tests, name, judged, asks, **environment):
     """A program whose threads all wait is killed. What was written by then shows who waits for what."""
     folder = tests.histories(f"record-killed-{asks}")
-    ours = {"AQS_RECORD": folder, "LD_PRELOAD": str(OUT / "libaqs_pthread.so"), **environment}
+    ours = {"AQS_RECORD": folder, "LD_PRELOAD": LIBRARY, **environment}
     run = subprocess.Popen(
         [PROGRAM, "4", "5", "hang"], stdout=subprocess.PIPE, stderr=subprocess.DEVNULL, text=True,
         env={**os.environ, **ours})
@@ -202,9 +298,10 @@ def check_cost(tests):
     told = ran([RECORD, "-o", folder, "-e", "0", "--", str(OUT / "pairs"), "10000"])
     taken = re.search(r"10000 locks: (\d+) kB", told[1])
     is_good = told[0] == 0 and taken and int(taken[1]) < MOST_KILOBYTES
+    tests.count("an object that rests stays as it is", "8 permits, the mutex is held" in told[1], str(told))
     tests.count(f"10,000 locks take less than {MOST_KILOBYTES} kB more", bool(is_good), str(told))
     files = len(glob.glob(f"{folder}/*/*.history"))
-    tests.count("each of them left a history", files == 10001, str(files))
+    tests.count("each of them left a history", files == 10003, str(files))
 
 
 def check_stripped(tests):
@@ -231,12 +328,69 @@ def check_refusals(tests):
     tests.count("aqs-record with a word for a number is a fault", told[0] == 2, str(told))
 
 
+def check_script(tests):
+    """What aqs-record makes of its words and its surroundings, and what it leaves of them."""
+    folder, room = tests.histories("record-script"), tests.histories("record-room")
+    words = ["sh", "-c", 'printf "%s|" "$@" "$LD_PRELOAD"', "sh", "a b", "", "*"]
+    told = ran([RECORD, "-o", folder, "--", *words], LD_PRELOAD="libm.so.6", TMPDIR=room)
+    tests.count("words and LD_PRELOAD are kept", told[1] == f"a b||*|{LIBRARY}:libm.so.6|", str(told))
+    tests.count("nothing is left in TMPDIR", not os.listdir(room), str(os.listdir(room)))
+    told = ran([RECORD, "-o", folder, "--", "sh", "-c", "kill -9 $$"])
+    tests.count("a program that is killed", told[0] == 128 + signal.SIGKILL, str(told))
+    told, other = ran([RECORD, "-h"]), ran([RECORD, "-x", "--", "true"])
+    is_good = told[0] == 0 and told[1].startswith("usage: ") and other[0] == 2 and "usage: " in other[2]
+    tests.count("aqs-record says its usage", is_good, f"{told}\n{other}")
+    alone = shutil.copy(RECORD, room)
+    tests.count("aqs-record without its library", ran([alone, "--", "true"])[0] == 127)
+    ignoring = ["sh", "-c", f"trap '' USR2; exec {ANSWERS} reads_beside_sigusr2"]
+    told = ran(ignoring), ran([RECORD, "-o", folder, "--", *ignoring])
+    is_good = told[0][:2] == told[1][:2] == (0, "it is ignored\n1 byte\n")
+    tests.count("a program that ignores SIGUSR2", is_good, str(told))
+
+
+def record_elsewhere(tests, folder, words, **environment):
+    """Records a program that goes to another folder. Its own is there, with one file and an index."""
+    told = ran([*words, ANSWERS, "uses_a_mutex_elsewhere"], cwd=tests.folder, **environment)
+    made = processes(os.path.join(tests.folder, folder))
+    files = [len(os.listdir(path)) for path in made]
+    tests.count(f"what is recorded goes to {folder}", told[0] == 8 and files == [2], f"{told} {made}")
+    return made[0] if made else ""
+
+
+def check_folders(tests):
+    made = record_elsewhere(tests, "made/below", [RECORD, "-o", "made/below//", "--"])
+    record_elsewhere(tests, "by/hand", [], AQS_RECORD="by/hand/", LD_PRELOAD=LIBRARY)
+    at = f"{tests.folder}/at"
+    if tests.run("make install of the recorder", ["make", "-s", "install", f"PREFIX={at}"], cwd=HERE):
+        record_elsewhere(tests, "by/installed", [f"{at}/bin/aqs-record", "-o", "by/installed", "--"])
+    room = tests.histories("record-nothing")
+    for environment in ({}, {"AQS_RECORD": ""}):
+        told = ran([ANSWERS, "uses_a_mutex_elsewhere"], cwd=room, LD_PRELOAD=LIBRARY, **environment)
+        tests.count("without a folder nothing is recorded", told == (8, "", "") and not os.listdir(room), str(told))
+    if made and shutil.which("addr2line"):
+        index = pathlib.Path(made, "index")
+        text, source = index.read_text(), (HERE / "test" / "answers.c").read_text().split("\n")
+        line = 1 + next(i for i, it in enumerate(source) if "/* the first call */" in it)
+        tests.count("the index names the line", text.endswith(f"/answers.c:{line}\n"), text)
+        ran([RECORD, "-o", "made/below", "--", ANSWERS, "uses_a_mutex_elsewhere"], cwd=tests.folder)
+        tests.count("an index of another run stays as it is", index.read_text() == text, index.read_text())
+    names = [os.path.basename(path) for path in processes(tests.histories("answers-executes_another"))]
+    is_good = len(names) == 2 and names[1] == f"{names[0]}.2"
+    tests.count("a process that executes another has two folders", is_good, str(names))
+
+
 def check(tests, judged):
     if not tests.run("the recorder is built", ["make", "-s", "all", "tests"], 300, cwd=HERE):
         return
     check_refusals(tests)
     check_rare_cases(tests)
     check_what_is_recorded(tests)
+    check_answers(tests)
+    check_numbers(tests)
+    check_gone(tests)
+    check_counts(tests)
+    check_script(tests)
+    check_folders(tests)
     for words in RUNS:
         check_run(tests, words)
     check_folded(tests)

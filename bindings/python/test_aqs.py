@@ -2,6 +2,7 @@
 
 AQS_HISTORIES names a folder for the histories.
 """
+import contextlib
 import ctypes
 import gc
 import os
@@ -13,6 +14,7 @@ import sys
 import tempfile
 import threading
 import time
+import traceback
 import unittest
 import weakref
 import zipfile
@@ -25,6 +27,7 @@ HERE = pathlib.Path(__file__).resolve().parent
 HEADER = HERE.parent / "c" / "aqs.h"
 NUMBERS = {
     "uint8_t": ctypes.c_uint8, "uint32_t": ctypes.c_uint32, "int32_t": ctypes.c_int32,
+    "uint64_t": ctypes.c_uint64, "int64_t": ctypes.c_int64,
     "size_t": ctypes.c_size_t, "aqs_thread_t": ctypes.c_uint32, "aqs_status_t": ctypes.c_int,
     "aqs_policy_t": ctypes.c_uint,
     "bool": ctypes.c_bool, "aqs_bool_t": ctypes.c_bool, "void": None,
@@ -34,18 +37,20 @@ LONG = 30
 
 
 def in_c(declared):
-    """The type of a parameter in C: of a number ctypes' own, and else "pointer"."""
+    """The type of a parameter in C: of a number ctypes' own, of a pointer to one a pair, else "pointer"."""
     words = [it for it in declared.split() if it != "AQS_CHECKED"]
-    return "pointer" if "*" in declared else NUMBERS[words[0]]
+    of = NUMBERS.get(words[0])
+    return of if "*" not in declared else ("pointer", of) if of and declared.count("*") == 1 else "pointer"
 
 
 def in_python(declared):
-    is_pointer = declared in (ctypes.c_void_p, ctypes.c_char_p) or hasattr(declared, "contents")
-    return "pointer" if is_pointer else declared
+    if not hasattr(declared, "contents"):
+        return "pointer" if declared in (ctypes.c_void_p, ctypes.c_char_p) else declared
+    return ("pointer", declared._type_) if declared._type_ in NUMBERS.values() else "pointer"
 
 
 def run_all(count, work):
-    threads = [threading.Thread(target=work, args=(number,)) for number in range(count)]
+    threads = [threading.Thread(target=work, args=(it,), daemon=True) for it in range(count)]
     for thread in threads:
         thread.start()
     return threads
@@ -264,6 +269,20 @@ class Objects(Tests):
                 self.assertRaises(aqs.HistoryFull, permits.release)
                 self.assertEqual(permits.trim(), 16)
                 permits.release()
+                self.assertEqual(permits.available(), 1)
+
+    def test_nothing_is_out_after_a_fork(self):
+        for kind, error in ((aqs.Lock, RuntimeError), (aqs.BoundedSemaphore, ValueError)):
+            with self.subTest(kind):
+                permits = kind()
+                for _ in range(2):
+                    permits.acquire()
+                    permits._at_fork_reinit()
+                    self.assertEqual(permits.available(), 1)
+                    self.assertRaises(error, permits.release)
+                    self.assertEqual(permits.available(), 1)
+                with permits:
+                    self.assertEqual(permits.available(), 0)
                 self.assertEqual(permits.available(), 1)
 
     def test_latch(self):
@@ -720,10 +739,15 @@ class Conditions(Tests):
 
     def test_a_wait_by_a_number_is_recorded_by_it(self):
         for lock in (aqs.RLock(conditions=4, keep_history=True), aqs.RWLock(conditions=4, keep_history=True)):
-            side = lock if isinstance(lock, aqs.RLock) else lock.write
+            side, woken = lock if isinstance(lock, aqs.RLock) else lock.write, []
+            condition = aqs.Condition(side)
+            threads = self.waiters(side, [condition], woken)  # by 0, which the others share with it
             with side:
-                self.assertFalse(side.wait(0.01, condition=3))
-            self.assertEqual(set(re.findall(r"(?m) await (\d+) ", lock.history())), {"3"})
+                for number in (3, 0, 2, 0):
+                    self.assertFalse(side.wait(0.01, condition=number))
+                condition.notify()
+            join_all(threads)
+            self.assertEqual(re.findall(r"(?m) await (\d+) ", lock.history()), ["0", "3", "0", "2", "0"])
 
     def test_a_time_does_not_begin_anew_at_a_notify(self):
         for condition in (aqs.RLock(), aqs.RWLock().write, aqs.Condition(), aqs.Condition(threading.Lock())):
@@ -1001,6 +1025,99 @@ class CtrlC(Tests):
         self.assertLess(time.monotonic() - begin, 5)
         timer.join()
 
+    def test_it_leaves_an_interrupt_pending(self):
+        permits, condition = aqs.Semaphore(0), aqs.Condition()
+        for thing, call in ((permits, permits.acquire), (condition._lock, lambda: own_wait(condition))):
+
+            def send(_number):
+                until(lambda: thing.waiters() == 1)
+                os.kill(os.getpid(), signal.SIGINT)
+
+            aqs.interrupt(aqs.current_thread())
+            threads = run_all(1, send)
+            self.assertRaises(KeyboardInterrupt, call)
+            join_all(threads)
+            self.assertTrue(aqs.interrupted())
+
+    def test_what_was_held_before_stays_held(self):
+        both, run = aqs.RWLock(), _waiting.run
+
+        def fail(*arguments):
+            run(*arguments)
+            raise KeyboardInterrupt
+
+        for lock in (aqs.RLock(), both.read, both.write):
+            counted, writer = lock._set_count, both.write if lock is both.read else lock
+
+            def count(holds):
+                counted(holds)
+                if holds != 1:
+                    raise KeyboardInterrupt
+
+            with lock:
+                for place in ("aqs._waiting.run", "aqs._locks.run"):
+                    with mock.patch(place, fail), self.assertRaises(KeyboardInterrupt):
+                        lock.acquire(place == "aqs._waiting.run")
+                with mock.patch.object(lock, "_set_count", count):
+                    self.assertRaises(KeyboardInterrupt, lock.acquire)
+                self.assertEqual(lock.holds(), 1)
+                self.assertFalse(in_other(lambda: writer.acquire(False)))
+            lock.acquire()
+            with mock.patch.object(lock, "_set_count", count):
+                self.assertRaises(KeyboardInterrupt, lock.release)
+            self.assertEqual(lock.holds(), 0)
+            self.assertTrue(in_other(lambda: writer.acquire(False) and writer.release() is None))
+
+    def test_as_many_permits_are_given_back_as_were_taken(self):
+        run = _waiting.run
+
+        def fail(*arguments):
+            run(*arguments)
+            raise KeyboardInterrupt
+
+        for permits in (aqs.Semaphore(5), aqs.BoundedSemaphore(5)):
+            note = permits._note
+
+            def noted(*arguments):
+                note(*arguments)
+                raise KeyboardInterrupt
+
+            patches = (
+                mock.patch("aqs._waiting.run", fail), mock.patch("aqs._locks.run", fail),
+                mock.patch.object(permits, "_note", noted),
+            )
+            for patch, blocking in zip(patches, (True, False, True)):
+                with patch, self.assertRaises(KeyboardInterrupt):
+                    permits.acquire(blocking, n=3)
+                self.assertEqual(permits.available(), 5)
+        self.assertRaises(ValueError, permits.release)
+
+    def test_a_wait_beside_the_lock_ends_with_the_lock(self):
+        lock, both = aqs.RLock(), aqs.RWLock()
+        for condition, thing, side, other in (
+            (threading.Condition(lock), lock, lock, lock),
+            (aqs.Condition(both.read), both, both.read, both.write),
+        ):
+            holds = []
+
+            def hold(_number):
+                with other:
+                    with condition:
+                        condition.notify()
+                    until(lambda: thing.queue_length() == 1)
+                    os.kill(os.getpid(), signal.SIGINT)
+                    time.sleep(0.02)
+
+            with self.assertRaises(KeyboardInterrupt), condition, condition:
+                threads = run_all(1, hold)
+                try:
+                    condition.wait(LONG)
+                finally:
+                    holds.append(side.holds())
+            join_all(threads)
+            self.assertEqual((holds, side.holds()), ([2], 0))
+            self.assertTrue(in_other(lambda: other.acquire(False) and other.release() is None))
+
     def test_other_threads_go_on(self):
         permits, got = aqs.Semaphore(0), []
         threads = run_all(2, lambda _number: got.append(permits.acquire()))
@@ -1013,6 +1130,708 @@ class CtrlC(Tests):
 def own_wait(condition):
     with condition:
         condition.wait()
+
+
+class Options(Tests):
+    """How an object is opened, and that nothing of it is forgotten."""
+
+    def things(self, **options):
+        return [
+            *(kind(**options) for kind in KINDS), aqs.RWLock(**options), aqs.Event(**options),
+            aqs.Barrier(1, **options), aqs.CountDownLatch(2**31 - 1, **options),
+        ]
+
+    def calls(self, things):
+        """A call of each thing, which may be made any number of times."""
+        lock, plain, permits, few, both, event, barrier, latch = things
+        return (
+            lambda: in_lock(lock, int), lambda: plain.acquire(False), permits.release,
+            lambda: few.acquire(False), lambda: in_lock(both.write, int), event.set, barrier.wait,
+            latch.count_down,
+        )
+
+    def test_each_option_reaches_each_object(self):
+        for policy in aqs.Policy:
+            things = self.things(policy=policy, threads=3, most_entries=20)
+            for thing in things:
+                wanted = policy.name.lower() if thing is not things[-1] else ""
+                self.assertRegex(thing.history(), rf"^aqs-history 1 \w+ {wanted}.*seats 3 .*cap 20\n")
+        for thing in (aqs.RLock(conditions=3), aqs.RWLock(conditions=3), aqs.Event(conditions=3)):
+            self.assertRegex(thing.history(), "^aqs-history 1 .* conditions 3 ")
+        usual = "^aqs-history 1 lock nonfair seats 256 conditions 16 cap 1024\n"
+        self.assertRegex(aqs.RLock().history(), usual)
+
+    def test_a_history_is_kept_only_if_that_is_asked_for(self):
+        for call in self.calls(self.things(most_entries=16)):
+            for _ in range(40):
+                call()
+        for call in self.calls(self.things(most_entries=16, keep_history=True)):
+            with self.assertRaises(aqs.HistoryFull):
+                for _ in range(40):
+                    call()
+
+    def test_a_trim_makes_room_again(self):
+        for kind in (aqs.Lock, aqs.BoundedSemaphore):
+            permits = kind(keep_history=True, most_entries=16)
+            for _ in range(40):
+                in_lock(permits, int)
+                self.assertEqual(permits.trim(), 2)
+
+    def test_the_last_of_each_range_is_taken(self):
+        most = 2**31 - 1
+        for thing in self.things(threads=256, most_entries=2**32 - 1):
+            self.assertRegex(thing.history(), "seats 256 .*cap 4294967295\n")
+        for permits in (aqs.Semaphore(most), aqs.BoundedSemaphore(most)):
+            self.assertTrue(permits.acquire(n=most))
+            self.assertEqual(permits.available(), 0)
+            permits.release(most)
+            self.assertEqual(permits.available(), most)
+        self.assertEqual(aqs.Semaphore(-(2**31), allow_negative=True).available(), -(2**31))
+        self.assertEqual([aqs.CountDownLatch(count).count() for count in (0, most)], [0, most])
+        for parties in (0, -1):
+            self.assertRaises(ValueError, aqs.Barrier, parties)
+        self.assertEqual(aqs.TIMEOUT_MAX, threading.TIMEOUT_MAX)
+
+    def test_permits_are_counted_by_their_number(self):
+        few = aqs.BoundedSemaphore(3)
+        few.acquire(n=2)
+        self.assertRaises(ValueError, few.release, 3)
+        self.assertEqual(few.available(), 1)
+        few.release(2)
+        self.assertRaises(ValueError, few.release)
+        owing = aqs.Semaphore(-2, allow_negative=True)
+        self.assertEqual(owing.available(), -2)
+        owing.release(6)
+        self.assertEqual((owing.drain(), owing.available()), (4, 0))
+
+
+class Refusals(Tests):
+    """What is left after a call that was refused."""
+
+    def full(self, call):
+        """Makes a call until the history is full. How often that was."""
+        for made in range(1000):
+            try:
+                call()
+            except aqs.HistoryFull:
+                return made
+        self.fail("it is never full")
+
+    def test_an_acquire_changes_no_hold(self):
+        both = aqs.RWLock(keep_history=True, most_entries=32)
+        for lock in (aqs.RLock(keep_history=True, most_entries=32), both.read, both.write):
+            holds = self.full(lock.acquire)
+            self.assertEqual(lock.holds(), holds)
+            for _ in range(holds):
+                lock.release()
+            self.assertRaises(aqs.NotOwner, lock.release)
+            self.assertFalse(lock.locked())
+            if lock is both.read:
+                both.trim()
+
+    def test_a_notify_may_be_made_again(self):
+        for notify in (aqs.Condition.notify, aqs.Condition.notify_all):
+            lock, woken = aqs.RLock(), []
+            condition = aqs.Condition(lock)
+
+            def wait(_number):
+                with lock:
+                    woken.append(condition.wait(LONG))
+
+            threads = run_all(2, wait)
+            until(lambda: len(condition._queue) == 2)
+            with lock:
+                refused = {"_one": lambda *_: _library.HISTORY_FULL, "_all": lambda *_: _library.HISTORY_FULL}
+                with mock.patch.multiple(aqs.RLock, **refused):
+                    self.assertRaises(aqs.HistoryFull, notify, condition)
+                self.assertEqual(len(condition._queue), 2)
+                notify(condition)
+                condition.notify()
+            join_all(threads)
+            self.assertEqual(woken, [True, True])
+
+    def test_a_wait_leaves_no_ticket(self):
+        both = aqs.RWLock()
+        lock = aqs.RLock(keep_history=True, most_entries=16)
+
+        def full():
+            self.full(lambda: lock.acquire(False))
+            try:
+                lock.wait(LONG)
+            finally:
+                while lock.holds() > 1:
+                    lock.release()
+                lock.trim()
+
+        def reads():
+            with both.read:
+                both.write.wait(LONG)
+
+        def interrupted():
+            aqs.interrupt(aqs.current_thread())
+            both.write.wait(LONG, interruptible=True)
+
+        for side, call, error in (
+            (lock, full, aqs.HistoryFull), (both.write, reads, aqs.HoldsRead),
+            (both.write, interrupted, aqs.Interrupted),
+        ):
+            with side:
+                self.assertRaises(error, call)
+                self.assertEqual((side.holds(), side._numbers.users), (1, [0] * 16))
+                self.assertEqual(len(side._queues[0]), 0)
+
+    def test_who_may_not_notify_takes_nothing(self):
+        for lock in (aqs.Lock(), threading.Lock(), aqs.RLock(), aqs.RWLock().read):
+            condition = aqs.Condition(lock)
+            for call in (condition.notify, condition.notify_all, condition.wait):
+                self.assertRaises(RuntimeError, call)
+            self.assertTrue(in_other(lambda: condition.acquire(False) and condition.release() is None))
+        with lock, condition, aqs.RLock() as has:
+            self.assertTrue(has)
+            self.assertRaises(TypeError, condition.notify, 1.5)
+            self.assertRaises(ValueError, condition.acquire, timeout=-5)
+
+    def test_a_reader_does_not_wait_for_itself_with_a_time(self):
+        lock = aqs.RWLock()
+        with lock.read:
+            self.assertRaisesRegex(RuntimeError, "wait for itself", lock.write.acquire, timeout=0.01)
+            self.assertEqual((lock.read.holds(), lock.write.holds()), (1, 0))
+
+    def test_a_lock_that_fails_to_be_given_up_leaves_the_condition(self):
+        class Refusing:
+            def _is_owned(self):
+                return True
+
+            def release(self):
+                raise OSError
+
+        condition = aqs.Condition(Refusing())
+        self.assertRaises(OSError, condition.wait)
+        self.assertIsNone(in_other(condition.notify))
+        self.assertFalse(condition._queue._monitor.locked())
+
+    def test_each_call_is_told_of_its_refusal(self):
+        permits, latch = aqs.Semaphore(0, threads=1), aqs.CountDownLatch(1, threads=1)
+        both, over, told = aqs.RWLock(threads=1), threading.Event(), []
+        waits = (permits.acquire, latch.wait)
+
+        def wait(number):
+            told.append(aqs.current_thread())
+            with contextlib.suppress(aqs.Interrupted):
+                waits[number](interruptible=True)
+
+        threads = run_all(2, wait) + run_all(1, lambda _number: in_lock(both.write, lambda: over.wait(LONG)))
+        for thing in (permits, latch, both):
+            until(lambda: isinstance(raised_in_other(thing.waiters), aqs.TooManyThreads))
+        for call in (
+            permits.available, permits.release, permits.drain, permits.acquire,
+            lambda: permits.acquire(False), latch.count, latch.count_down, latch.wait, latch.waiters,
+            both.write.locked, both.write.acquire, both.read.acquire, lambda: both.read.acquire(False),
+        ):
+            self.assertRaises(aqs.TooManyThreads, call)
+        self.assertEqual((both.read.holds(), both.write.holds()), (0, 0))
+        over.set()
+        for thread in told:
+            aqs.interrupt(thread)
+        join_all(threads)
+        self.assertEqual((permits.available(), latch.count(), both.write.locked()), (0, 1, False))
+
+    def test_who_is_refused_the_lock_again_leaves_it_to_its_owner(self):
+        lock = aqs.RLock()
+        refusing = lock._calls._replace(plain=lambda _handle: _library.HISTORY_FULL)
+        with lock, mock.patch.object(lock, "_calls", refusing):
+            self.assertIsInstance(raised_in_other(lambda: lock._acquire_restore(2)), aqs.HistoryFull)
+            self.assertEqual((lock.holds(), in_other(lock.holds)), (1, 0))
+
+    def test_a_permit_that_cannot_be_counted_is_given_back(self):
+        release, statuses = _library.library.aqs_sem_release, [_library.OUT_OF_MEMORY]
+
+        def refused(*arguments):
+            return statuses.pop() if statuses else release(*arguments)
+
+        few = aqs.BoundedSemaphore(2)
+        with mock.patch.object(_library.library, "aqs_sem_release", refused):
+            self.assertRaises(aqs.OutOfMemory, few.acquire)
+        self.assertEqual(few.available(), 2)
+        self.assertRaises(ValueError, few.release)
+
+    def test_nothing_is_said_of_what_was_never_opened(self):
+        said = []
+        with mock.patch("sys.unraisablehook", said.append):
+            for kind in (*KINDS, aqs.RWLock, aqs.Event):
+                self.assertRaises(ValueError, kind, threads=257)
+            for lock in (aqs.RLock(), aqs.RWLock()):
+                sides = [lock] if isinstance(lock, aqs.RLock) else [lock.read, lock.write]
+                sides[-1].acquire()
+                sides[0].acquire()
+                lock.close()
+                self.assertEqual([side.holds() for side in sides], [0] * len(sides))
+            del lock, sides
+            gc.collect()
+        self.assertEqual(said, [])
+
+    def test_a_number_that_memory_lacks_for_is_none(self):
+        with mock.patch.object(_library.library, "aqs_thread_self", lambda: _library.NO_THREAD):
+            self.assertRaises(aqs.OutOfMemory, aqs.current_thread)
+
+
+class Closing(Tests):
+    """When the memory of an object is freed, and that it is."""
+
+    @contextlib.contextmanager
+    def closed(self):
+        """The kinds of the objects that are closed meanwhile."""
+        closed = []
+
+        def closing(kind, close):
+            return lambda handle: (closed.append(kind), close(handle))
+
+        with contextlib.ExitStack() as stack:
+            for kind in ("lock", "rwlock", "sem", "latch"):
+                name = f"aqs_{kind}_close"
+                call = closing(kind, getattr(_library.library, name))
+                stack.enter_context(mock.patch.object(_library.library, name, call))
+            yield closed
+
+    def test_each_object_is_freed_once(self):
+        for kind, freed in (
+            (aqs.RLock, ["lock"]), (aqs.RWLock, ["rwlock"]), (aqs.Semaphore, ["sem"]), (aqs.Event, ["lock"]),
+            (aqs.Lock, ["sem"] * 2), (aqs.BoundedSemaphore, ["sem"] * 2), (aqs.Condition, ["lock"]),
+            (lambda: aqs.Barrier(2), ["lock"]), (lambda: aqs.CountDownLatch(1), ["latch"]),
+            (lambda: aqs.Condition(threading.Lock()), ["lock"]),
+        ):
+            for is_closed in (False, True):
+                with self.closed() as closed:
+                    thing = kind()
+                    if is_closed and hasattr(thing, "close"):
+                        thing.close()
+                        self.assertEqual(closed, freed)
+                        thing.close()
+                    del thing
+                    self.assertEqual(closed, freed)
+
+    def test_what_a_fork_leaves_behind_is_not_freed(self):
+        for kind in (*KINDS, aqs.Event):
+            with self.closed() as closed:
+                thing = kind()
+                thing._at_fork_reinit()
+                self.assertEqual(closed, [])
+
+    def test_an_object_stays_until_its_question_is_answered(self):
+        questions = {
+            "policy": "aqs_object_policy", "queue_length": "aqs_object_queue_length",
+            "waiters": "aqs_object_waiters", "history": "aqs_history_text", "trim": "aqs_history_trim",
+            "available": "aqs_sem_getvalue",
+        }
+        for question, name in questions.items():
+            with self.closed() as closed:
+                permits, seen, call = aqs.Semaphore(), [], getattr(_library.library, name)
+
+                def closing(*arguments):
+                    permits.close()
+                    seen.append(len(closed))
+                    return call(*arguments)
+
+                with mock.patch.object(_library.library, name, closing):
+                    getattr(permits, question)()
+                self.assertEqual((seen, closed), ([0], ["sem"]), question)
+
+    def test_who_holds_a_lock_closes_it_alone(self):
+        for lock in (aqs.RLock(), aqs.RWLock()):
+            for side in [lock] if isinstance(lock, aqs.RLock) else [lock.read, lock.write]:
+                with side:
+                    self.assertIsInstance(raised_in_other(lock.close), RuntimeError)
+                    self.assertEqual(side.holds(), 1)
+        for gate in (aqs.Event(), aqs.Barrier(2)):
+            with gate._cond:
+                self.assertIsInstance(raised_in_other(gate.close), RuntimeError)
+
+    def test_threads_that_close_what_they_hold_give_their_numbers_back(self):
+        def close(_number):
+            kinds = (aqs.RLock, aqs.RWLock, aqs.Event, aqs.RWLock)
+            lock, both, event, dropped = (kind(threads=1) for kind in kinds)
+            for side in (lock, lock, both.write, both.read, event._cond, dropped.write):
+                side.__enter__()
+            for thing in (lock, both, event):
+                thing.close()
+
+        for _ in range(3):
+            join_all(run_all(30, close))
+        self.assertLess(in_other(aqs.current_thread), 64)
+
+    def test_a_later_thread_is_not_the_one_that_has_ended(self):
+        lock, both = aqs.RLock(), aqs.RWLock()
+        for side in (lock, both.read):
+            in_other(side.acquire)
+        for _ in range(5):
+            for side in (lock, both.read):
+                self.assertEqual(in_other(side.holds), 0)
+                self.assertIsInstance(raised_in_other(side.release), aqs.NotOwner)
+
+
+class Interrupts(Tests):
+    """An interrupt ends the calls that heed it, and stays for the others."""
+
+    def after_one(self, call):
+        """What a call returns after an interrupt of its thread, or "ended", and whether the interrupt is
+        still there. In this thread, and in another."""
+
+        def tried():
+            aqs.interrupt(aqs.current_thread())
+            try:
+                return call(), aqs.interrupted()
+            except aqs.Interrupted:
+                return "ended", aqs.interrupted()
+
+        return [tried(), in_other(tried)]
+
+    def test_each_acquire(self):
+        for kind in (*KINDS, lambda: aqs.RWLock().read, lambda: aqs.RWLock().write):
+            for named in ({}, {"timeout": LONG}):
+                thing = kind()
+                with self.subTest(f"{thing} {named}"):
+                    heeds = {"interruptible": True, **named}
+                    ended = self.after_one(lambda: thing.acquire(**heeds) and thing.release())
+                    self.assertEqual(ended, [("ended", False)] * 2)
+                    has = self.after_one(lambda: thing.acquire(**named) and thing.release())
+                    self.assertEqual(has, [(None, True)] * 2)
+                    self.assertTrue(in_other(lambda: thing.acquire(False) and thing.release() is None))
+                    self.assertEqual(getattr(thing, "available", lambda: 1)(), 1)
+
+    def test_each_wait(self):
+        lock = aqs.RLock()
+        for owner in (lock, aqs.RWLock().write, aqs.Condition(lock), aqs.Condition(aqs.Lock())):
+            for call in (owner.wait, lambda *it, **named: owner.wait_for(lambda: False, *it, **named)):
+                for time_ in (1, None):
+
+                    def waits():
+                        with owner:
+                            try:
+                                call(time_, interruptible=True)
+                            finally:
+                                assert owner._is_owned()
+
+                    self.assertEqual(self.after_one(waits), [("ended", False)] * 2)
+
+            def waits_on():
+                with owner:
+                    return owner.wait(0.01)
+
+            self.assertEqual(self.after_one(waits_on), [(False, True)] * 2)
+
+    def test_each_gate(self):
+        latch, event, barrier = aqs.CountDownLatch(1), aqs.Event(), aqs.Barrier(2)
+        for time_ in (1, None):
+            ended = self.after_one(lambda: latch.wait(time_, interruptible=True))
+            self.assertEqual(ended, [("ended", False)] * 2)
+
+        def breaks():
+            barrier.reset()
+            try:
+                barrier.wait(0.01)
+            except aqs.BrokenBarrierError:
+                return "broken"
+
+        self.assertEqual(self.after_one(lambda: latch.wait(0.01)), [(False, True)] * 2)
+        self.assertEqual(self.after_one(lambda: event.wait(0.01)), [(False, True)] * 2)
+        self.assertEqual(self.after_one(breaks), [("broken", True)] * 2)
+
+
+class Waiting(Tests):
+    """Who waits for how long, in which order, and who is woken."""
+
+    def waiting(self, condition, count):
+        """As many threads wait on a condition, in the order of their numbers, and note what they get."""
+        threads, woken = [], []
+
+        def wait(number):
+            with condition:
+                woken.append((number, condition.wait(LONG)))
+
+        for number in range(count):
+            threads.append(threading.Thread(target=wait, args=(number,), daemon=True))
+            threads[-1].start()
+            until(lambda: len(condition._queue) == number + 1)
+        return threads, woken
+
+    def test_only_the_main_thread_waits_in_slices(self):
+        permits, lock = aqs.Semaphore(0, keep_history=True), aqs.RLock(keep_history=True)
+
+        def waits(_number):
+            with lock:
+                lock.wait()
+            permits.acquire()
+
+        with mock.patch("aqs._waiting.SLICE", 0.005):
+            threads = run_all(1, waits)
+            for thing, goes_on in ((lock, lambda: in_lock(lock, lock.notify)), (permits, permits.release)):
+                until(lambda: thing.waiters() == 1)
+                time.sleep(0.03)
+                goes_on()
+            join_all(threads)
+        counts = lock.history().count(" await "), permits.history().count(" queued ")
+        self.assertEqual(counts, (1, 1))
+
+    def test_no_time_is_rounded_down(self):
+        latch, given = aqs.CountDownLatch(1), []
+
+        def run(ran, _function, _handle, milliseconds):
+            given.append(milliseconds)
+            ran.append(_library.OK)
+            return _library.OK
+
+        times = (0.0004, 0.0011, 0.05, 5, 2**32)
+        still = mock.Mock(monotonic=lambda: 0.0)
+        with mock.patch("aqs._waiting.run", run), mock.patch("aqs._waiting.time", still):
+            for time_ in (*times, None):
+                latch.wait(time_)
+            in_other(lambda: [latch.wait(time_) for time_ in times])
+        self.assertEqual(given, [1, 2, 50, 100, 100, 100, 1, 2, 50, 5000, 2**32 - 1])
+
+    def test_conditions_share_a_number_only_if_they_must(self):
+        for numbers, users in ((3, [1, 1, 1]), (2, [1, 2]), (4, [0, 1, 1, 1])):
+            lock = aqs.RLock(conditions=numbers)
+            conditions = [aqs.Condition(lock) for _ in range(3)]
+            threads = [it for condition in conditions for it in self.waiting(condition, 2)[0]]
+            with lock:
+                self.assertEqual(sorted(lock._numbers.users), users)
+                for condition in conditions:
+                    condition.notify_all()
+            join_all(threads)
+            self.assertEqual(lock._numbers.users, [0] * numbers)
+
+    def test_a_notify_wakes_no_more_than_it_says(self):
+        condition = aqs.Condition()
+        threads, woken = self.waiting(condition, 4)
+        for n, left in ((1, [0]), (2, [0, 1, 2]), (2, [0, 1, 2, 3])):
+            with condition:
+                condition.notify(n)
+                self.assertEqual(condition._lock.queue_length(), len(left) - len(woken))
+            until(lambda: len(woken) == len(left))
+            self.assertEqual(sorted(woken), [(number, True) for number in left])
+        join_all(threads)
+
+    def test_who_was_notified_is_not_too_late(self):
+        for condition in (aqs.Condition(), aqs.Condition(aqs.Lock())):
+            with mock.patch("aqs._conditions.is_up", lambda _until: True):
+                threads, woken = self.waiting(condition, 2)
+                with condition:
+                    condition.notify()
+                    condition.notify()
+                join_all(threads)
+            self.assertEqual(sorted(woken), [(0, True), (1, True)])
+
+    def test_the_main_thread_is_behind_others_after_a_slice(self):
+        condition, first, woken = aqs.Condition(), [], []
+
+        def wait(_number):
+            with condition:
+                first.extend(condition._queue._tickets)
+                woken.append(condition.wait(LONG))
+                condition.notify()
+
+        def notified():
+            with condition:
+                is_behind = len(condition._queue) == 2 and condition._queue._tickets[0] not in first
+                if is_behind:
+                    condition.notify()
+            return is_behind
+
+        with mock.patch("aqs._waiting.SLICE", 0.01), condition:
+            threads = run_all(1, wait) + run_all(1, lambda _number: until(notified))
+            self.assertTrue(condition.wait(5))
+            self.assertEqual(woken, [True])
+        join_all(threads)
+
+    def test_a_handler_may_notify_as_a_wait_begins_anew(self):
+        condition = aqs.Condition()
+        queue, drop, notified = condition._queue, condition._queue._drop, []
+
+        def dropping(ticket):
+            drop(ticket)
+            if not notified:
+                notified.append(None)
+                condition.notify()
+
+        with mock.patch("aqs._waiting.SLICE", 0.01), mock.patch.object(queue, "_drop", dropping), condition:
+            self.assertTrue(condition.wait(5))
+
+    def test_a_predicate_is_asked_again_after_the_time(self):
+        for condition in (aqs.RLock(), aqs.Condition(), aqs.Condition(threading.Lock())):
+            answers = iter((0, "late"))
+            with condition:
+                self.assertEqual(condition.wait_for(lambda: next(answers), 0.001), "late")
+
+    def test_no_notify_comes_before_its_waiter(self):
+        condition, threads = aqs.Condition(threading.Lock()), []
+        release = condition._release_save
+
+        def releasing():
+            release()
+            threads.extend(run_all(1, lambda _number: in_lock(condition, condition.notify)))
+            threads[0].join(0.1)
+
+        with mock.patch.object(condition, "_release_save", releasing), condition:
+            self.assertTrue(condition.wait(5))
+        join_all(threads)
+
+    def test_who_is_woken_holds_up_no_notify(self):
+        condition = aqs.Condition(threading.Lock())
+        threads, woken = self.waiting(condition, 2)
+        with condition:
+            condition.notify()
+            time.sleep(0.02)
+            monitor = condition._queue._monitor
+            self.assertTrue(monitor.acquire(timeout=5) and monitor.release() is None)
+            condition.notify()
+        join_all(threads)
+        self.assertEqual(sorted(woken), [(0, True), (1, True)])
+
+    def test_a_wait_beside_the_lock_gives_all_holds_up(self):
+        lock, both = aqs.RLock(), aqs.RWLock()
+        for condition, side, other in (
+            (threading.Condition(lock), lock, lock), (aqs.Condition(both.read), both.read, both.write),
+        ):
+
+            def notify(_number):
+                with other:
+                    pass
+                with condition:
+                    condition.notify()
+
+            with condition, condition:
+                threads = run_all(1, notify)
+                self.assertTrue(condition.wait(5))
+                self.assertEqual(side.holds(), 2)
+                self.assertFalse(in_other(lambda: other.acquire(False)))
+            join_all(threads)
+            self.assertTrue(in_other(lambda: other.acquire(False) and other.release() is None))
+
+    def test_who_has_a_lock_next_keeps_it(self):
+        for lock in (aqs.RLock(), aqs.RWLock().write):
+            unlock, threads, told = lock._unlock, [], []
+            begun, over = threading.Event(), threading.Event()
+
+            def hold(_number):
+                with lock:
+                    begun.set()
+                    over.wait(LONG)
+                    told.append(lock.holds())
+
+            def unlocking(handle):
+                status = unlock(handle)
+                threads.extend(run_all(1, hold))
+                begun.wait(LONG)
+                return status
+
+            lock.acquire()
+            with mock.patch.object(lock, "_unlock", unlocking):
+                lock.release()
+            over.set()
+            join_all(threads)
+            self.assertEqual((told, lock.locked()), ([1], False))
+
+    def test_who_waits_does_not_own(self):
+        lock = aqs.RLock()
+        condition = aqs.Condition(lock)
+        threads, _ = self.waiting(condition, 1)
+        until(lambda: lock.waiters() == 1)
+        self.assertRegex(repr(condition), "^<Condition[(]<unlocked aqs.RLock object count=0 at 0x.*>, 1[)]>$")
+        in_lock(condition, condition.notify)
+        join_all(threads)
+
+    def test_an_action_that_fails_breaks_the_barrier(self):
+        told, faults = [], [OSError()]
+
+        def act():
+            if faults:
+                raise faults.pop()
+
+        barrier = aqs.Barrier(2, act)
+
+        def meet(_number):
+            try:
+                told.append(barrier.wait(LONG))
+            except (OSError, aqs.BrokenBarrierError) as error:
+                told.append(type(error))
+
+        join_all(run_all(2, meet))
+        self.assertEqual(set(told), {OSError, aqs.BrokenBarrierError})
+        self.assertEqual((barrier.broken, barrier.n_waiting), (True, 0))
+        self.assertRaises(aqs.BrokenBarrierError, barrier.wait)
+        self.assertRegex(repr(barrier), "^<aqs.Barrier at 0x.*: broken>$")
+        barrier.reset()
+        told.clear()
+        join_all(run_all(2, meet))
+        self.assertEqual(sorted(told), [0, 1])
+
+
+class Forks(Tests):
+    """What a child of a fork finds."""
+
+    def in_child(self, call):
+        """Makes a call in a child, which must end without an exception."""
+        child = os.fork()
+        if not child:
+            status = 1
+            try:
+                signal.alarm(10)
+                call()
+                status = 0
+            except BaseException:
+                traceback.print_exc()
+            finally:
+                os._exit(status)
+        self.assertEqual(os.waitpid(child, 0), (child, 0))
+
+    def test_nobody_of_the_parent_waits_there(self):
+        own, beside = aqs.Condition(), aqs.Condition(threading.Lock())
+        for condition in (own, beside):
+            woken, begun, over = [], threading.Event(), threading.Event()
+
+            def wait(number):
+                with condition:
+                    woken.append((number, condition.wait(LONG)))
+
+            def notifies():
+                condition._at_fork_reinit()
+                assert len(condition._queue) == 0
+                with condition:
+                    thread = threading.Thread(target=wait, args=("child",), daemon=True)
+                    thread.start()
+                until(lambda: len(condition._queue) == 1)
+                with condition:
+                    condition.notify()
+                thread.join(5)
+                assert woken == [("child", True)], woken
+
+            def notifying(_number):
+                with getattr(condition._queue, "_monitor", aqs.RLock()):
+                    begun.set()
+                    over.wait(LONG)
+
+            threads = run_all(1, wait)
+            until(lambda: len(condition._queue) == 1)
+            with condition:
+                threads += run_all(1, notifying)
+                begun.wait(LONG)
+                self.in_child(notifies)
+                over.set()
+                condition.notify()
+            join_all(threads)
+            self.assertEqual(woken, [(0, True)])
+
+    def test_what_is_opened_anew_is_as_at_first(self):
+        options = {"policy": aqs.Policy.STRICT, "threads": 3, "most_entries": 20}
+        things = [kind(**options) for kind in (*KINDS, aqs.Event)] + [aqs.Semaphore(7, **options)]
+        for thing in things:
+            before = thing.history()
+            getattr(thing, "acquire", int)()
+            thing._at_fork_reinit()
+            self.assertEqual(thing.history(), before)
+        lock = things[0]
+        with lock:
+            self.assertEqual((lock.holds(), lock._numbers.users), (1, [0] * 16))
 
 
 class Loading(Tests):
@@ -1029,6 +1848,23 @@ class Loading(Tests):
         self.assertIn("make -C bindings/c", last)
         self.assertIn("AQS_SO", last)
 
+    def test_the_first_library_that_is_there_is_taken(self):
+        places = ["/room/python/aqs/libaqs.so", "/room/c/out/libaqs.so", "libaqs.so"]
+        for place in places:
+            tried = []
+
+            def opened(name):
+                tried.append(name)
+                if name != place:
+                    raise OSError(name)
+                return _library.library
+
+            here = mock.patch.object(_library, "__file__", "/room/python/aqs/_library.py")
+            with here, mock.patch("ctypes.CDLL", opened), mock.patch.dict(os.environ):
+                os.environ.pop("AQS_SO", None)
+                self.assertIs(_library._load(), _library.library)
+            self.assertEqual(tried, places[: places.index(place) + 1])
+
     def test_the_wheel_has_the_library(self):
         with tempfile.TemporaryDirectory() as room:
             words = [sys.executable, "-B", str(HERE / "wheel_backend.py"), room]
@@ -1043,6 +1879,35 @@ class Loading(Tests):
             words = [sys.executable, "-B", "-c", code]
             ran = subprocess.run(words, cwd=room, env=settings, capture_output=True, text=True, timeout=60)
             self.assertEqual(ran.stdout, f"2 {os.path.realpath(room)}/aqs/libaqs.so\n", ran.stderr)
+
+    def test_a_child_has_no_waiters_of_its_parent(self):
+        code = (
+            "import aqs, os, threading, time\n"
+            "lock, woken = aqs.RLock(conditions=2), []\n"
+            "condition = aqs.Condition(lock)\n"
+            "def wait():\n"
+            "    with lock:\n"
+            "        woken.append(condition.wait(30))\n"
+            "def waiter():\n"
+            "    thread = threading.Thread(target=wait)\n"
+            "    thread.start()\n"
+            "    while lock.waiters() < 1:\n"
+            "        time.sleep(0.001)\n"
+            "    return thread\n"
+            "def wake(thread):\n"
+            "    with lock:\n"
+            "        condition.notify()\n"
+            "    thread.join(20)\n"
+            "    return woken, lock._numbers.users\n"
+            "threads = [waiter()]\n"
+            "child = os.fork()\n"
+            "if child == 0:\n"
+            "    condition._at_fork_reinit()\n"
+            "    os._exit(7 if wake(waiter()) == ([True], [0, 0]) else 1)\n"
+            "print(os.WEXITSTATUS(os.waitpid(child, 0)[1]), wake(*threads))\n"
+        )
+        ran = self.python(code)
+        self.assertEqual(ran.stdout, "7 ([True], [0, 0])\n", ran.stderr)
 
     def test_threads_that_wait_at_the_end_do_no_harm(self):
         code = (
@@ -1070,6 +1935,30 @@ class Declarations(unittest.TestCase):
                 self.assertEqual(in_python(function.restype), in_c(result), name)
                 compared += 1
         self.assertGreater(compared, 50)
+
+    def test_each_status_is_that_of_the_header(self):
+        text = re.sub(r"/\*.*?\*/", "", HEADER.read_text(encoding="ascii"), flags=re.S)
+        names = re.findall(r"\bAQS_\w+", re.search(r"typedef enum \{([^}]*)\} aqs_status_t;", text)[1])
+        kinds = {
+            "INTERRUPTED": (aqs.Interrupted,), "NOT_OWNER": (aqs.NotOwner, RuntimeError),
+            "TOO_MANY_HOLDS": (aqs.TooManyHolds, OverflowError), "HOLDS_READ": (aqs.HoldsRead, RuntimeError),
+            "TOO_MANY_PERMITS": (aqs.TooManyPermits, OverflowError),
+            "TOO_MANY_THREADS": (aqs.TooManyThreads, RuntimeError),
+            "HISTORY_FULL": (aqs.HistoryFull, RuntimeError), "OUT_OF_MEMORY": (aqs.OutOfMemory, MemoryError),
+            "NO_SUCH_CONDITION": (aqs.NoSuchCondition, ValueError),
+        }
+        for status, name in enumerate(names):
+            own, *bases = kinds.get(name[4:], (aqs.Error,))
+            error = _library.error_of(status)
+            self.assertEqual((type(error), error.status), (own, status))
+            self.assertTrue(all(isinstance(error, it) for it in (aqs.Error, *bases)), name)
+            self.assertTrue(str(error).startswith(f"{name}: "), str(error))
+            self.assertEqual(getattr(_library, name[4:], status), status, name)
+        self.assertEqual(_library.NO_THREAD, 2**32 - 1)
+
+    def test_each_name_of_the_package_is_there(self):
+        self.assertEqual([name for name in aqs.__all__ if not hasattr(aqs, name)], [])
+        self.assertIs(aqs.Latch, aqs.CountDownLatch)
 
     def test_the_package_says_that_it_has_types(self):
         self.assertTrue((HERE / "aqs" / "py.typed").is_file())

@@ -113,8 +113,11 @@ static void all_pass(void) {
     aqs_barrier_close(barrier);
 }
 
+static atomic_bool has_passed;
+
 static void *come_once(void *none) {
     IS(aqs_barrier_wait(barrier, NULL), AQS_OK);
+    atomic_store(&has_passed, true);
     return none;
 }
 
@@ -148,6 +151,35 @@ static void full(void) {
     aqs_barrier_close(barrier);
 }
 
+/* Another thread comes first, and waits for this one. */
+static void meet_another(void) {
+    pthread_t thread;
+    aqs_bool_t is_last = false;
+    atomic_store(&has_passed, false);
+    CHECK(pthread_create(&thread, NULL, come_once, NULL) == 0);
+    for (uint32_t count = 0; count == 0; usleep(50)) {
+        CHECK(!atomic_load(&has_passed));
+        IS(aqs_object_waiters(aqs_barrier_object(barrier), &count), AQS_OK);
+    }
+    IS(aqs_barrier_wait(barrier, &is_last), AQS_OK);
+    CHECK(is_last);
+    CHECK(pthread_join(thread, NULL) == 0);
+}
+
+/* Nor has one come whose wait can't be recorded, though it could lock. */
+static void full_for_a_wait(void) {
+    IS(aqs_barrier_open(&barrier, 2, &(aqs_options_t){.when_full = AQS_REFUSE, .history = 16}), AQS_OK);
+    for (int i = 0; i < 2; i++) meet_another();
+    for (int i = 0; i < 2; i++) {
+        uint64_t entries;
+        IS(aqs_barrier_wait(barrier, NULL), AQS_HISTORY_FULL);
+        IS(aqs_history_trim(aqs_barrier_object(barrier), &entries), AQS_OK);
+        CHECK(entries == 16);
+        for (int j = 0; j < 2; j++) meet_another();
+    }
+    aqs_barrier_close(barrier);
+}
+
 static void out_of_range(void) {
     barrier = (aqs_barrier_t *)&barrier;
     IS(aqs_barrier_open(&barrier, 0, NULL), AQS_OUT_OF_RANGE);
@@ -176,6 +208,7 @@ int main(void) {
     all_pass();
     closes();
     full();
+    full_for_a_wait();
     out_of_range();
     puts("over: good");
     return 0;

@@ -13,6 +13,7 @@ import java.nio.file.Path;
 import java.nio.file.Paths;
 import java.util.ArrayDeque;
 import java.util.ArrayList;
+import java.util.Arrays;
 import java.util.Collections;
 import java.util.List;
 import java.util.Random;
@@ -61,6 +62,32 @@ final class AqsTest {
         throwing(IllegalArgumentException.class, work);
     }
 
+    /** It throws what a failure has that the JDK's classes don't: the name of a status, and its number. */
+    static void failing(String name, int status, Work work) {
+        try {
+            work.run();
+        } catch (Exception found) {
+            same(found.getMessage(), name);
+            same(((AqsException) found).status(), status);
+            return;
+        }
+        throw new AssertionError("no " + name);
+    }
+
+    static void full(Work work) {
+        failing("AQS_HISTORY_FULL", 10, work);
+    }
+
+    interface Fact {
+        boolean holds();
+    }
+
+    static void until(Fact fact) throws InterruptedException {
+        while (!fact.holds()) {
+            Thread.sleep(1);
+        }
+    }
+
     static void keep(String name, String history) throws Exception {
         check(history.startsWith("aqs-history "));
         Files.write(folder.resolve("java-" + name + ".history"), history.getBytes(StandardCharsets.US_ASCII));
@@ -96,7 +123,12 @@ final class AqsTest {
         private final AtomicIntegerArray owed = new AtomicIntegerArray(THREADS);
         private final AtomicInteger sent = new AtomicInteger(), seen = new AtomicInteger();
         private final AtomicInteger running = new AtomicInteger(THREADS), acquired = new AtomicInteger();
+        private final Fact isHeld;
         private int inside, got;
+
+        Storm(Fact isHeld) {
+            this.isHeld = isHeld;
+        }
 
         interface Way {
             boolean acquire(int kind) throws InterruptedException;
@@ -134,7 +166,7 @@ final class AqsTest {
                 if (once(me, way, random.nextInt(4))) {
                     acquired.incrementAndGet();
                     inside++;
-                    check(inside == 1);
+                    check(inside == 1 && isHeld.holds());
                     got++;
                     inside--;
                     release.run();
@@ -191,9 +223,11 @@ final class AqsTest {
         try (AqsLock lock = new AqsLock(kept(fair));
                 AqsReadWriteLock sides = new AqsReadWriteLock(kept(fair));
                 AqsSemaphore permits = new AqsSemaphore(3, kept(fair))) {
-            new Storm().run(kind -> acquire(lock, kind), lock::unlock);
-            new Storm().run(kind -> acquire(sides.writeLock(), kind), sides.writeLock()::unlock);
-            new Storm().run(kind -> acquire(permits, kind), () -> permits.release(2));
+            AqsReadWriteLock.WriteLock side = sides.writeLock();
+            new Storm(() -> lock.getHoldCount() == 1).run(kind -> acquire(lock, kind), lock::unlock);
+            new Storm(() -> side.getHoldCount() == 1).run(kind -> acquire(side, kind), side::unlock);
+            new Storm(() -> permits.availablePermits() < 2)
+                .run(kind -> acquire(permits, kind), () -> permits.release(2));
             same(permits.availablePermits(), 3);
             check(lock.tryLock() && sides.writeLock().tryLock());
             keep("interrupted-lock-" + fair, lock.history());
@@ -340,6 +374,55 @@ final class AqsTest {
         }
     }
 
+    static Thread startWaiting(Lock lock, Condition condition) throws InterruptedException {
+        AtomicInteger waiting = new AtomicInteger();
+        Thread waiter = start(() -> {
+            lock.lock();
+            waiting.incrementAndGet();
+            condition.await();
+            lock.unlock();
+        });
+        while (waiting.get() < 1) {
+            Thread.sleep(1);
+        }
+        return waiter;
+    }
+
+    /**
+     * Of four conditions over two numbers, the second and the fourth have waiters. A signal of another wakes
+     * nobody, whichever numbers they have.
+     */
+    static void signalsToNobody(AqsObject object, Lock lock) throws Exception {
+        Condition[] conditions = new Condition[4];
+        for (int i = 0; i < conditions.length; i++) {
+            conditions[i] = lock.newCondition();
+        }
+        List<Thread> threads = new ArrayList<>();
+        List<Integer> woken = new ArrayList<>();
+        for (int waiters = 0; waiters <= 2; waiters++) {
+            lock.lock();
+            for (int i = 0; i < conditions.length; i++) {
+                if (i % 2 == 0 || i / 2 >= waiters) {
+                    conditions[i].signal();
+                    conditions[i].signalAll();
+                }
+            }
+            woken.add(object.getQueueLength());
+            lock.unlock();
+            if (waiters < 2) {
+                threads.add(startWaiting(lock, conditions[2 * waiters + 1]));
+            }
+        }
+        lock.lock();
+        for (int i = 1; i <= 3; i += 2) {
+            conditions[i].signal();
+            woken.add(object.getQueueLength());
+        }
+        lock.unlock();
+        join(threads);
+        same(woken, Arrays.asList(0, 0, 0, 1, 2));
+    }
+
     static void conditions() throws Exception {
         for (int number : new int[] {1, 2, 16}) {
             try (AqsLock lock = new AqsLock(kept(false).conditions(number));
@@ -352,6 +435,12 @@ final class AqsTest {
                 keep("conditions-" + number, lock.history());
                 keep("writers-conditions-" + number, sides.history());
             }
+        }
+        try (AqsLock lock = new AqsLock(kept(false).conditions(2));
+                AqsReadWriteLock sides = new AqsReadWriteLock(kept(true).conditions(2))) {
+            signalsToNobody(lock, lock);
+            signalsToNobody(sides, sides.writeLock());
+            keep("signals-to-nobody", lock.history());
         }
         manyConditions(new ReentrantLock(), 40);
         ownSignals(new ReentrantLock(), 16, 1);
@@ -369,12 +458,68 @@ final class AqsTest {
         }
     }
 
+    /** Who owns the lock has its holds, also right after another's. Stops of all threads make such moments last. */
+    static void holdsOfEach() throws Exception {
+        try (AqsLock lock = new AqsLock()) {
+            AtomicInteger stops = new AtomicInteger();
+            List<Thread> threads = new ArrayList<>();
+            for (int t = 0; t < 3; t++) {
+                threads.add(start(() -> {
+                    while (stops.get() < 1000) {
+                        lock.lock();
+                        same(lock.getHoldCount(), 1);
+                        lock.unlock();
+                        check(!lock.isHeldByCurrentThread());
+                    }
+                }));
+            }
+            for (; stops.get() < 1000; stops.incrementAndGet()) {
+                Thread.getAllStackTraces();
+            }
+            join(threads);
+        }
+    }
+
+    /** Conditions that share a number share their signals: after one of those nobody waits on either. */
+    static void sharedSignals() throws Exception {
+        try (AqsLock lock = new AqsLock(kept(false).conditions(1))) {
+            List<Condition> both = Arrays.asList(lock.newCondition(), lock.newCondition());
+            for (int signals = 0; signals < 2; signals++) {
+                AtomicInteger waiting = new AtomicInteger();
+                List<Thread> threads = new ArrayList<>();
+                for (Condition condition : both) {
+                    threads.add(start(() -> {
+                        lock.lock();
+                        waiting.incrementAndGet();
+                        condition.await();
+                        lock.unlock();
+                    }));
+                }
+                until(() -> waiting.get() == 2);
+                lock.lock();
+                check(lock.hasWaiters(both.get(0)) && lock.hasWaiters(both.get(1)));
+                both.get(signals).signal();
+                check(!lock.hasWaiters(both.get(0)) && !lock.hasWaiters(both.get(1)));
+                same(lock.getQueueLength(), 2);
+                lock.unlock();
+                join(threads);
+            }
+            keep("shared-signals", lock.history());
+        }
+    }
+
     static void mostHolds(Lock side) {
         for (int i = 0; i < 65535; i++) {
             side.lock();
         }
-        throwing(Error.class, side::lock);
+        try {
+            side.lock();
+            check(false);
+        } catch (Error fault) {
+            same(String.valueOf(fault.getMessage()), "Maximum lock count exceeded");
+        }
         throwing(Error.class, side::tryLock);
+        throwing(Error.class, side::lockInterruptibly);
         throwing(Error.class, () -> side.tryLock(1, TimeUnit.SECONDS));
         for (int i = 0; i < 65535; i++) {
             side.unlock();
@@ -385,7 +530,9 @@ final class AqsTest {
     static void sides() throws Exception {
         try (AqsReadWriteLock lock = new AqsReadWriteLock(new AqsOptions().mostEntries(1 << 18))) {
             mostHolds(lock.readLock());
+            same(lock.getReadHoldCount(), 0);
             mostHolds(lock.writeLock());
+            same(lock.getWriteHoldCount(), 0);
             Condition met = lock.writeLock().newCondition();
             lock.writeLock().lock();
             lock.readLock().lock();
@@ -396,7 +543,186 @@ final class AqsTest {
             same(lock.toString().substring(lock.toString().indexOf('[')), "[Write locks = 1]");
             lock.readLock().unlock();
             check(!met.await(1, TimeUnit.MILLISECONDS));
-            lock.writeLock().unlock();
+            lock.writeLock().lock();
+            lock.readLock().lock();
+            start(() -> check(lock.toString().endsWith("[Write locks = 2]"))).join();
+            try (AqsReadWriteLock other = new AqsReadWriteLock()) {
+                same(other.getReadHoldCount(), 0);
+                check(other.toString().endsWith("[Write locks = 0]"));
+            }
+        }
+    }
+
+    /** Which calls queue up behind a thread that waits for more permits, or to write. */
+    static void policies(AqsOptions how, boolean triesBarge, boolean timesBarge) throws Exception {
+        try (AqsSemaphore permits = new AqsSemaphore(1, how); AqsReadWriteLock lock = new AqsReadWriteLock(how)) {
+            Thread waiter = start(() -> permits.acquire(2));
+            until(permits::hasQueuedThreads);
+            same(permits.tryAcquire(), triesBarge);
+            permits.release(triesBarge ? 1 : 0);
+            same(permits.tryAcquire(0, TimeUnit.MILLISECONDS), timesBarge);
+            permits.release(timesBarge ? 2 : 1);
+            waiter.join();
+            lock.readLock().lock();
+            Thread writer = start(lock.writeLock()::lock);
+            until(lock::hasQueuedThreads);
+            start(() -> {
+                same(lock.readLock().tryLock(), triesBarge);
+                if (triesBarge) {
+                    lock.readLock().unlock();
+                }
+            }).join();
+            lock.readLock().unlock();
+            writer.join();
+        }
+    }
+
+    /** A call that a full history has no room for is refused, and leaves all as it was. */
+    static void refusals() throws Exception {
+        AqsOptions few = new AqsOptions().keepHistory().mostEntries(16);
+        try (AqsLock lock = new AqsLock(few); AqsReadWriteLock sides = new AqsReadWriteLock(few)) {
+            refusals(lock, lock, lock::getHoldCount, lock.newCondition());
+            refusals(sides, sides.writeLock(), sides::getWriteHoldCount, sides.writeLock().newCondition());
+            sides.trim();
+            int holds = holdsUntilFull(sides.readLock());
+            refusedHolds(sides.readLock(), sides::getReadHoldCount, holds);
+            unlock(sides.readLock(), holds);
+            same(sides.getReadHoldCount(), 0);
+        }
+        try (AqsCyclicBarrier barrier = new AqsCyclicBarrier(1, null, few)) {
+            full(() -> {
+                for (;;) {
+                    barrier.await();
+                }
+            });
+        }
+        try (AqsCyclicBarrier barrier = new AqsCyclicBarrier(2, null, few)) {
+            for (int i = 0; i < 6; i++) {
+                same(barrier.getNumberWaiting(), 0);
+            }
+            full(barrier::await); // there is room to lock and to unlock, but not to wait
+            same(barrier.getNumberWaiting(), 0);
+        }
+    }
+
+    interface Number {
+        int get();
+    }
+
+    static void refusals(AqsObject object, Lock lock, Number holds, Condition met) throws Exception {
+        AtomicInteger woken = new AtomicInteger();
+        Thread waiter = start(() -> {
+            lock.lock();
+            met.awaitUninterruptibly();
+            woken.incrementAndGet();
+            lock.unlock();
+        });
+        Condition unused = lock.newCondition();
+        until(() -> waiting(object, lock, met) == 1);
+        object.trim();
+        int had = holdsUntilFull(lock);
+        full(() -> {
+            for (;;) {
+                unused.signal();
+            }
+        });
+        full(unused::signalAll);
+        same(waiting(object, met), 1);
+        for (Work wait : Arrays.<Work>asList(
+                unused::await, unused::awaitUninterruptibly, () -> unused.await(1, TimeUnit.MILLISECONDS))) {
+            full(wait);
+            same(holds.get(), had);
+            same(waiting(object, unused), 0);
+        }
+        refusedHolds(lock, holds, had);
+        start(() -> {
+            full(lock::lock);
+            same(holds.get(), 0);
+        }).join();
+        object.trim();
+        met.signal();
+        same(waiting(object, met), 0);
+        unlock(lock, had);
+        same(holds.get(), 0);
+        waiter.join();
+        same(woken.get(), 1);
+    }
+
+    static int waiting(AqsObject object, Condition condition) {
+        return object instanceof AqsLock
+            ? ((AqsLock) object).getWaitQueueLength(condition)
+            : ((AqsReadWriteLock) object).getWaitQueueLength(condition);
+    }
+
+    static int waiting(AqsObject object, Lock lock, Condition condition) {
+        lock.lock();
+        try {
+            return waiting(object, condition);
+        } finally {
+            lock.unlock();
+            object.trim();
+        }
+    }
+
+    static int holdsUntilFull(Lock side) {
+        int[] holds = new int[1];
+        full(() -> {
+            for (;; holds[0]++) {
+                side.lock();
+            }
+        });
+        check(holds[0] > 1);
+        return holds[0];
+    }
+
+    static void refusedHolds(Lock side, Number holds, int had) {
+        for (Work way : Arrays.<Work>asList(
+                side::lock, side::lockInterruptibly, side::tryLock, () -> side.tryLock(1, TimeUnit.SECONDS))) {
+            full(way);
+            same(holds.get(), had);
+        }
+    }
+
+    static void unlock(Lock side, int holds) {
+        for (int i = 0; i < holds; i++) {
+            side.unlock();
+        }
+    }
+
+    /** A time is one wait, whatever part of a millisecond it has, and none if there is no time. */
+    static void partsOfAMillisecond() throws Exception {
+        try (AqsLock lock = new AqsLock(kept(false))) {
+            lock.lock();
+            start(() -> {
+                for (int microseconds : new int[] {-1, 0, 300, 1500, 2000}) {
+                    lock.trim();
+                    check(!lock.tryLock(microseconds, TimeUnit.MICROSECONDS));
+                    same(lock.trim(), microseconds > 0 ? 2L : 1L);
+                }
+            }).join();
+            lock.unlock();
+        }
+    }
+
+    /** An interrupt doesn't end such a wait at a latch, and stays set. */
+    static void uninterruptibleLatch() throws Exception {
+        try (AqsCountDownLatch latch = new AqsCountDownLatch(2, kept(false))) {
+            AtomicInteger ended = new AtomicInteger();
+            Thread waiter = start(() -> {
+                latch.awaitUninterruptibly();
+                same(latch.getCount(), 0L);
+                ended.set(Thread.interrupted() ? 1 : 2);
+            });
+            until(latch::hasQueuedThreads);
+            waiter.interrupt();
+            latch.countDown();
+            LockSupport.parkNanos(20_000_000);
+            check(latch.hasQueuedThreads());
+            same(ended.get(), 0);
+            latch.countDown();
+            waiter.join();
+            same(ended.get(), 1);
+            keep("uninterruptible-latch", latch.history());
         }
     }
 
@@ -418,10 +744,29 @@ final class AqsTest {
                 check(lock.isLocked() && !lock.hasQueuedThreads());
             }
             same(lock.history(), before);
-            start(() -> throwing(AqsException.class, lock::isLocked)).join();
-            start(() -> throwing(AqsException.class, lock::getQueueLength)).join();
+            start(() -> failing("AQS_TOO_MANY_THREADS", 13, lock::isLocked)).join();
+            start(() -> failing("AQS_TOO_MANY_THREADS", 13, lock::getQueueLength)).join();
+            start(() -> failing("AQS_TOO_MANY_THREADS", 13, lock::lock)).join();
             lock.unlock();
             start(() -> check(!lock.isLocked())).join();
+        }
+        try (AqsSemaphore owing = new AqsSemaphore(-1)) {
+            same(owing.drainPermits(), 0); // the JDK's class would return -1, and have 0 permits then
+            same(owing.availablePermits(), -1);
+        }
+    }
+
+    /** A call of an object that is closed leaves nothing: a later interrupt ends no later call. */
+    static void afterARefusal(Work call) throws Exception {
+        throwing(IllegalStateException.class, call);
+        Thread interrupter = start(Thread.currentThread()::interrupt);
+        while (interrupter.isAlive()) {
+            Thread.yield();
+        }
+        check(Thread.interrupted());
+        try (AqsSemaphore permits = new AqsSemaphore(2)) {
+            permits.acquire();
+            check(permits.tryAcquire(1, TimeUnit.SECONDS));
         }
     }
 
@@ -434,8 +779,13 @@ final class AqsTest {
         refused(() -> new AqsReadWriteLock(new AqsOptions().conditions(-1)));
         refused(() -> new AqsSemaphore(1, new AqsOptions().mostEntries(1)));
         refused(() -> new AqsSemaphore(1, new AqsOptions().conditions(1)));
+        refused(() -> new AqsSemaphore(1, new AqsOptions().threads(257)));
+        refused(() -> new AqsSemaphore(1, new AqsOptions().mostEntries(-1)));
         refused(() -> new AqsCountDownLatch(-1));
+        refused(() -> new AqsCountDownLatch(1, new AqsOptions().threads(257)));
         refused(() -> new AqsCyclicBarrier(0));
+        refused(() -> new AqsCyclicBarrier(-1));
+        refused(() -> new AqsCyclicBarrier(1, null, new AqsOptions().threads(257)));
         try (AqsReadWriteLock fair = new AqsReadWriteLock(new AqsOptions().fair())) {
             check(fair.isFair());
             same(fair.policy(), AqsPolicy.FAIR);
@@ -453,18 +803,28 @@ final class AqsTest {
         throwing(IllegalStateException.class, lock::history);
         throwing(IllegalStateException.class, lock::isLocked);
         throwing(IllegalStateException.class, lock::hasQueuedThreads);
+        throwing(IllegalStateException.class, lock::lockInterruptibly);
+        throwing(IllegalStateException.class, () -> lock.tryLock(1, TimeUnit.MILLISECONDS));
+        throwing(IllegalStateException.class, lock::trim);
+        AqsSemaphore permits = new AqsSemaphore(1);
+        permits.close();
+        throwing(IllegalStateException.class, permits::availablePermits);
+        afterARefusal(permits::acquire);
+        afterARefusal(() -> permits.tryAcquire(1, TimeUnit.SECONDS));
+        AqsCyclicBarrier barrier = new AqsCyclicBarrier(1);
+        barrier.close();
+        barrier.close();
+        throwing(IllegalStateException.class, barrier::await);
+        throwing(IllegalStateException.class, barrier::getNumberWaiting);
         try (AqsSemaphore full = new AqsSemaphore(0, new AqsOptions().keepHistory().mostEntries(16))) {
             check(!full.isFair());
             same(full.policy(), AqsPolicy.NONFAIR);
             full.release(100);
-            try {
+            full(() -> {
                 for (int i = 0; i < 16; i++) {
                     full.acquire();
                 }
-                check(false);
-            } catch (AqsException fault) {
-                same(fault.getMessage(), "AQS_HISTORY_FULL");
-            }
+            });
             check(full.trim() >= 15);
             check(full.tryAcquire());
         }
@@ -473,7 +833,13 @@ final class AqsTest {
     static void barriers() throws Exception {
         AtomicInteger met = new AtomicInteger();
         List<String> order = Collections.synchronizedList(new ArrayList<>());
-        try (AqsCyclicBarrier barrier = new AqsCyclicBarrier(4, met::incrementAndGet, kept(true))) {
+        AqsCyclicBarrier[] itself = new AqsCyclicBarrier[1];
+        Runnable counting = () -> {
+            met.incrementAndGet();
+            same(itself[0].getNumberWaiting(), 4);
+        };
+        try (AqsCyclicBarrier barrier = new AqsCyclicBarrier(4, counting, kept(true))) {
+            itself[0] = barrier;
             List<Thread> threads = new ArrayList<>();
             AtomicInteger sum = new AtomicInteger();
             for (int t = 0; t < 4; t++) {
@@ -574,7 +940,15 @@ final class AqsTest {
         options();
         questions();
         sides();
+        policies(new AqsOptions(), true, true);
+        policies(new AqsOptions().fair(), true, false);
+        policies(new AqsOptions().strict(), false, false);
+        refusals();
+        partsOfAMillisecond();
+        holdsOfEach();
         conditions();
+        sharedSignals();
+        uninterruptibleLatch();
         barriers();
         lateInterrupt();
         lateInterruptAtABrokenBarrier();

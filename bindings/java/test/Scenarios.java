@@ -5,7 +5,9 @@ import aqs.AqsObject;
 import aqs.AqsOptions;
 import aqs.AqsReadWriteLock;
 import aqs.AqsSemaphore;
+import java.io.File;
 import java.io.IOException;
+import java.lang.management.ManagementFactory;
 import java.lang.reflect.InvocationTargetException;
 import java.lang.reflect.Method;
 import java.nio.charset.StandardCharsets;
@@ -42,6 +44,7 @@ import java.util.concurrent.locks.ReentrantReadWriteLock;
  */
 final class Scenarios {
     private static final int SECONDS = 30, STEADY = 25;
+    private static final long WAITED = TimeUnit.MILLISECONDS.toNanos(20);
 
     private final String file;
     private final Path folder;
@@ -245,33 +248,35 @@ final class Scenarios {
                 return String.valueOf(Thread.currentThread().isInterrupted());
             }
             List<Object> arguments = new ArrayList<>();
-            long time = 0;
+            long begin = System.nanoTime(), time = 0;
             for (int i = 1; i < words.length && !method.equals("newCondition"); i++) {
                 time = Math.max(time, argument(words[i], arguments, named));
             }
-            long begin = System.nanoTime();
             Object found;
             try {
                 found = invoke(target, method, arguments.toArray());
             } catch (InvocationTargetException thrown) {
-                return shown(thrown.getCause(), System.nanoTime() - begin < time);
+                return shown(thrown.getCause(), time, System.nanoTime() - begin);
             }
             long took = System.nanoTime() - begin;
             if (method.equals("newCondition")) {
                 named.put(words[1], found);
                 return "done";
             }
-            return shown(found, method, took < time);
+            return shown(found, method, time, took);
         }
     }
 
-    /** Adds what a word stands for, and returns its time in nanoseconds, or 0. */
+    /**
+     * Adds what a word stands for, and returns its time in nanoseconds, or 0. A date is a millisecond at most
+     * before its time.
+     */
     private static long argument(String word, List<Object> arguments, Map<String, Object> named) {
         if (word.endsWith("ms")) {
             long milliseconds = Long.parseLong(word.replace("ms", "").replace("until+", ""));
             if (word.startsWith("until+")) {
                 arguments.add(new Date(System.currentTimeMillis() + milliseconds));
-                return 0;
+                return TimeUnit.MILLISECONDS.toNanos(Math.max(0, milliseconds - 1));
             }
             arguments.add(milliseconds);
             arguments.add(TimeUnit.MILLISECONDS);
@@ -287,9 +292,11 @@ final class Scenarios {
             arguments.add(TimeUnit.SECONDS);
             return TimeUnit.SECONDS.toNanos(seconds);
         }
-        if (word.equals("always")) {
-            arguments.add(Long.MAX_VALUE);
+        if (word.equals("always") || word.equals("never")) {
+            arguments.add(word.equals("always") ? Long.MAX_VALUE : Long.MIN_VALUE);
             arguments.add(TimeUnit.DAYS);
+        } else if (word.startsWith("until-")) {
+            arguments.add(new Date(word.equals("until-always") ? Long.MAX_VALUE : Long.MIN_VALUE));
         } else {
             arguments.add(named.containsKey(word) ? named.get(word) : Integer.valueOf(word));
         }
@@ -306,25 +313,33 @@ final class Scenarios {
         throw new NoSuchMethodException(where + " " + name);
     }
 
-    private static String shown(Throwable thrown, boolean early) {
+    private static String shown(Throwable thrown, long time, long took) {
         String name = thrown.getClass().getSimpleName();
-        if (thrown instanceof TimeoutException && early) {
-            return "early";
+        if (thrown instanceof TimeoutException) {
+            return timed(name, took < time);
         }
         return thrown.getClass() == Error.class ? name + ": " + thrown.getMessage() : name;
     }
 
-    private static String shown(Object found, String method, boolean early) {
+    private static String shown(Object found, String method, long time, long took) {
         if (found == null) {
             return "done";
         }
         if (method.equals("toString")) {
-            return found.toString().substring(found.toString().indexOf('['));
+            String[] parts = found.toString().split("(?=\\[)", 2);
+            return parts[0].matches("[\\w.$]+@\\p{XDigit}+") ? parts[1] : "no name of a class: " + found;
         }
         if (method.equals("awaitNanos")) {
-            return (long) found > 0 ? "left" : early ? "early" : "over";
+            long left = (long) found;
+            boolean isRest = time - took <= left && left <= time - WAITED;
+            return left <= 0 ? timed("over", took < time) : isRest ? "left" : left + " of " + time;
         }
-        return early && found.equals(false) ? "early" : found.toString();
+        return found.equals(false) ? timed("false", took < time) : found.toString();
+    }
+
+    /** What came out as the time was up, unless it wasn't. */
+    private static String timed(String shown, boolean early) {
+        return early ? "early" : shown;
     }
 
     private synchronized void fault(int line, String told) {
@@ -368,10 +383,30 @@ final class Scenarios {
         pool.shutdown();
     }
 
+    /** Whether copies of the jar's native library are left, from this program's time, and stay. */
+    private static boolean hasCopies() throws InterruptedException {
+        long since = ManagementFactory.getRuntimeMXBean().getStartTime();
+        File place = new File(System.getProperty("java.io.tmpdir"));
+        for (int again = 0; again < 20; again++) {
+            if (place.list((at, name) -> isCopy(new File(at, name), since)).length == 0) {
+                return false;
+            }
+            Thread.sleep(50); // another program may have one for a moment
+        }
+        return true;
+    }
+
+    private static boolean isCopy(File file, long since) {
+        return file.getName().matches("aqs\\d+libaqsjni\\.so") && file.lastModified() >= since;
+    }
+
     public static void main(String[] words) throws Exception {
         Scenarios all = new Scenarios(words[0], Paths.get(words[1]));
         List<List<Line>> scenarios = read(Files.readAllLines(Paths.get(words[0])));
         all.runAll(scenarios);
+        if (hasCopies()) {
+            all.faults.add("a copy of the native library is left");
+        }
         all.faults.forEach(System.out::println);
         System.out.println(scenarios.size() + " scenarios, " + all.faults.size() + " faults");
         System.exit(scenarios.isEmpty() || !all.faults.isEmpty() ? 1 : 0);

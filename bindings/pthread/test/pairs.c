@@ -1,6 +1,10 @@
 /* What a pair of lock and unlock takes, and what many locks take. Prints nanoseconds a pair, of one thread,
-   and the resident memory before and after N locks with three pairs each. */
+   and the resident memory before and after N locks with three pairs each. A semaphore and a mutex that is held rest
+   meanwhile, and what they are then is printed. */
+#include <errno.h>
 #include <pthread.h>
+#include <semaphore.h>
+#include <stdbool.h>
 #include <stdio.h>
 #include <stdlib.h>
 #include <time.h>
@@ -29,6 +33,17 @@ static long resident(void) {
     return pages * sysconf(_SC_PAGESIZE) / 1024;
 }
 
+/* Two objects that rested while the many locks were used. */
+static pthread_mutex_t held = PTHREAD_MUTEX_INITIALIZER;
+static sem_t permits;
+
+static void *find_rested(void *nothing) {
+    int value;
+    bool is_held = pthread_mutex_trylock(&held) == EBUSY;
+    printf("%d permits, the mutex is %s\n", sem_getvalue(&permits, &value) ? -1 : value, is_held ? "held" : "free");
+    return nothing;
+}
+
 int main(int argc, char **argv) {
     static pthread_mutex_t mutex = PTHREAD_MUTEX_INITIALIZER;
     int count = argc > 1 ? atoi(argv[1]) : 10000;
@@ -38,6 +53,9 @@ int main(int argc, char **argv) {
         if (took < least) least = took;
     }
     printf("%.1f ns a pair\n", least);
+    pthread_mutex_lock(&held);
+    sem_init(&permits, 0, 5);
+    for (int i = 0; i < 3; i++) sem_post(&permits);
     long before = resident();
     pthread_mutex_t *mutexes = malloc((size_t)count * sizeof *mutexes);
     for (int i = 0; i < count; i++) pthread_mutex_init(&mutexes[i], NULL);
@@ -45,5 +63,7 @@ int main(int argc, char **argv) {
     for (int round = 0; round < 3; round++)
         for (int i = 0; i < count; i++) pairs(&mutexes[i], 1);
     printf("%d locks: %ld kB, %.0f ns a pair\n", count, resident() - before, (now() - from) / 3 / count);
-    return 0;
+    pthread_t other;
+    if (pthread_create(&other, NULL, find_rested, NULL) || pthread_join(other, NULL)) return 1;
+    return pthread_mutex_unlock(&held);
 }

@@ -37,6 +37,29 @@ static void handle(int signal, void (*handler)(int)) {
     CHECK(sigaction(signal, &action, NULL) == 0);
 }
 
+enum { CROWD = 12 };
+static atomic_int crowd;
+
+static void *lock_in_time(void *nothing) {
+    struct timespec late = after(CLOCK_REALTIME, 5000);
+    crowd++;
+    int error = pthread_mutex_timedlock(&mutex, &late);
+    if (error) printf("one of many: %s\n", strerrorname_np(error));
+    else CHECK(pthread_mutex_unlock(&mutex) == 0);
+    return nothing;
+}
+
+/* More threads ask for the mutex at a time than ever did. */
+static void many_ask_for_the_mutex(void) {
+    pthread_t threads[CROWD];
+    CHECK(pthread_mutex_lock(&mutex) == 0);
+    for (int i = 0; i < CROWD; i++) threads[i] = started(lock_in_time, NULL);
+    while (crowd < CROWD) usleep(1000);
+    usleep(20000);
+    CHECK(pthread_mutex_unlock(&mutex) == 0);
+    for (int i = 0; i < CROWD; i++) join(threads[i]);
+}
+
 /* Ends --------------------------------------------------------------------------------------------------- */
 
 /* Neither a lock nor the end of the program is a cancellation point. */
@@ -318,6 +341,7 @@ static void many_waits_are_cancelled(void) {
     printf(", mutex: %s", strerrorname_np(pthread_mutex_timedlock(&mutex, &late)));
     printf(", condition: %s\n", strerrorname_np(pthread_cond_timedwait(&condition, &mutex, &soon)));
     CHECK(pthread_mutex_unlock(&mutex) == 0);
+    many_ask_for_the_mutex();
 }
 
 /* Mutexes that glibc keeps ------------------------------------------------------------------------------- */
@@ -680,7 +704,7 @@ static void wait_for_woken(int number) {
     }
 }
 
-/* The owner wakes one of three threads, and then the others. */
+/* The owner wakes one of three threads, and then the others. Nothing of that is left. */
 static void one_signal_and_a_broadcast(void) {
     pthread_t threads[3];
     for (int i = 0; i < 3; i++) threads[i] = started(wait_until_allowed, NULL);
@@ -694,6 +718,77 @@ static void one_signal_and_a_broadcast(void) {
     CHECK(!pthread_cond_broadcast(&condition) && !pthread_mutex_unlock(&mutex));
     for (int i = 0; i < 3; i++) join(threads[i]);
     printf("%d woken\n", woken);
+    many_ask_for_the_mutex();
+}
+
+/* A child wakes a thread of its own, and not the one of its parent that waited when it was made. */
+static void child_wakes_its_own_thread(void) {
+    int status;
+    pthread_t waits = started(wait_until_allowed, NULL);
+    while (is_done < 1) usleep(1000);
+    use_mutex(); /* it waits now */
+    fflush(stdout);
+    pid_t child = fork();
+    CHECK(child >= 0);
+    if (child == 0) {
+        alarm(20);
+        pthread_t own = started(wait_until_allowed, NULL);
+        while (is_done < 2) usleep(1000);
+        CHECK(pthread_mutex_lock(&mutex) == 0);
+        allowed = 1;
+        CHECK(!pthread_cond_signal(&condition) && !pthread_mutex_unlock(&mutex));
+        join(own);
+        _exit(7);
+    }
+    CHECK(waitpid(child, &status, 0) == child);
+    printf("the child: %s %d\n", WIFEXITED(status) ? "status" : "signal", status);
+    CHECK(pthread_mutex_lock(&mutex) == 0);
+    allowed = 1;
+    CHECK(!pthread_cond_signal(&condition) && !pthread_mutex_unlock(&mutex));
+    join(waits);
+    printf("%d woken\n", woken);
+}
+
+static void *wait_for_the_mutex(void *nothing) {
+    stage = 1;
+    use_mutex();
+    wait_for_stage(2);
+    return nothing;
+}
+
+/* A process has waited, and 23 of its mutexes are gone, when its child is made. Some have been written by then, some
+   are only counted, since they are of one place, and three are still to be written. */
+static void child_of_a_process_that_did_much(void) {
+    struct timespec past = {1, 0};
+    struct sigaction found;
+    int status;
+    CHECK(sigaction(SIGUSR2, NULL, &found) == 0);
+    if (found.sa_handler == SIG_DFL) handle(SIGUSR2, do_nothing);
+    CHECK(pthread_mutex_lock(&mutex) == 0);
+    pthread_t thread = started(wait_for_the_mutex, NULL);
+    wait_for_stage(1);
+    usleep(20000);
+    CHECK(pthread_cond_timedwait(&condition, &mutex, &past) == ETIMEDOUT);
+    CHECK(pthread_mutex_unlock(&mutex) == 0);
+    for (int i = 0; i < 20; i++) {
+        pthread_mutex_t own;
+        CHECK(!pthread_mutex_init(&own, NULL) && !pthread_mutex_lock(&own));
+        CHECK(!pthread_mutex_unlock(&own) && !pthread_mutex_destroy(&own));
+    }
+    CHECK(raise(SIGUSR2) == 0);
+    usleep(300000);
+    for (int i = 0; i < 3; i++) wait_with_a_new_mutex();
+    fflush(stdout);
+    pid_t child = fork();
+    CHECK(child >= 0);
+    if (child == 0) {
+        use_mutex();
+        _exit(8);
+    }
+    CHECK(waitpid(child, &status, 0) == child && WIFEXITED(status) && WEXITSTATUS(status) == 8);
+    stage = 2;
+    join(thread);
+    printf("done\n");
 }
 
 static void *wait_and_sleep(void *nothing) {
@@ -791,6 +886,8 @@ static const struct {
     CASE(a_reader_has_another_seat),
     CASE(destroyed_mutexes_leave_no_memory),
     CASE(one_signal_and_a_broadcast),
+    CASE(child_wakes_its_own_thread),
+    CASE(child_of_a_process_that_did_much),
     CASE(waits_take_a_known_time),
     CASE(waits_end_by_their_clocks),
 };

@@ -88,11 +88,17 @@ class Side:
             self.release()
         return count
 
-    # No signal ends it, so that a wait on a condition always ends with the lock.
+    # No signal ends it, so that a wait on a condition always ends with the lock. Ctrl-C is raised afterwards.
     def _acquire_restore(self, count: int) -> None:
-        for _ in range(count):
-            check(self._calls.plain(self._opened.handle))
-        self._set_count(count)
+        ran: List[int] = []
+        try:
+            run(ran, self._calls.plain, self._opened.handle)
+        finally:
+            while len(ran) < count and ran.count(OK) == len(ran):
+                run(ran, self._calls.plain, self._opened.handle)
+            if OK in ran:
+                self._set_count(ran.count(OK))
+        check(ran[-1])
 
     def __enter__(self) -> bool:
         return self.acquire()

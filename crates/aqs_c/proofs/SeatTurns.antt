@@ -1,6 +1,6 @@
 -- Who waits after the turns of its call, and after what changes nothing of it.
 use Rattle.std.proofs.Common.{◌≡◌, inl, inr, ℕ, Bool, true, false, List, Option, Some, None, Result, Ok, Err, refl, sym, ap, ◌∙◌, subst, IfNone, IfSome, MatchOption}
-use Rattle.aqs_c.specs.Below.{lapsed, Base, Arrival, Entry, Fault, Answer, Step, Deed, Woke, waits, Agrees, Before, IsBegun, IsGoneOn, later_turn, next_behind, step_of_waiting, IsLook, Shown, IsSound, IsSame, IsTrim, IsUnparked, Cause, Waits, WaitsAs, in_line, is_lapse, on_condition, on_way_back, How, Next, Request, Turn, Waiting, LockId}
+use Rattle.aqs_c.specs.Below.{lapsed, Base, Arrival, Entry, Fault, Point, Answer, Step, Deed, Woke, waits, Agrees, Before, IsBegun, IsGoneOn, later_turn, next_behind, step_of_waiting, IsLook, Shown, IsSound, IsSame, IsTrim, IsUnparked, Cause, Waits, WaitsAs, in_line, is_lapse, on_condition, on_way_back, How, Next, Request, Turn, Waiting, LockId}
 use Rattle.history.specs.declared.step.Answer.TheVariants as answer
 use Rattle.history.specs.declared.step.Step.TheVariants as step
 use Rattle.monitor.specs.declared.machine.Next.TheVariants as next
@@ -15,16 +15,16 @@ use Rattle.aqs_c.specs.Standing.{IsSeat, StandsBy}
 abbrev any_deed : Deed → Type 0
 any_deed d = Unit {0}
 
-unparked_any : (named : Option ℕ) → IsUnparked any_deed named
-unparked_any None = tt
-unparked_any (Some j) = tt
+unparked_any : (named : Option ℕ) (seen : Point) → IsUnparked any_deed named seen
+unparked_any None seen = tt
+unparked_any (Some j) seen = tt
 
 waits_begun : (old new : Shown) (q : Request) (how : How) (moment : ℕ) (was : Bool) (t : Turn) (w : Waiting) →
     IsBegun old q how moment was t new → IsSame old new → t.next ≡ next.Waits w → Waits new.seen new.seat
 waits_begun old new q how moment true t w b same is = absurd (never_waits old new q how moment t w b is)
 waits_begun old new q how moment false t w b same is =
     waits_now any_deed old new q how (λ minds. tt)
-    (begun_waits any_deed old new q how moment t w b (unparked_any t.named) is).0 same
+    (begun_waits any_deed old new q how moment t w b (unparked_any t.named new.seen) is).0 same
 
 pub stands_begun : (old new : Shown) (q : Request) (how : How) (moment : ℕ) (was : Bool) (t : Turn) →
     IsBegun old q how moment was t new → IsSame old new → StandsBy (waiting_in t.next) new

@@ -13,6 +13,7 @@ pub use Rattle.history.specs.declared.header.Object.{Object}
 pub use Rattle.history.specs.declared.header.Object.TheVariants.{Lock, ReadWrite, Semaphore, Latch}
 pub use Rattle.history.specs.declared.header.Policy.{Policy}
 pub use Rattle.history.specs.declared.header.Policy.TheVariants.{Fair, NonFair, Strict}
+pub use Rattle.history.specs.declared.point.Point.{Point}
 pub use Rattle.history.specs.declared.step.Answer.{Answer}
 pub use Rattle.history.specs.declared.step.Answer.TheVariants.{Recorded, Sleep}
 pub use Rattle.history.specs.declared.step.Step.{Step}

@@ -97,7 +97,10 @@ pub fn run<R: Print + AllocGlobal + Clock>(
         Ok(_) if !measures => println!(rt; "{trims} trims, each behind {pairs} pairs"),
         Ok(time) => {
             let each = time.as_nanos() / u128::from(trims).max(1);
-            println!(rt; "{trims} trims, each behind {pairs} pairs: {each} nanoseconds each")
+            let caches = if cold { "cold" } else { "warm" };
+            println!(rt;
+                "{trims} trims, each behind {pairs} pairs, {caches} caches: {each} nanoseconds each"
+            )
         }
         Err(_) => println!(rt; "{trims} trims, each behind {pairs} pairs: out of memory"),
     }

@@ -7,7 +7,7 @@ use Rattle.guarded.specs.declared.asking.PoolCall.{PoolCall}
 use Rattle.guarded.specs.declared.asking.PoolCall.TheVariants as asks
 use Rattle.guarded.specs.declared.shelf.Shelf.{Shelf}
 use Rattle.guarded.specs.Prelude.{yes_if_some, Answers, IsOfSemaphore, MutexView, mutex_view}
-use Rattle.guarded.specs.inner.Pooling.{asked_by, brought_by, has_after, pool_call}
+use Rattle.guarded.specs.inner.Pooling.{Ends, asked_by, brought_by, pool_call}
 
 -- a call of a pool is one of its semaphore
 abbrev pub as_permits : PoolCall → PermitCall
@@ -48,12 +48,7 @@ has_by true (asks.Try n) m has f brings q = omega (arith, ints, q, brings)
 has_by true (asks.Release n) m has f brings q = omega (arith, ints, q, brings)
 has_by false asked m has f brings q = omega (arith, ints, q, brings)
 
--- what a call leaves on its shelf by what it returned, and it may return that
-pub record Ends {T I : Type 0} (asked : PoolCall) (returned : Result Bool Fault) (x y : Shelf T I) : Type 0 where
-  pub answers : Answers asked returned
-  pub has : length y.items ≡ has_after asked returned
-  pub keeps : is_done returned ≡ false → y ≡ x
-
+-- what a call leaves on its shelf
 pub call_ends : {T I : Type 0} (fit : Shelf T I → Type 0) (did : Deed → Type 0) (w : WhenFull) (asked is : PoolCall)
     (old new : Shown) (r : Result Entry Fault) (x y : Shelf T I) → asked ≡ is → is_semaphore old.lock.header.object ≡ true →
     length x.items ≡ brought_by asked → IsSame old new → IsSound new → pool_call did is w old r new →

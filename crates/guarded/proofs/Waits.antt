@@ -2,28 +2,33 @@
 use Rattle.std.proofs.Common.{◌≡◌, ◌-◌, ◌^◌, ◌≤◌, min, ℕ, suc, Bool, true, Result, Ok, Err, refl, subst, arith}
 use Rattle.std.specs.Result.{IfErr, IfOk}
 use Rattle.guarded.specs.Below.{AreLeft, Deed, Fault, Shown, moment_after, showed}
-use Rattle.guarded.specs.Prelude.{Sees, AWait, HasCome, Owner, TimeWasUp, Waited, WaitsWhile}
+use Rattle.guarded.specs.Prelude.{Sees, AWait, HasCome, Owner, TimeWasUp, WaitFailed, Waited, WaitsWhile}
 
 -- no wait so far
 pub not_waited : {T I : Type 0} (wait : AWait T I) (at : Owner T I) → Waited wait at at
 not_waited wait at = (0, refl)
 
--- one wait more
-pub waited_again : {T I : Type 0} (wait : AWait T I) (old front new : Owner T I) (signalled : Bool) →
-    Waited wait old front → wait front new (Ok signalled) → Waited wait old new
-waited_again wait old front new signalled waited last = (suc waited.0, (front, signalled, waited.1, last))
+-- one call more, of a guard whose lock and parking are still those of the first
+module _ {T I L P : Type 0} (says : T → Bool → Type 0)
+    (call : L → P → Shown → Shown → Result Bool Fault → Type 0) {l m : L} {p q : P} {old front : Owner T I}
+    (new : Owner T I) (lock : m ≡ l) (parking : q ≡ p)
+    (so_far : Waited (WaitsWhile says (call l p)) old front) (sees : Sees says front.slot true) where
+  one_more : (returned : Result Bool Fault) → call m q front.pass new.pass returned →
+      WaitsWhile says (call l p) front new returned
+  one_more returned made =
+      record {
+        sees = sees;
+        waits = subst (λ (x : _). call x p front.pass new.pass returned) lock
+            (subst (λ (x : _). call m x front.pass new.pass returned) parking made);
+      }
 
--- the call that a wait makes, of a guard whose lock and parking are still those of the first
-pub waits_there : {T I L P : Type 0} (says : T → Bool → Type 0)
-    (call : L → P → Shown → Shown → Result Bool Fault → Type 0) {l m : L} {p q : P} (old new : Owner T I)
-    (returned : Result Bool Fault) → m ≡ l → q ≡ p → Sees says old.slot true →
-    call m q old.pass new.pass returned → WaitsWhile says (call l p) old new returned
-waits_there says call {l} {m} {p} {q} old new returned lock parking sees made =
-    record {
-      sees = sees;
-      waits = subst (λ (x : _). call x p old.pass new.pass returned) lock
-          (subst (λ (x : _). call m x old.pass new.pass returned) parking made);
-    }
+  pub waited_again : (signalled : Bool) → call m q front.pass new.pass (Ok signalled) →
+      Waited (WaitsWhile says (call l p)) old new
+  waited_again signalled made = (suc so_far.0, (front, signalled, so_far.1, one_more (Ok signalled) made))
+
+  pub then_failed : (fault : Fault) → call m q front.pass new.pass (Err fault) →
+      WaitFailed (WaitsWhile says (call l p)) old new fault
+  then_failed fault made = (front, so_far, one_more (Err fault) made)
 
 -- if no milliseconds are left until a moment, it has come
 pub has_come : (did : Deed → Type 0) (end ms : ℕ) → AreLeft did end ms → ms ≡ 0 → HasCome did end

@@ -109,14 +109,8 @@ impl<'a, T: Drop, P: Parking, R: Wait + Clock, I: Keeps<T>, H: Hooks + Drop> Gua
             self.old.pass.now self.new.pass.now result }
     {
         let pass = &mut *self.pass;
-        self.lock.sleep(
-            self.rt,
-            self.parking,
-            pass,
-            &mut self.slot,
-            condition,
-            How::Interruptible,
-        )
+        let how = How::Interruptible;
+        self.lock.sleep(self.rt, self.parking, pass, &mut self.slot, condition, how)
     }
 
     /// [`wait`](Guard::wait), for `ms` milliseconds at most. Returns whether it was signalled. This is
@@ -135,14 +129,8 @@ impl<'a, T: Drop, P: Parking, R: Wait + Clock, I: Keeps<T>, H: Hooks + Drop> Gua
             self.old.pass.now self.new.pass.now result }
     {
         let pass = &mut *self.pass;
-        self.lock.sleep(
-            self.rt,
-            self.parking,
-            pass,
-            &mut self.slot,
-            condition,
-            How::Timed(ms),
-        )
+        let how = How::Timed(ms);
+        self.lock.sleep(self.rt, self.parking, pass, &mut self.slot, condition, how)
     }
 
     /// [`wait_for`](Guard::wait_for) until a moment on the clock of the parking, which `parking.now(rt)`
@@ -180,14 +168,8 @@ impl<'a, T: Drop, P: Parking, R: Wait + Clock, I: Keeps<T>, H: Hooks + Drop> Gua
             self.old.pass.now self.new.pass.now result }
     {
         let pass = &mut *self.pass;
-        self.lock.sleep(
-            self.rt,
-            self.parking,
-            pass,
-            &mut self.slot,
-            condition,
-            How::Plain,
-        )
+        let how = How::Plain;
+        self.lock.sleep(self.rt, self.parking, pass, &mut self.slot, condition, how)
     }
 
     /// Waits on the condition as long as the predicate is true of the value, and doesn't wait at all if it is false.

@@ -1,11 +1,9 @@
 //! A reentrant lock that guards a value.
 ghost use Rattle.std.specs.Prelude.{◌≡◌, ◌<◌, ◌≤◌, ◌+◌, All, IfOk, IfErr, IfSome, Err};
-ghost use Rattle.deciding.specs.Balance.{balance};
 ghost use Rattle.frame.specs.Core.{header_of};
 ghost use Rattle.history.specs.Counts.{counts};
-ghost use Rattle.history.specs.Entries.{IsBasedWell, start_on};
+ghost use Rattle.history.specs.Entries.{start_on};
 ghost use Rattle.history.specs.Header.{IsInRange};
-ghost use Rattle.history.specs.Legal.{AreSeated, calls};
 ghost use Rattle.history.specs.declared.entry.Mode.TheVariants.{X};
 ghost use Rattle.history.specs.declared.fault.Fault.TheVariants.{OutOfMemory};
 ghost use Rattle.history.specs.declared.header.Object.TheVariants.{Lock};
@@ -14,9 +12,9 @@ ghost use Rattle.history.specs.declared.step.Step.TheVariants.{Give};
 ghost use Rattle.monitor.specs.Calling.{CanCall, Called};
 ghost use Rattle.monitor.specs.Acquire.{is_timed};
 ghost use Rattle.monitor.specs.declared.how.How.TheVariants.{Plain};
-ghost use Rattle.monitor.specs.Closing.{IsBased, IsMissing, IsWithin, left_by, passes_of, shares};
+ghost use Rattle.monitor.specs.Closing.{Closes, IsMissing};
 ghost use Rattle.monitor.specs.declared.closing.CloseFault.TheVariants.{MissingPass};
-ghost use Rattle.monitor.specs.Lawful.{IsLawful, blank};
+ghost use Rattle.monitor.specs.Lawful.{blank};
 ghost use Rattle.monitor.specs.Shown.{opening_passes};
 ghost use Rattle.monitor.specs.Stepping.{IsSame};
 ghost use Rattle.monitor.specs.declared.room.WhenFull.TheVariants.{Trim};
@@ -164,15 +162,8 @@ impl<T: Drop, I: Keeps<T>> Mutex<T, I> {
         ensures free { IfOk result (λ r. All (λ p. holds p ≡ 0) r.1.items) }
         ensures err { IfErr result (λ fault. fault ≡ OutOfMemory) }
     {
-        match Mutex::open_keeping(
-            alloc,
-            value,
-            Policy::NonFair,
-            WhenFull::Trim,
-            seats,
-            16,
-            4096,
-        ) {
+        let when_full = WhenFull::Trim;
+        match Mutex::open_keeping(alloc, value, Policy::NonFair, when_full, seats, 16, 4096) {
             Ok((lock, passes)) => Ok((lock, passes)),
             Err((_value, fault)) => Err(fault),
         }
@@ -226,21 +217,7 @@ impl<T: Drop, I: Keeps<T>, H: Hooks + Drop> Mutex<T, I, H> {
         ensures value { IfOk result (λ r.
             Rests r.1 (counts (start_on self.lock.header r.0.history) r.0.history.entries)) }
         ensures kept { IfOk result (λ r. IfSome r.1 (λ value. I.invariant value)) }
-        ensures lawful { IfOk result (λ r. IsLawful (left_by self.lock r.0.history)) }
-        ensures within { IfOk result (λ r.
-            All (λ p. IsWithin (left_by self.lock r.0.history) p) passes.items) }
-        ensures base { IfOk result (λ r. IsBased self.lock r.0.history) }
-        ensures good { IfOk result (λ r. IsBasedWell self.lock.header r.0.history.base) }
-        ensures seated { IfOk result (λ r.
-            AreSeated (start_on self.lock.header r.0.history) r.0.history.entries) }
-        ensures cap { IfOk result (λ r. r.0.history.cap ≡ self.lock.header.cap) }
-        ensures each { IfOk result (λ _. (seat : _)
-            → seat < self.lock.header.seats → passes_of seat passes.items ≡ 1) }
-        ensures share { IfOk result (λ r. r.0.share ≡ shares passes.items) }
-        ensures calls { IfOk result (λ r.
-            r.0.share ≡ calls (start_on self.lock.header r.0.history) r.0.history.entries) }
-        ensures balance { IfOk result (λ r.
-            r.0.balance ≡ balance (start_on self.lock.header r.0.history) r.0.history.entries) }
+        ensures closes { IfOk result (λ r. Closes self.lock passes.items r.0) }
         ensures missing { IfErr result (λ r.
             (r.2 ≡ MissingPass) × IsMissing self.lock.header.seats passes.items) }
         ensures back { IfErr result (λ r. (r.0 ≡ self) × (r.1 ≡ passes)) }

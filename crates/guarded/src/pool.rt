@@ -1,28 +1,25 @@
 //! A semaphore that has an item for each free permit.
-ghost use Rattle.std.specs.Prelude.{◌≡◌, ◌<◌, ◌≤◌, ◌^◌, All, IfErr, IfOk, IfSome, ℕ, false, length, pos};
+ghost use Rattle.std.specs.Prelude.{◌≡◌, ◌<◌, ◌≤◌, ◌^◌, All, IfErr, IfOk, IfSome, ℕ, length, pos};
 ghost use Rattle.counting.specs.Semaphore.{IsOpened, semaphore_of};
-ghost use Rattle.deciding.specs.Balance.{balance};
 ghost use Rattle.frame.specs.Core.{header_of};
 ghost use Rattle.history.specs.Counts.{counts};
-ghost use Rattle.history.specs.Entries.{IsBasedWell, start_on};
+ghost use Rattle.history.specs.Entries.{start_on};
 ghost use Rattle.history.specs.Header.{IsInRange};
-ghost use Rattle.history.specs.Legal.{AreSeated, calls};
 ghost use Rattle.history.specs.declared.fault.Fault.TheVariants.{OutOfMemory};
 ghost use Rattle.history.specs.declared.header.Object.TheVariants.{Semaphore};
 ghost use Rattle.history.specs.declared.header.Policy.TheVariants.{NonFair};
 ghost use Rattle.monitor.specs.Calling.{CanCall, Called};
 ghost use Rattle.monitor.specs.Acquire.{is_timed};
-ghost use Rattle.monitor.specs.Closing.{IsBased, IsMissing, IsWithin, left_by, passes_of, shares};
+ghost use Rattle.monitor.specs.Closing.{Closes, IsMissing};
 ghost use Rattle.monitor.specs.declared.closing.CloseFault.TheVariants.{MissingPass};
-ghost use Rattle.monitor.specs.Lawful.{IsLawful, blank};
+ghost use Rattle.monitor.specs.Lawful.{blank};
 ghost use Rattle.monitor.specs.Shown.{opening_passes};
 ghost use Rattle.monitor.specs.declared.room.WhenFull.TheVariants.{Trim};
-ghost use Rattle.monitor_fronts.specs.Returned.{is_done, whether_of};
+ghost use Rattle.monitor_fronts.specs.Returned.{whether_of};
 ghost use Rattle.guarded.specs.Asking.{CallReturns, yes_if_some};
 ghost use Rattle.monitor_fronts.specs.Holding.{with_yes};
 ghost use Rattle.guarded.specs.Pooling.{Answers, fetches};
-ghost use Rattle.guarded.specs.inner.Pooling.{asked_by, brought_by, has_after};
-ghost use Rattle.guarded.specs.inner.Pooling.{pool_call};
+ghost use Rattle.guarded.specs.inner.Pooling.{Ends, asked_by, brought_by, pool_call};
 ghost use Rattle.guarded.specs.Shelved.{Lies};
 
 use crate::asking::PoolCall;
@@ -206,21 +203,7 @@ impl<T: Drop, I: Keeps<T>> Pool<T, I> {
             Lies r.1 (counts (start_on self.lock.header r.0.history) r.0.history.entries)) }
         ensures each { IfOk result (λ r. pos (length r.1) ≡ r.0.balance.available) }
         ensures kept { IfOk result (λ r. All I.invariant r.1) }
-        ensures lawful { IfOk result (λ r. IsLawful (left_by self.lock r.0.history)) }
-        ensures within { IfOk result (λ r.
-            All (λ p. IsWithin (left_by self.lock r.0.history) p) passes.items) }
-        ensures base { IfOk result (λ r. IsBased self.lock r.0.history) }
-        ensures good { IfOk result (λ r. IsBasedWell self.lock.header r.0.history.base) }
-        ensures seated { IfOk result (λ r.
-            AreSeated (start_on self.lock.header r.0.history) r.0.history.entries) }
-        ensures cap { IfOk result (λ r. r.0.history.cap ≡ self.lock.header.cap) }
-        ensures one_pass { IfOk result (λ _. (seat : _)
-            → seat < self.lock.header.seats → passes_of seat passes.items ≡ 1) }
-        ensures share { IfOk result (λ r. r.0.share ≡ shares passes.items) }
-        ensures calls { IfOk result (λ r.
-            r.0.share ≡ calls (start_on self.lock.header r.0.history) r.0.history.entries) }
-        ensures balance { IfOk result (λ r.
-            r.0.balance ≡ balance (start_on self.lock.header r.0.history) r.0.history.entries) }
+        ensures closes { IfOk result (λ r. Closes self.lock passes.items r.0) }
         ensures missing { IfErr result (λ r.
             (r.2 ≡ MissingPass) × IsMissing self.lock.header.seats passes.items) }
         ensures back { IfErr result (λ r. (r.0 ≡ self) × (r.1 ≡ passes)) }
@@ -273,9 +256,7 @@ impl<T: Drop, I: Keeps<T>> Pool<T, I> {
         requires kept { All I.invariant shelf.old.items }
         ensures called { Called pass.old pass.new }
         ensures made { pool_call (P.did parking.now) asked self.now.when_full pass.old result pass.new }
-        ensures answers { Answers asked (whether_of result) }
-        ensures has { length shelf.new.items ≡ has_after asked (whether_of result) }
-        ensures keeps { is_done (whether_of result) ≡ false → shelf.new ≡ shelf.old }
+        ensures ends { Ends asked (whether_of result) shelf.old shelf.new }
         ensures kept { All I.invariant shelf.new.items }
     {
         let when_full = self.when_full;

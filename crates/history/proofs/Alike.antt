@@ -1,16 +1,17 @@
 -- Two starts, each with entries behind it, of which the definitions say the same: they say the same of
 -- whatever comes next. Free permits count for a semaphore alone, and a last sleep for one who sleeps or comes
 -- back.
-use Rattle.std.proofs.Common.{◌≡◌, ℕ, zero, suc, ◌+◌, ◌-◌, ◌==◌, Bool, true, false, ◌&&◌, ◌||◌, not, cond, eqb, List, [], ◌∷◌, ◌++◌, map, take, length, Option, Some, None, Result, Ok, Err, refl, ap, ◌∙◌, sym, subst, ⊎_elim, arith, ℤ, pos, ◌-ℤ◌, ◌+ℤ◌, int_le, int_lt, eq-eqb}
+use Rattle.std.proofs.Common.{◌≡◌, ℕ, zero, suc, ◌+◌, ◌-◌, ◌==◌, Bool, true, false, ◌&&◌, ◌||◌, not, cond, eqb, List, [], ◌∷◌, ◌++◌, map, take, length, Option, Some, None, Result, Ok, Err, refl, ap, ◌∙◌, sym, subst, ⊎_elim, arith, ℤ, eq-eqb}
 use Rattle.std.specs.List.{filter, AllByRecursion}
 use Rattle.std.proofs.lemmas.Bool.{or_right, not-false}
-use Rattle.history.specs.Prelude.{MOST_AMOUNT, Arrival, Entry, Mode, X, S, Word, Fault, Header, Object, Lock, ReadWrite, Semaphore, Latch, Step, back_from, lapse_from, could, held_back, is_seat, limit, Counts, beyond, count, counted, counted_after, counts, free, free_after, held, holds_after, total, unheld, ends_call, same_mode, is_bad_amount, is_no_condition, is_wrong_mode, calls, arrivals_by, coming_back, first_mode, first_of, line, mode_of, place_of, named, named_by, ready, ready_by, is_lock, is_semaphore, opening_count, is_strict, is_away, Phase, Idle, InLine, Sleeping, phase, phase_by, suits, arrival_owes, holds_owe, owed, sleeper_owes, sleepers_owe, sum_of, has, last_sleep, sleep_after, sleepers, sleepers_after, sleeps_below, Sleep, Start, acquired, at_least_none, at_most_one, awaits, back, entry_for, gave, idle_entry, line_entry, phase_entry, plain, queued_entry, sleeping_entry, signals, tried, tried_fairly, asleep, seats_of, waiting}
+use Rattle.history.specs.Prelude.{Arrival, Entry, Mode, X, S, Word, Fault, Header, Object, Step, back_from, lapse_from, could, held_back, is_seat, limit, Counts, beyond, count, counted, counted_after, counts, free, free_after, held, holds_after, total, unheld, ends_call, same_mode, is_bad_amount, is_no_condition, is_wrong_mode, calls, arrivals_by, coming_back, first_mode, first_of, line, mode_of, place_of, named, named_by, ready, ready_by, is_lock, is_semaphore, opening_count, is_strict, is_away, Phase, Idle, InLine, Sleeping, phase, phase_by, suits, arrival_owes, holds_owe, owed, sleeper_owes, sleepers_owe, sum_of, has, last_sleep, sleep_after, sleepers, sleepers_after, sleeps_below, Sleep, Start, acquired, at_least_none, at_most_one, awaits, entry_for, gave, idle_entry, line_entry, phase_entry, plain, signals, tried, tried_fairly, asleep, seats_of, waiting}
 use Rattle.history.specs.declared.entry.End.TheVariants as end
 use Rattle.history.specs.declared.entry.Word.TheVariants as word
 use Rattle.history.specs.declared.fault.Fault.TheVariants as fault
 use Rattle.history.specs.declared.step.Step.TheVariants as step
 use Rattle.history.proofs.Entering.{Known, KnownBy, in_line}
 use Rattle.history.proofs.LineLemmas.{line_after, stays}
+use Rattle.history.proofs.Lists.{each-as}
 use Rattle.history.proofs.OneWait.{all_come, last_sleep_own, placed, take_has}
 use Rattle.history.proofs.SleepLemmas.{sleeping_parts, sleeps_at, slept_before}
 use Rattle.history.proofs.Times.{each-append, each-filter, place_once}
@@ -42,39 +43,19 @@ numbers o n had f c = record { object = o; seats = n; held = had; free = f; coun
 module _ (n : ℕ) (had : ℕ → Mode → ℕ) (c : ℕ) (f f' : ℤ) (first : Option Mode) (i : ℕ) where
   could_alike : (o : Object) → (is_semaphore o ≡ true → f ≡ f') → (m : Mode) (x : ℕ) →
       could (numbers o n had f c) i m x ≡ could (numbers o n had f' c) i m x
-  could_alike (Lock p) same X x = refl
-  could_alike (Lock p) same S x = refl
-  could_alike (ReadWrite p) same X x = refl
-  could_alike (ReadWrite p) same S x = refl
-  could_alike (Semaphore p q) same X x = refl
-  could_alike (Semaphore p q) same S x = ap (λ z. int_le (pos 0) (z -ℤ pos x)) (same refl)
-  could_alike (Latch q) same X x = refl
-  could_alike (Latch q) same S x = refl
+  could_alike o same m x = grind arith
 
   limit_alike : (o : Object) (m : Mode) →
       limit (numbers o n had f c) i m ≡ limit (numbers o n had f' c) i m
-  limit_alike (Lock p) X = refl
-  limit_alike (Lock p) S = refl
-  limit_alike (ReadWrite p) X = refl
-  limit_alike (ReadWrite p) S = refl
-  limit_alike (Semaphore p q) m = refl
-  limit_alike (Latch q) m = refl
+  limit_alike o m = grind arith
 
   back_alike : (o : Object) (m : Mode) →
       held_back (numbers o n had f c) first i m ≡ held_back (numbers o n had f' c) first i m
-  back_alike (Lock p) m = refl
-  back_alike (ReadWrite p) m = refl
-  back_alike (Semaphore p q) m = refl
-  back_alike (Latch q) m = refl
+  back_alike o m = grind arith
 
   gave_alike : (o : Object) → (is_semaphore o ≡ true → f ≡ f') → (m : Mode) (x : ℕ) →
       gave o (numbers o n had f c) i m x ≡ gave o (numbers o n had f' c) i m x
-  gave_alike (Lock p) same m x = refl
-  gave_alike (ReadWrite p) same m x = refl
-  gave_alike (Semaphore p q) same m x =
-      ap (λ z. cond (int_lt (pos MOST_AMOUNT) (z +ℤ pos x)) (word.Refused fault.TooManyPermits) word.Gave)
-      (same refl)
-  gave_alike (Latch q) same m x = refl
+  gave_alike o same m x = grind arith
 
 -- the entry of an idle seat's step, by what it is made of
 abbrev made : Object → Counts → Option Mode → (ℕ → ℕ) → ℕ → Step → Entry
@@ -87,25 +68,13 @@ made o k first asleep i (step.Await c) = awaits k i c
 made o k first asleep i (step.Signal c) = signals k word.Signal (at_most_one (asleep c)) i c
 made o k first asleep i (step.SignalAll c) = signals k word.SignalAll (asleep c) i c
 made o k first asleep i step.Drain = plain i word.Drained S (at_least_none k.free)
-made o k first asleep i step.Look = plain i word.Missed X 1
-made o k first asleep i step.Expire = plain i word.Missed X 1
-made o k first asleep i step.Interrupt = plain i word.Missed X 1
+made o k first asleep i _ = plain i word.Missed X 1
 
 made_is : (s : Start) (h : List Entry) (i : ℕ) (x : Step) →
     idle_entry s h i x
     ≡ made s.header.object (counts s h) (first_mode s h) (λ c. length (sleepers s h c)) i x
-made_is s h i (step.Acquire m n) = refl
-made_is s h i (step.Try m n) = refl
-made_is s h i (step.TryFair m n) = refl
-made_is s h i (step.EntryInterrupt m n) = refl
-made_is s h i (step.Give m n) = refl
-made_is s h i (step.Await c) = refl
-made_is s h i (step.Signal c) = refl
-made_is s h i (step.SignalAll c) = refl
-made_is s h i step.Drain = refl
 made_is s h i step.Look = refl
-made_is s h i step.Expire = refl
-made_is s h i step.Interrupt = refl
+made_is s h i _ = refl
 
 module _ (o : Object) (n : ℕ) (had : ℕ → Mode → ℕ) (c : ℕ) (f f' : ℤ) (first : Option Mode) (asleep : ℕ → ℕ)
     (i : ℕ) (same : is_semaphore o ≡ true → f ≡ f') where
@@ -133,21 +102,18 @@ module _ (o : Object) (n : ℕ) (had : ℕ → Mode → ℕ) (c : ℕ) (f f' : �
       λ j. plain i (cond (back_at m j) word.Missed
       (cond (limit_at m j) (word.Refused fault.TooManyHolds)
       (cond (could_at m x j) word.Got word.Missed))) m x
-  made_alike (step.EntryInterrupt m x) right = refl
   made_alike (step.Give m x) right =
       ap (λ w. plain i w m x) (gave_alike n had c f f' first i o same m x)
-  made_alike (step.Await c) right = refl
-  made_alike (step.Signal c) right = refl
-  made_alike (step.SignalAll c) right = refl
-  made_alike step.Drain right = ap (λ z. plain i word.Drained S (at_least_none z)) (same (drains right))
-    where
-      drains : not (is_semaphore o) ≡ false → is_semaphore o ≡ true
-      drains q = not-false (is_semaphore o) q
-  made_alike step.Look right = refl
-  made_alike step.Expire right = refl
-  made_alike step.Interrupt right = refl
+  made_alike step.Drain right =
+      ap (λ z. plain i word.Drained S (at_least_none z)) (same (not-false (is_semaphore o) right))
+  made_alike _ right = refl
 
 -- What a step makes, and whom an entry names.
+either_alike : {A : Type 0} (b : Bool) (x x' y y' : A) → (b ≡ true → x ≡ x') → (b ≡ false → y ≡ y') →
+    cond b x y ≡ cond b x' y'
+either_alike true x x' y y' p q = p refl
+either_alike false x x' y y' p q = q refl
+
 module _ (k : Header) (s t : Start) (g h : List Entry) (a : Alike k s t g h) where
   idle_alike : (i : ℕ) (x : Step) → is_wrong_mode k.object x ≡ false →
       idle_entry (on k s) g i x ≡ idle_entry (on k t) h i x
@@ -199,42 +165,28 @@ module _ (k : Header) (s t : Start) (g h : List Entry) (a : Alike k s t g h) whe
       phase_entry (on k s) g i x p ≡ phase_entry (on k t) h i x p
   made_in_phase i x Idle q right = ap (λ e. Some e) (idle_alike i x right)
   made_in_phase i x (InLine b) q right =
-      (λ j. line_entry (on k s) g (is_seat (ready_alike j) i) i b x) ∙ by b.back refl
-    where
-      goes : Bool
-      goes = is_seat (ready (on k t) h) i
-
-      by : (r : Bool) → b.back ≡ r →
-          cond r (cond goes (Some (back (on k s) g i)) None) (queued_entry goes i b x)
-          ≡ cond r (cond goes (Some (back (on k t) h i)) None) (queued_entry goes i b x)
-      by true r =
-          ap (λ (w : Sleep). cond goes (Some (back_from i w)) None) (return_alike i b (in_line _ _ b q) r)
-      by false r = refl
-  made_in_phase i x Sleeping q right = by x
-    where
-      by : (x : Step) → sleeping_entry (on k s) g i x ≡ sleeping_entry (on k t) h i x
-      by step.Expire = ap (λ (w : Sleep). Some (lapse_from i w end.Timeout)) (sleep_alike i q)
-      by step.Interrupt = ap (λ (w : Sleep). Some (lapse_from i w end.Interrupt)) (sleep_alike i q)
-      by _ = refl
+      (λ j. line_entry (on k s) g (is_seat (ready_alike j) i) i b x)
+      ∙ either_alike b.back _ _ _ _
+      (λ r. ap (λ (w : Sleep). cond (is_seat (ready (on k t) h) i) (Some (back_from i w)) None)
+      (return_alike i b (in_line _ _ b q) r))
+      (λ f. refl)
+  made_in_phase i step.Expire Sleeping q right =
+      ap (λ (w : Sleep). Some (lapse_from i w end.Timeout)) (sleep_alike i q)
+  made_in_phase i step.Interrupt Sleeping q right =
+      ap (λ (w : Sleep). Some (lapse_from i w end.Interrupt)) (sleep_alike i q)
+  made_in_phase i _ Sleeping q right = refl
 
   pub entry_alike : (i : ℕ) (x : Step) → entry_for (on k s) g i x ≡ entry_for (on k t) h i x
-  entry_alike i x = by (is_wrong_mode k.object x) refl
+  entry_alike i x =
+      either_alike (is_wrong_mode k.object x) _ _ _ _ (λ w. refl)
+      (λ w. (λ j. in_phase (phase_alike i j) (phase_entry (on k s) g i x (phase_alike i j)))
+      ∙ ap (in_phase (phase (on k t) h i)) (made_in_phase i x (phase (on k t) h i) (phase_alike i) w))
     where
       in_phase : Phase → Option Entry → Result (Option Entry) Fault
       in_phase p e =
           cond (is_no_condition k x) (Err fault.NoSuchCondition)
           (cond (is_bad_amount k.object x) (Err fault.BadAmount)
           (cond (not (suits p x)) (Err fault.OutOfPhase) (Ok e)))
-
-      by : (w : Bool) → is_wrong_mode k.object x ≡ w →
-          cond w (Err fault.WrongMode)
-          (in_phase (phase (on k s) g i) (phase_entry (on k s) g i x (phase (on k s) g i)))
-          ≡ cond w (Err fault.WrongMode)
-          (in_phase (phase (on k t) h i) (phase_entry (on k t) h i x (phase (on k t) h i)))
-      by true w = refl
-      by false w =
-          (λ j. in_phase (phase_alike i j) (phase_entry (on k s) g i x (phase_alike i j)))
-          ∙ ap (in_phase (phase (on k t) h i)) (made_in_phase i x (phase (on k t) h i) (phase_alike i) w)
 
 -- What they say stays alike behind an entry that the first allows.
 arrivals_alike : (k : Header) (s t : Start) (g h : List Entry) → Alike k s t g h → (e : Entry) (w : Word) →
@@ -251,8 +203,7 @@ line_alike k s t g h a e =
     ∙ sym (line_after (on k t) e h)
 
 counted_alike : (w : Word) (n x y : ℕ) → n - x ≡ n - y → n - counted_after w x ≡ n - counted_after w y
-counted_alike word.Counted n x y same = omega arith
-counted_alike _ n x y same = same
+counted_alike w n x y same = grind arith
 
 module _ (k : Header) (s t : Start) (g h : List Entry) (a : Alike k s t g h) (e : Entry) where
   -- a last sleep that was the same
@@ -279,11 +230,6 @@ module _ (k : Header) (s t : Start) (g h : List Entry) (a : Alike k s t g h) (e 
   returns_kept : (b : Arrival) → ReturnAlike k s t g h b → ReturnAlike k s t (e ∷ g) (e ∷ h) b
   returns_kept b same r = sleep_kept b.seat (same r)
 
-  each_kept : (q : List Arrival) → AllByRecursion (ReturnAlike k s t g h) q →
-      AllByRecursion (ReturnAlike k s t (e ∷ g) (e ∷ h)) q
-  each_kept [] all = tt
-  each_kept (b ∷ q) all = (returns_kept b all.0, each_kept q all.1)
-
   returning_by : (w : Word) → KnownBy (on k s) g e w →
       AllByRecursion (ReturnAlike k s t (e ∷ g) (e ∷ h)) (arrivals_by (on k s) w e g)
   returning_by word.Queued known = (λ r. cc, tt)
@@ -299,17 +245,7 @@ module _ (k : Header) (s t : Start) (g h : List Entry) (a : Alike k s t g h) (e 
       known.0 in
       let r = sleeps_at k.conditions (on k s) g e.seat parts.1 in
       (λ b. sleep_kept e.seat (a.sleeping r.0 e.seat r.2), tt)
-  returning_by word.Got known = tt
-  returning_by word.TryGot known = tt
-  returning_by word.Granted known = tt
-  returning_by word.Missed known = tt
-  returning_by word.Left known = tt
-  returning_by word.Gave known = tt
-  returning_by (word.Refused f) known = tt
-  returning_by word.Await known = tt
-  returning_by word.Back known = tt
-  returning_by word.Counted known = tt
-  returning_by word.Drained known = tt
+  returning_by _ known = tt
 
   returning_next : Known (on k s) g e →
       AllByRecursion (ReturnAlike k s t (e ∷ g) (e ∷ h)) (line (on k s) (e ∷ g))
@@ -317,7 +253,8 @@ module _ (k : Header) (s t : Start) (g h : List Entry) (a : Alike k s t g h) (e 
       subst (AllByRecursion (ReturnAlike k s t (e ∷ g) (e ∷ h))) (sym (line_after (on k s) e g))
       (each-append (ReturnAlike k s t (e ∷ g) (e ∷ h)) _ _
       (each-filter (ReturnAlike k s t (e ∷ g) (e ∷ h)) (stays e.word e.seat) (line (on k s) g)
-      (each_kept (line (on k s) g) a.returning))
+      (each-as (ReturnAlike k s t g h) (ReturnAlike k s t (e ∷ g) (e ∷ h)) (line (on k s) g) returns_kept
+      a.returning))
       (returning_by e.word known))
 
   pub alike_next : Known (on k s) g e → Alike k s t (e ∷ g) (e ∷ h)
@@ -370,18 +307,8 @@ module _ (k : Header) (s t : Start) (g h : List Entry) (a : Alike k s t g h) whe
 
   arrival_alike : (b : Arrival) → ReturnAlike k s t g h b →
       arrival_owes (on k s) g b ≡ arrival_owes (on k t) h b
-  arrival_alike b same = by b.back refl
-    where
-      by : (r : Bool) → b.back ≡ r →
-          cond r ((last_sleep (on k s) g b.seat).holds + 1) (cond (is_lock k.object) 2 1)
-          ≡ cond r ((last_sleep (on k t) h b.seat).holds + 1) (cond (is_lock k.object) 2 1)
-      by true e = ap (λ (w : Sleep). w.holds + 1) (same e)
-      by false e = refl
-
-  each_owes : (q : List Arrival) → AllByRecursion (ReturnAlike k s t g h) q →
-      AllByRecursion (λ b. arrival_owes (on k s) g b ≡ arrival_owes (on k t) h b) q
-  each_owes [] all = tt
-  each_owes (b ∷ q) all = (arrival_alike b all.0, each_owes q all.1)
+  arrival_alike b same =
+      either_alike b.back _ _ _ _ (λ r. ap (λ (w : Sleep). w.holds + 1) (same r)) (λ f. refl)
 
   pub owed_alike : owed (on k s) g ≡ owed (on k t) h
   owed_alike = λ j. holding j + waiting j + sleepers_owe_alike k.conditions j
@@ -393,7 +320,8 @@ module _ (k : Header) (s t : Start) (g h : List Entry) (a : Alike k s t g h) whe
           ≡ sum_of (arrival_owes (on k t) h) (line (on k t) h)
       waiting =
           sum_alike (arrival_owes (on k s) g) (arrival_owes (on k t) h) (line (on k s) g)
-          (each_owes (line (on k s) g) a.returning)
+          (each-as (ReturnAlike k s t g h) (λ b. arrival_owes (on k s) g b ≡ arrival_owes (on k t) h b)
+          (line (on k s) g) arrival_alike a.returning)
           ∙ ap (sum_of (arrival_owes (on k t) h)) a.stand
 
   -- the last sleep of one who is away

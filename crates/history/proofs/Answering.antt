@@ -1,62 +1,26 @@
 -- The history behind a list of steps is legal.
-use Rattle.std.proofs.Common.{◌≡◌, ℕ, Bool, true, false, not, cond, ltb, List, [], ◌∷◌, Option, Some, None, Result, Ok, Err, refl, sym, subst}
+use Rattle.std.proofs.Common.{◌≡◌, ℕ, Bool, cond, List, [], ◌∷◌, Option, Some, None, Result, Ok, Err, refl, sym, subst, arith}
 use Rattle.std.proofs.lemmas.Bool.{cond_both}
-use Rattle.history.specs.Prelude.{Arrival, Entry, X, S, Word, Fault, Answer, Recorded, Step, Look, Expire, Interrupt, Await, Signal, SignalAll, answer, answer_by, results, is_seat, Counts, counts, owner, IsLegal, named, ready, Phase, Idle, InLine, Sleeping, phase, has_room, Start, entry_for, phase_entry, idle_entry, queued_entry, sleeping_entry, plain, awaits, signals, back}
+use Rattle.history.specs.Prelude.{Arrival, Entry, Fault, Answer, Recorded, Step, answer, answer_by, results, is_seat, IsLegal, named, ready, Phase, Idle, InLine, Sleeping, phase, has_room, Start, entry_for, phase_entry, idle_entry, queued_entry, sleeping_entry, back}
 use Rattle.history.specs.declared.entry.End.TheVariants as end
 use Rattle.history.specs.declared.entry.Word.TheVariants as word
 use Rattle.history.specs.declared.fault.Fault.TheVariants as fault
 use Rattle.history.proofs.Entering.{by_phase}
 
 -- the entry that a step makes is of its own seat
-awaits_seat : (k : Counts) (i c : ℕ) → (awaits k i c).seat ≡ i
-awaits_seat k i c =
-    let sleep : Entry = record {
-      seat = i;
-      word = word.Await;
-      mode = X;
-      n = k.held i X;
-      at = c;
-      end =
-          end.None;
-    } in
-    let reads : Entry = plain i (word.Refused fault.HoldsRead) X 1 in
-    let u = ltb 0 (k.held i S) in
-    cond_both (not (is_seat (owner k) i)) (plain i (word.Refused fault.NotOwner) X 1) (cond u reads sleep)
-    (λ e. e.seat ≡ i) (λ t. refl) (λ t. cond_both u reads sleep (λ e. e.seat ≡ i) (λ v. refl) (λ v. refl))
-
-signals_seat : (k : Counts) (w : Word) (n i c : ℕ) → (signals k w n i c).seat ≡ i
-signals_seat k w n i c =
-    cond_both (not (is_seat (owner k) i)) (plain i (word.Refused fault.NotOwner) X 1)
-    (record { seat = i; word = w; mode = X; n = n; at = c; end = end.None }) (λ e. e.seat ≡ i) (λ t. refl)
-    (λ t. refl)
-
 idle_seat : (s : Start) (h : List Entry) (i : ℕ) (step : Step) → (idle_entry s h i step).seat ≡ i
-idle_seat s h i (Await c) = awaits_seat (counts s h) i c
-idle_seat s h i (Signal c) = signals_seat (counts s h) word.Signal _ i c
-idle_seat s h i (SignalAll c) = signals_seat (counts s h) word.SignalAll _ i c
-idle_seat s h i _ = refl
+idle_seat s h i step = grind arith
 
 of_entry : (x e : Entry) (i : ℕ) → Some x ≡ Some e → x.seat ≡ i → e.seat ≡ i
 of_entry x e i q p = let same : x ≡ e = cc in subst (λ (y : Entry). y.seat ≡ i) same p
 
 line_seat : (s : Start) (h : List Entry) (i : ℕ) (step : Step) (e : Entry) (a : Arrival) (comes goes : Bool) →
     cond comes (cond goes (Some (back s h i)) None) (queued_entry goes i a step) ≡ Some e → e.seat ≡ i
-line_seat s h i step e a true true q = of_entry _ e i q refl
-line_seat s h i step e a true false q = cc
-line_seat s h i Look e a false true q = of_entry _ e i q refl
-line_seat s h i Look e a false false q = cc
-line_seat s h i Expire e a false true q = of_entry _ e i q refl
-line_seat s h i Expire e a false false q = of_entry _ e i q refl
-line_seat s h i Interrupt e a false true q = of_entry _ e i q refl
-line_seat s h i Interrupt e a false false q = of_entry _ e i q refl
-line_seat s h i _ e a false true q = cc
-line_seat s h i _ e a false false q = cc
+line_seat s h i step e a comes goes q = grind arith
 
 sleeping_seat : (s : Start) (h : List Entry) (i : ℕ) (step : Step) (e : Entry) →
     sleeping_entry s h i step ≡ Some e → e.seat ≡ i
-sleeping_seat s h i Expire e q = of_entry _ e i q refl
-sleeping_seat s h i Interrupt e q = of_entry _ e i q refl
-sleeping_seat s h i _ e q = cc
+sleeping_seat s h i step e q = grind arith
 
 pub entry_seat : (s : Start) (h : List Entry) (i : ℕ) (step : Step) (e : Entry) →
     entry_for s h i step ≡ Ok (Some e) → e.seat ≡ i

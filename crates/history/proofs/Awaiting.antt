@@ -1,12 +1,12 @@
 -- One who awaits sleeps on or is on its way back while others' entries come, and what its steps make.
-use Rattle.std.proofs.Common.{◌≡◌, ◌≢◌, ◌⊎◌, inl, inr, ⊎_elim, ℕ, Bool, true, false, ◌||◌, cond, eqb, List, [], ◌∷◌, ◌++◌, map, take, drop, Option, Some, None, Result, Ok, refl, ap, ◌∙◌, sym, subst, arith, eqb-true, eq-eqb, ne_eqb}
+use Rattle.std.proofs.Common.{◌≡◌, ◌≢◌, ◌⊎◌, inl, inr, ℕ, Bool, true, false, cond, List, [], ◌∷◌, ◌++◌, map, take, drop, Option, Some, None, Result, Ok, refl, ap, ◌∙◌, subst, arith, eq-eqb, ne_eqb}
 use Rattle.history.proofs.OneWait.{last_sleep_own}
-use Rattle.std.proofs.lemmas.Bool.{cases_eq}
+use Rattle.std.proofs.lemmas.Bool.Decides.{nat_tests}
 use Rattle.history.specs.Prelude.{Arrival, End, Entry, Word, Fault, Step, Look, Expire, Interrupt, SleepsAs, ReturnsAs, AwaitsAs, signalled, lapsed, back_from, lapse_from, is_seat, ends_arrival, line, arrivals_by, place_of, coming_back, ready, waits, was_owed, sleepers, sleepers_after, sleep_after, sleeps_below, last_sleep, has, without, Start, Sleep, entry_for, sleeping_entry, lapse}
 use Rattle.history.specs.declared.entry.End.TheVariants as end
 use Rattle.history.specs.declared.entry.Word.TheVariants as word
 use Rattle.history.proofs.Entering.{KnownBy, known}
-use Rattle.history.proofs.SleepLemmas.{last_sleep_other, sleepers_here, sleepers_other, sleeps_there, idle_parts}
+use Rattle.history.proofs.SleepLemmas.{last_sleep_other, sleepers_here, sleeps_there, idle_parts}
 use Rattle.history.proofs.Staying.{stays_in_line, arrives_by, arrives_itself}
 use Rattle.history.proofs.Times.{times-append, times-take_drop, times-without_other, has_once, has_not, once_has}
 
@@ -28,23 +28,11 @@ pub data AwaitMakes (s : Start) (h : List Entry) (i : ℕ) (w : Sleep) (step : S
 -- one of a list of those who come back is on its way back, and another is not among them
 comes : (i : ℕ) (xs : List ℕ) → has i xs ≡ true → place_of i (map coming_back xs) ≡ Some (coming_back i)
 comes i [] t = cc
-comes i (x ∷ xs) t = by (eqb x i) refl t (λ u. comes i xs u)
-  where
-    by : (b : Bool) → eqb x i ≡ b → (b || has i xs) ≡ true →
-        (has i xs ≡ true → place_of i (map coming_back xs) ≡ Some (coming_back i)) →
-        cond b (Some (coming_back x)) (place_of i (map coming_back xs)) ≡ Some (coming_back i)
-    by true q u ih = ap (λ k. Some (coming_back k)) (eqb-true x i q)
-    by false q u ih = ih u
+comes i (x ∷ xs) t = grind (arith, nat_tests, comes i xs)
 
 pub comes_not : (i : ℕ) (xs : List ℕ) → has i xs ≡ false → place_of i (map coming_back xs) ≡ None
 comes_not i [] t = refl
-comes_not i (x ∷ xs) t = by (eqb x i) t (λ u. comes_not i xs u)
-  where
-    by : (b : Bool) → (b || has i xs) ≡ false →
-        (has i xs ≡ false → place_of i (map coming_back xs) ≡ None) →
-        cond b (Some (coming_back x)) (place_of i (map coming_back xs)) ≡ None
-    by true u ih = cc
-    by false u ih = ih u
+comes_not i (x ∷ xs) t = grind (arith, comes_not i xs)
 
 -- an entry of another seat
 returns_other : (s : Start) (e : Entry) (h : List Entry) (i : ℕ) (w : Sleep) → e.seat ≢ i →
@@ -68,10 +56,7 @@ other_place i a ne = rw (ne_eqb a.seat i ne) refl
 moved_or_left : (i n : ℕ) (xs : List ℕ) → has i (take n xs) ≡ false → has i xs ≡ true →
     has i (drop n xs) ≡ true
 moved_or_left i n xs out t =
-    let a = has_not i (take n xs) out in
-    let b = has_once i xs t in
-    let p = times-take_drop i n xs in
-    once_has i (drop n xs) (omega (arith, a, b, p))
+    once_has i (drop n xs) (omega (arith, has_not i (take n xs) out, has_once i xs t, times-take_drop i n xs))
 
 moves : (s : Start) (e : Entry) (h : List Entry) (i c : ℕ) → e.seat ≢ i → has i (sleepers s h c) ≡ true →
     (w : Word) →
@@ -95,15 +80,13 @@ moves s e h i c ne t word.SignalAll = by (has i (sleepers s h e.at)) refl
     )
 moves s e h i c ne t word.Await = inr (
   refl,
-  λ same. let o = has_once i (sleepers s h c) t in
-      let p = times-append i (sleepers s h c) (e.seat ∷ []) in
-      once_has i (sleepers s h c ++ e.seat ∷ []) (omega (arith, o, p)),
+  λ same. once_has i (sleepers s h c ++ e.seat ∷ [])
+      (omega (arith, has_once i (sleepers s h c) t, times-append i (sleepers s h c) (e.seat ∷ []))),
 )
 moves s e h i c ne t word.Lapse = inr (
   other_place i (coming_back e.seat) ne,
-  λ same. let o = has_once i (sleepers s h c) t in
-      let p = times-without_other i e.seat (sleepers s h c) ne in
-      once_has i (without e.seat (sleepers s h c)) (omega (arith, o, p)),
+  λ same. once_has i (without e.seat (sleepers s h c))
+      (omega (arith, has_once i (sleepers s h c) t, times-without_other i e.seat (sleepers s h c) ne)),
 )
 moves s e h i c ne t word.Queued =
     inr (other_place i (record { seat = e.seat; mode = e.mode; n = e.n; back = false }) ne, λ same. t)
@@ -119,10 +102,7 @@ sleeps_other s e h i w ne r = by (moves s e h i w.condition ne r.asleep e.word)
     stays_asleep :
         (e.at ≡ w.condition → has i (sleepers_after e.word e.seat e.n (sleepers s h w.condition)) ≡ true) →
         has i (sleepers s (e ∷ h) w.condition) ≡ true
-    stays_asleep there = ⊎_elim
-        (λ same. rw (eq-eqb e.at w.condition same) (there same))
-        (λ not_here. subst (λ xs. has i xs ≡ true) (sym (sleepers_other s e h w.condition not_here)) r.asleep)
-        (cases_eq e.at w.condition)
+    stays_asleep there = grind (arith, nat_tests, there, r.asleep)
 
     by : Moves s e h i w.condition e.word → AwaitsAs s (e ∷ h) i w
     by (inl x) = inr (record { place = arrives_by s e h i ne r.place ∙ x; saved = saved })
@@ -175,28 +155,12 @@ lapse_returns s h i w how r =
 pub sleeping_made : (s : Start) (h : List Entry) (i : ℕ) (w : Sleep) (step : Step) → SleepsAs s h i w →
     waits step ≡ true → entry_for s h i step ≡ Ok (sleeping_entry s h i step)
 sleeping_made s h i w step r t =
-    by step t r.place (sleeps_there s.header.conditions s h i w.condition r.condition r.asleep)
-  where
-    by : (step : Step) → waits step ≡ true → place_of i (line s h) ≡ None →
-        sleeps_below s.header.conditions s h i ≡ true → entry_for s h i step ≡ Ok (sleeping_entry s h i step)
-    by Look t p b = rw p (rw b refl)
-    by Expire t p b = rw p (rw b refl)
-    by Interrupt t p b = rw p (rw b refl)
-    by _ t p b = cc
+    let asleep = sleeps_there s.header.conditions s h i w.condition r.condition r.asleep in
+    grind (arith, t, r.place, asleep)
 
 pub returning_made : (s : Start) (h : List Entry) (i : ℕ) (w : Sleep) (step : Step) → ReturnsAs s h i w →
     waits step ≡ true → entry_for s h i step ≡ Ok (cond (is_seat (ready s h) i) (Some (back_from i w)) None)
-returning_made s h i w step r t = by step t r.place ∙ ap from r.saved
-  where
-    from : Sleep → Result (Option Entry) Fault
-    from x = Ok (cond (is_seat (ready s h) i) (Some (back_from i x)) None)
-
-    by : (step : Step) → waits step ≡ true → place_of i (line s h) ≡ Some (coming_back i) →
-        entry_for s h i step ≡ from (last_sleep s h i)
-    by Look t p = rw p refl
-    by Expire t p = rw p refl
-    by Interrupt t p = rw p refl
-    by _ t p = cc
+returning_made s h i w step r t = grind (arith, t, r.place, r.saved)
 
 -- A step of one who awaits is no fault, and its entry was owed.
 pub record AwaitTurn (s : Start) (h : List Entry) (i : ℕ) (w : Sleep) (step : Step) : Type 0 where
@@ -204,11 +168,6 @@ pub record AwaitTurn (s : Start) (h : List Entry) (i : ℕ) (w : Sleep) (step : 
   pub is : entry_for s h i step ≡ Ok made
   pub makes : AwaitMakes s h i w step made
   pub owed : (e : Entry) → made ≡ Some e → was_owed s.header.object e ≡ true
-
-owed_entry : (s : Start) (x e : Entry) → was_owed s.header.object x ≡ true → Some x ≡ Some e →
-    was_owed s.header.object e ≡ true
-owed_entry s x e t q =
-    let same : x ≡ e = cc in subst (λ (y : Entry). was_owed s.header.object y ≡ true) same t
 
 returning_turn : (s : Start) (h : List Entry) (i : ℕ) (w : Sleep) (step : Step) → ReturnsAs s h i w →
     waits step ≡ true → AwaitTurn s h i w step
@@ -219,7 +178,7 @@ returning_turn s h i w step r t = by (is_seat (ready s h) i) (returning_made s h
       made = Some (back_from i w);
       is = q;
       makes = comes_back r refl;
-      owed = λ e same. owed_entry s (back_from i w) e refl same;
+      owed = λ e same. cc (same);
     }
     by false q = record { made = None; is = q; makes = sleeps_on refl; owed = λ e same. cc }
 
@@ -236,7 +195,7 @@ sleeping_turn s h i w step r t = by step t (sleeping_made s h i w step r t)
           (λ (x : Sleep). (let y : Result (Option Entry) Fault =
           Ok (Some (lapse_from i x how)) in y)) r.saved;
       makes = lapses how ends refl r (lapse_returns s h i w how r);
-      owed = λ e same. owed_entry s (lapse_from i w how) e refl same;
+      owed = λ e same. cc (same);
     }
 
     by : (step : Step) → waits step ≡ true → entry_for s h i step ≡ Ok (sleeping_entry s h i step) →

@@ -1,10 +1,12 @@
 -- Who is away was away before, or has just gone to sleep: its last sleep is the one of which its entries say.
-use Rattle.std.proofs.Common.{◌≡◌, ◌⊎◌, inl, inr, ⊎_elim, ℕ, ◌<◌, Bool, true, false, cond, eqb, eqb-true, List, [], ◌∷◌, ◌++◌, take, Option, Some, None, refl, ap, ◌∙◌, sym, subst, arith, eq-eqb}
+use Rattle.std.proofs.Common.{◌≡◌, ◌⊎◌, inl, inr, ⊎_elim, ℕ, ◌<◌, Bool, true, false, cond, eqb, List, [], ◌∷◌, ◌++◌, take, Option, Some, None, refl, ap, ◌∙◌, sym, subst, arith, eq-eqb}
 use Rattle.std.specs.List.{AllByRecursion}
-use Rattle.history.specs.Prelude.{Arrival, Entry, Word, IsLegal, arrivals_by, line, place_of, is_away, phase, phase_by, entries_of, has, last_sleep, sleep_after, sleepers, sleeps_below, Start, StandOnce}
+use Rattle.std.proofs.lemmas.Bool.Decides.{nat_tests}
+use Rattle.history.specs.Prelude.{Arrival, Entry, Word, IsLegal, arrivals_by, line, place_of, is_away, phase, phase_by, entries_of, has, last_sleep, sleepers, sleeps_below, Start, StandOnce}
 use Rattle.history.specs.declared.entry.Word.TheVariants as word
 use Rattle.history.proofs.Entering.{Known, KnownBy, known}
 use Rattle.history.proofs.LineLemmas.{line_after}
+use Rattle.history.proofs.Lists.{each-as}
 use Rattle.history.proofs.OneWait.{Waits, acts, all_come, line_stays, placed, take_has, waits_from}
 use Rattle.history.proofs.SleepLemmas.{sleeps_at, sleeps_there, slept_before}
 use Rattle.history.proofs.Times.{each-append, place_once}
@@ -23,9 +25,7 @@ asleep_away s h v c i t =
     below : c < s.header.conditions
     below =
         let u = v.sleepers c i t in
-        let l = u.saved.condition in
-        let d = u.condition in
-        omega (arith, l, d)
+        omega (arith, u.saved.condition, u.condition)
 
     sleeps : sleeps_below s.header.conditions s h i ≡ true
     sleeps = sleeps_there s.header.conditions s h i c below t
@@ -35,16 +35,8 @@ IsPlacedIn q a = place_of a.seat q ≡ Some a
 
 placed_behind : (a : Arrival) (q xs : List Arrival) → place_of a.seat q ≡ None →
     AllByRecursion (IsPlacedIn q) xs → AllByRecursion (IsPlacedIn (a ∷ q)) xs
-placed_behind a q [] none all = tt
-placed_behind a q (b ∷ xs) none all = (by (eqb a.seat b.seat) refl, placed_behind a q xs none all.1)
-  where
-    by : (t : Bool) → eqb a.seat b.seat ≡ t → cond (eqb a.seat b.seat) (Some a) (place_of b.seat q) ≡ Some b
-    by true same =
-        let n : place_of b.seat q ≡ None = ap (λ j. place_of j q) (sym (eqb-true a.seat b.seat same))
-        ∙ none in
-        let p = all.0 in
-        absurd (cc (n, p))
-    by false other = ap (λ t. cond t (Some a) (place_of b.seat q)) other ∙ all.0
+placed_behind a q xs none all =
+    each-as (IsPlacedIn q) (IsPlacedIn (a ∷ q)) xs (λ b p. grind (arith, nat_tests)) all
 
 each_placed : (q : List Arrival) → StandOnce q → AllByRecursion (IsPlacedIn q) q
 each_placed [] once = tt
@@ -61,12 +53,9 @@ module _ (s : Start) (h : List Entry) (e : Entry) (v : Waits s h) (k : Known s h
   abbrev Comes : Arrival → Type 0
   Comes a = a.back ≡ true → Was a.seat
 
-  in_line_away : (xs : List Arrival) → AllByRecursion (IsPlacedIn (line s h)) xs → AllByRecursion Comes xs
-  in_line_away [] all = tt
-  in_line_away (a ∷ xs) all = (
-    λ t. inr (ap (λ o. is_away (phase_by o (sleeps_below s.header.conditions s h a.seat))) all.0 ∙ t),
-    in_line_away xs all.1,
-  )
+  in_line_away : (a : Arrival) → IsPlacedIn (line s h) a → Comes a
+  in_line_away a p t =
+      inr (ap (λ o. is_away (phase_by o (sleeps_below s.header.conditions s h a.seat))) p ∙ t)
 
   arrive_away : (w : Word) → KnownBy s h e w → AllByRecursion Comes (arrivals_by s w e h)
   arrive_away word.Queued k = (λ t. absurd (cc (t)), tt)
@@ -76,24 +65,15 @@ module _ (s : Start) (h : List Entry) (e : Entry) (v : Waits s h) (k : Known s h
   arrive_away word.SignalAll k =
       all_come Comes (sleepers s h e.at) (λ i t b. inr (asleep_away s h v e.at i t))
   arrive_away word.Lapse k = (λ t. inr (ap is_away k.0), tt)
-  arrive_away word.Got k = tt
-  arrive_away word.TryGot k = tt
-  arrive_away word.Granted k = tt
-  arrive_away word.Missed k = tt
-  arrive_away word.Left k = tt
-  arrive_away word.Gave k = tt
-  arrive_away (word.Refused f) k = tt
-  arrive_away word.Await k = tt
-  arrive_away word.Back k = tt
-  arrive_away word.Counted k = tt
-  arrive_away word.Drained k = tt
+  arrive_away _ k = tt
 
   all_away : AllByRecursion Comes (line s (e ∷ h))
   all_away =
       subst (AllByRecursion Comes) (sym (line_after s e h))
       (each-append Comes _ _
       (line_stays Comes Comes s h e (acts s h e k) (λ a ne was. was)
-      (in_line_away (line s h) (each_placed (line s h) (stand_once s h v.once))))
+      (each-as (IsPlacedIn (line s h)) Comes (line s h) in_line_away
+      (each_placed (line s h) (stand_once s h v.once))))
       (arrive_away e.word k))
 
   pub was_away : (i : ℕ) → IsAwayAt s (e ∷ h) i → Was i
@@ -115,25 +95,14 @@ module _ (s : Start) (h : List Entry) (e : Entry) (v : Waits s h) (k : Known s h
   pub sleep_next : (o : Start) (all : List Entry) (i : ℕ) →
       (IsAwayAt s h i → last_sleep s h i ≡ last_sleep o all i) → IsAwayAt s (e ∷ h) i →
       last_sleep s (e ∷ h) i ≡ last_sleep o (cond (eqb e.seat i) (e ∷ all) all) i
-  sleep_next o all i before t = by (eqb e.seat i) refl (was_away i t)
-    where
-      by : (b : Bool) → eqb e.seat i ≡ b → Was i →
-          cond (eqb e.seat i) (sleep_after e.word e (last_sleep s h i)) (last_sleep s h i)
-          ≡ last_sleep o (cond (eqb e.seat i) (e ∷ all) all) i
-      by true q (inl w) = rw q (rw q (rw w.1 refl))
-      by true q (inr w) = rw q (rw q (ap (sleep_after e.word e) (before w)))
-      by false q (inl w) = let z = eq-eqb e.seat i w.0 in absurd (cc (z, q))
-      by false q (inr w) = rw q (before w)
+  sleep_next o all i before t =
+      let was = was_away i t in
+      grind (arith, nat_tests, was, before)
 
 own_front : (i : ℕ) (e : Entry) (more all : List Entry) →
     cond (eqb e.seat i) (e ∷ entries_of i more ++ all) (entries_of i more ++ all)
     ≡ entries_of i (e ∷ more) ++ all
-own_front i e more all = by (eqb e.seat i)
-  where
-    by : (b : Bool) → cond b (e ∷ entries_of i more ++ all) (entries_of i more ++ all)
-        ≡ cond b (e ∷ entries_of i more) (entries_of i more) ++ all
-    by true = refl
-    by false = refl
+own_front i e more all = grind arith
 
 pub sleep_more : (s o : Start) (more h all : List Entry) (i : ℕ) → Waits s [] → IsLegal s (more ++ h) →
     (IsAwayAt s h i → last_sleep s h i ≡ last_sleep o all i) → IsAwayAt s (more ++ h) i →

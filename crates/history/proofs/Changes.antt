@@ -1,5 +1,5 @@
 -- What each word of a lock's history changes, and what it leaves.
-use Rattle.std.proofs.Common.{◌≡◌, ℕ, ◌-◌, Bool, true, false, ◌&&◌, cond, eqb, List, [], ◌∷◌, ◌++◌, refl, ap, ◌∙◌, ℤ}
+use Rattle.std.proofs.Common.{◌≡◌, ℕ, ◌-◌, Bool, true, false, ◌&&◌, cond, eqb, List, [], ◌∷◌, ◌++◌, refl, ap, ◌∙◌, ℤ, arith}
 use mathlib.Core.Path.{fun_ext}
 use Rattle.std.specs.List.{filter}
 use Rattle.history.specs.Prelude.{Entry, Arrival, Mode, Word, Queued, Missed, Left, Refused, Start, Object, ends_arrival, same_mode, counts, held, holds_after, free, free_after, count, counted, counted_after, opening_count, line, arrivals_by}
@@ -15,25 +15,13 @@ counts_nothing _ = false
 
 -- the numbers after an entry
 held_kept : (o : Object) (w : Word) (n x : ℕ) → counts_nothing w ≡ true → holds_after o w n x ≡ x
-held_kept o Queued n x t = refl
-held_kept o Missed n x t = refl
-held_kept o Left n x t = refl
-held_kept o (Refused f) n x t = refl
-held_kept o _ n x t = cc
+held_kept o w n x t = grind arith
 
 free_kept : (w : Word) (n : ℕ) (x : ℤ) → counts_nothing w ≡ true → free_after w n x ≡ x
-free_kept Queued n x t = refl
-free_kept Missed n x t = refl
-free_kept Left n x t = refl
-free_kept (Refused f) n x t = refl
-free_kept _ n x t = cc
+free_kept w n x t = grind arith
 
 counted_kept : (w : Word) (x : ℕ) → counts_nothing w ≡ true → counted_after w x ≡ x
-counted_kept Queued x t = refl
-counted_kept Missed x t = refl
-counted_kept Left x t = refl
-counted_kept (Refused f) x t = refl
-counted_kept _ x t = cc
+counted_kept w x t = grind arith
 
 pub either_way : {A : Type 0} (b : Bool) (x y : A) → x ≡ y → cond b x y ≡ y
 either_way true x y e = e
@@ -57,9 +45,7 @@ counts_same s e h t =
 -- the line after an entry
 pub all_stay : (w : Word) (i : ℕ) (q : List Arrival) → ends_arrival w ≡ false → filter (stays w i) q ≡ q
 all_stay w i [] t = refl
-all_stay w i (a ∷ q) t =
-    let s : stays w i a ≡ true = rw t refl in
-    rw s (ap (λ l. a ∷ l) (all_stay w i q t))
+all_stay w i (a ∷ q) t = grind (arith, all_stay w i q t)
 
 pub line_queued : (s : Start) (e : Entry) (h : List Entry) → e.word ≡ Queued →
     line s (e ∷ h) ≡ line s h ++ record { seat = e.seat; mode = e.mode; n = e.n; back = false } ∷ []

@@ -1,20 +1,11 @@
 -- What is known of an entry of a legal history by its word.
-use Rattle.std.proofs.Common.{◌≡◌, ◌⊎◌, inl, inr, ℕ, Bool, true, false, not, cond, ltb, List, Option, Some, None, Result, Ok, Err, refl, ap, subst, ◌<◌, ◌≤◌, length, arith, eqb-true, ltb-false, leb-false}
+use Rattle.std.proofs.Common.{◌≡◌, ◌⊎◌, inl, inr, ℕ, Bool, true, false, cond, ltb, List, Option, Some, None, Ok, refl, ap, subst, ◌<◌, ◌≤◌, length, arith, eqb-true, ltb-false, leb-false}
 use Rattle.std.proofs.lemmas.Option.{same_Some}
 use Rattle.std.proofs.lemmas.Bool.{cond_both, or_parts, not-false}
 use Rattle.history.specs.Prelude.{Arrival, Entry, Fault, Mode, X, S, Word, Object, Lock, ReadWrite, Semaphore, Latch, Step, Acquire, Try, TryFair, EntryInterrupt, Give, Look, Expire, Interrupt, Await, Signal, SignalAll, Drain, could, limit, held_back, is_seat, try_held_back, Counts, counts, owner, held, free, is_wrong_mode, is_no_condition, is_bad_amount, lacks_mode, is_bad_number, line, first_mode, place_of, ready, is_lock, is_latch, is_semaphore, Phase, Idle, InLine, Sleeping, phase, phase_by, suits, sleepers, Start, entry_for, phase_entry, idle_entry, queued_entry, sleeping_entry, plain, ended, back, lapse, gave, awaits, signals, at_most_one, at_least_none}
 use Rattle.history.specs.declared.entry.End.TheVariants as end
 use Rattle.history.specs.declared.fault.Fault.TheVariants as fault
 use Rattle.history.specs.declared.entry.Word.TheVariants as word
-
--- the tests that come first let the step through
-passed : {A : Type 0} (b : Bool) (f : Fault) (r : Result A Fault) (x : A) → cond b (Err f) r ≡ Ok x →
-    (b ≡ false) × (r ≡ Ok x)
-passed true f r x q = cc
-passed false f r x q = (refl, q)
-
-ok_same : {A : Type 0} {x y : A} → ◌≡◌ {A = Result A Fault} (Ok x) (Ok y) → x ≡ y
-ok_same q = cc
 
 -- What lets a step of a seat through to its entry.
 pub record Admitted (s : Start) (h : List Entry) (i : ℕ) (step : Step) (e : Entry) : Type 0 where
@@ -27,17 +18,13 @@ pub record Admitted (s : Start) (h : List Entry) (i : ℕ) (step : Step) (e : En
 pub admitted : (s : Start) (h : List Entry) (i : ℕ) (step : Step) (e : Entry) →
     entry_for s h i step ≡ Ok (Some e) → Admitted s h i step e
 admitted s h i step e q =
-    let R : Type 0 = Result (Option Entry) Fault in
-    let r3 : R = Ok (phase_entry s h i step (phase s h i)) in
-    let t3 : Bool = not (suits (phase s h i) step) in
-    let r2 : R = cond t3 (Err fault.OutOfPhase) r3 in
-    let r1 : R = cond (is_bad_amount s.header.object step) (Err fault.BadAmount) r2 in
-    let r0 : R = cond (is_no_condition s.header step) (Err fault.NoSuchCondition) r1 in
-    let q0 = passed (is_wrong_mode s.header.object step) fault.WrongMode r0 (Some e) q in
-    let q1 = passed (is_no_condition s.header step) fault.NoSuchCondition r1 (Some e) q0.1 in
-    let q2 = passed (is_bad_amount s.header.object step) fault.BadAmount r2 (Some e) q1.1 in
-    let q3 = passed t3 fault.OutOfPhase r3 (Some e) q2.1 in
-    record { mode = q0.0; condition = q1.0; amount = q2.0; in_phase = not-false _ q3.0; made = ok_same q3.1 }
+    record {
+      mode = grind (arith, q);
+      condition = grind (arith, q);
+      amount = grind (arith, q);
+      in_phase = grind (arith, q);
+      made = grind (arith, q);
+    }
 
 pub by_phase : (s : Start) (h : List Entry) (i : ℕ) (step : Step) (e : Entry) →
     entry_for s h i step ≡ Ok (Some e) → phase_entry s h i step (phase s h i) ≡ Some e
@@ -110,20 +97,16 @@ asked s h i w m n idle mode amount =
 
 -- a lock is asked for X and 1 where its conditions are
 lock_asks : (o : Object) → is_lock o ≡ true → (lacks_mode o X ≡ false) × (is_bad_number o 1 ≡ false)
-lock_asks (Lock p) t = (refl, refl)
-lock_asks (ReadWrite p) t = (refl, refl)
-lock_asks (Semaphore p n) t = cc
-lock_asks (Latch n) t = cc
+lock_asks o t = grind arith
 
-acquired_known : (s : Start) (h : List Entry) (i : ℕ) (m : Mode) (n : ℕ) →
-    ((w : Word) → Asked s h (plain i w m n)) → (b c d : Bool) →
-    held_back (counts s h) (first_mode s h) i m ≡ b → could (counts s h) i m n ≡ d →
-    Known s h (plain i (cond b word.Queued
-    (cond c (word.Refused fault.TooManyHolds) (cond d word.Got word.Queued))) m n)
-acquired_known s h i m n a true c d p q = a word.Queued
-acquired_known s h i m n a false true d p q = a (word.Refused fault.TooManyHolds)
-acquired_known s h i m n a false false true p q = (a word.Got, q, p)
-acquired_known s h i m n a false false false p q = a word.Queued
+taken_known : (s : Start) (h : List Entry) (i : ℕ) (m : Mode) (n : ℕ) (w : Word) →
+    Known s h (plain i w m n) → ((v : Word) → Asked s h (plain i v m n)) → (b c d : Bool) →
+    held_back (counts s h) (first_mode s h) i m ≡ b → could (counts s h) i m n ≡ d → Known s h
+    (plain i (cond b w (cond c (word.Refused fault.TooManyHolds) (cond d word.Got w))) m n)
+taken_known s h i m n w k a true c d p q = k
+taken_known s h i m n w k a false true d p q = a (word.Refused fault.TooManyHolds)
+taken_known s h i m n w k a false false true p q = (a word.Got, q, p)
+taken_known s h i m n w k a false false false p q = k
 
 tried_known : (s : Start) (h : List Entry) (i : ℕ) (m : Mode) (n : ℕ) →
     ((w : Word) → Asked s h (plain i w m n)) → is_latch s.header.object ≡ false → (b c d : Bool) →
@@ -134,16 +117,6 @@ tried_known s h i m n a l true c d p q = a word.Missed
 tried_known s h i m n a l false true d p q = a (word.Refused fault.TooManyHolds)
 tried_known s h i m n a l false false true p q = (a word.TryGot, q, l, p)
 tried_known s h i m n a l false false false p q = a word.Missed
-
-tried_fairly_known : (s : Start) (h : List Entry) (i : ℕ) (m : Mode) (n : ℕ) →
-    ((w : Word) → Asked s h (plain i w m n)) → (b c d : Bool) →
-    held_back (counts s h) (first_mode s h) i m ≡ b → could (counts s h) i m n ≡ d →
-    Known s h (plain i (cond b word.Missed
-    (cond c (word.Refused fault.TooManyHolds) (cond d word.Got word.Missed))) m n)
-tried_fairly_known s h i m n a true c d p q = a word.Missed
-tried_fairly_known s h i m n a false true d p q = a (word.Refused fault.TooManyHolds)
-tried_fairly_known s h i m n a false false true p q = (a word.Got, q, p)
-tried_fairly_known s h i m n a false false false p q = a word.Missed
 
 -- the words of a give
 abbrev pub GaveWord : Object → Word → Type 0
@@ -193,22 +166,11 @@ awaits_known : (s : Start) (h : List Entry) (i c : ℕ) → phase s h i ≡ Idle
     is_lock s.header.object ≡ true → c < s.header.conditions → Known s h (awaits (counts s h) i c)
 awaits_known s h i c idle lock below =
     let no : (f : Fault) → Known s h (plain i (word.Refused f) X 1) = λ f. refused_known s h i f idle lock in
-    let sleep : Entry = record {
-      seat = i;
-      word = word.Await;
-      mode = X;
-      n = held s h i X;
-      at = c;
-      end =
-          end.None;
-    } in
-    let reads : Entry = plain i (word.Refused fault.HoldsRead) X 1 in
-    let t = is_seat (owner (counts s h)) i in
-    let u = ltb 0 (held s h i S) in
-    cond_both (not t) (plain i (word.Refused fault.NotOwner) X 1) (cond u reads sleep) (Known s h)
-    (λ _. no fault.NotOwner) (λ owns.
-    cond_both u reads sleep (Known s h) (λ _. no fault.HoldsRead) (λ free. (
-      on_condition s h i word.Await (held s h i X) c idle lock below (not-false t owns),
+    let e : Entry =
+    record { seat = i; word = word.Await; mode = X; n = held s h i X; at = c; end = end.None } in
+    cond_both _ _ _ (Known s h) (λ _. no fault.NotOwner) (λ owns.
+    cond_both _ _ e (Known s h) (λ _. no fault.HoldsRead) (λ free. (
+      on_condition s h i word.Await (held s h i X) c idle lock below (not-false _ owns),
       none_held _ free,
       refl,
     )))
@@ -219,23 +181,22 @@ signals_known : (s : Start) (h : List Entry) (w : Word) (n i c : ℕ) → phase 
     Known s h (record { seat = i; word = w; mode = X; n = n; at = c; end = end.None })) →
     Known s h (signals (counts s h) w n i c)
 signals_known s h w n i c idle lock signal =
-    let t = is_seat (owner (counts s h)) i in
-    cond_both (not t) (plain i (word.Refused fault.NotOwner) X 1)
-    (record { seat = i; word = w; mode = X; n = n; at = c; end = end.None }) (Known s h)
-    (λ _. refused_known s h i fault.NotOwner idle lock) (λ owns. signal (not-false t owns))
+    cond_both _ _ _ (Known s h) (λ _. refused_known s h i fault.NotOwner idle lock) (λ owns.
+    signal (not-false _ owns))
 
 idle_known : (s : Start) (h : List Entry) (i : ℕ) (step : Step) → phase s h i ≡ Idle →
     is_wrong_mode s.header.object step ≡ false → is_no_condition s.header step ≡ false →
     is_bad_amount s.header.object step ≡ false → suits Idle step ≡ true → Known s h (idle_entry s h i step)
 idle_known s h i (Acquire m n) idle mode condition amount suit =
-    acquired_known s h i m n (λ w. asked s h i w m n idle mode amount) _ (limit (counts s h) i m) _ refl refl
+    taken_known s h i m n word.Queued (asked s h i word.Queued m n idle mode amount)
+    (λ v. asked s h i v m n idle mode amount) _ (limit (counts s h) i m) _ refl refl
 idle_known s h i (Try m n) idle mode condition amount suit =
     let parts = or_parts (lacks_mode s.header.object m) (is_latch s.header.object) mode in
     tried_known s h i m n (λ w. asked s h i w m n idle parts.0 amount) parts.1 _ (limit (counts s h) i m) _
     refl refl
 idle_known s h i (TryFair m n) idle mode condition amount suit =
-    tried_fairly_known s h i m n (λ w. asked s h i w m n idle mode amount) _ (limit (counts s h) i m) _ refl
-    refl
+    taken_known s h i m n word.Missed (asked s h i word.Missed m n idle mode amount)
+    (λ v. asked s h i v m n idle mode amount) _ (limit (counts s h) i m) _ refl refl
 idle_known s h i (EntryInterrupt m n) idle mode condition amount suit =
     asked s h i (word.Refused fault.Interrupted) m n idle mode amount
 idle_known s h i (Give m n) idle mode condition amount suit =
@@ -252,9 +213,7 @@ idle_known s h i (SignalAll c) idle mode condition amount suit =
     signals_known s h word.SignalAll _ i c idle lock (λ owns.
     (on_condition s h i word.SignalAll _ c idle lock (leb-false _ _ condition) owns, refl))
 idle_known s h i Drain idle mode condition amount suit = (idle, not-false _ mode, refl)
-idle_known s h i Look idle mode condition amount suit = cc
-idle_known s h i Expire idle mode condition amount suit = cc
-idle_known s h i Interrupt idle mode condition amount suit = cc
+idle_known s h i _ idle mode condition amount suit = cc
 
 -- the entries of one who waits
 at_entry : (s : Start) (h : List Entry) (x e : Entry) → Some x ≡ Some e → Known s h x → Known s h e
@@ -277,7 +236,6 @@ line_known : (s : Start) (h : List Entry) (i : ℕ) (step : Step) (e : Entry) (a
 line_known s h i step e a true true b g p q = at_entry s h _ e q (a, p, b, seat_is _ i g, refl)
 line_known s h i step e a true false b g p q = cc
 line_known s h i Look e a false true b g p q = at_entry s h _ e q (granted_known s h i a b p g)
-line_known s h i Look e a false false b g p q = cc
 line_known s h i Expire e a false true b g p q = at_entry s h _ e q (granted_known s h i a b p g)
 line_known s h i Expire e a false false b g p q =
     at_entry s h _ e q (a, record { stands = p; queued = b; entry = refl }, inl (refl, g))
@@ -294,9 +252,7 @@ sleeping_known s h i _ e p q = cc
 
 -- a seat in line, by its phase
 pub in_line : (o : Option Arrival) (sleeps : Bool) (a : Arrival) → phase_by o sleeps ≡ InLine a → o ≡ Some a
-in_line (Some b) sleeps a q = cc
-in_line None true a q = cc
-in_line None false a q = cc
+in_line o sleeps a q = grind arith
 
 phase_known : (s : Start) (h : List Entry) (i : ℕ) (step : Step) (e : Entry) (p : Phase) → phase s h i ≡ p →
     Admitted s h i step e → suits p step ≡ true → phase_entry s h i step p ≡ Some e → Known s h e

@@ -28,16 +28,13 @@ sleepers_again c n ws c15 le =
     ) refl
 
 given_up_again : (e : End) → GaveUp e → given_up_at (end_word e ∷ []) ≡ Some (e, [])
-given_up_again end.None gave = absurd gave
 given_up_again end.Timeout gave = refl
 given_up_again end.Interrupt gave = refl
-given_up_again end.Signalled gave = absurd gave
+given_up_again _ gave = absurd gave
 
 come_back_again : (e : End) → CameBack e → come_back_at (end_word e ∷ []) ≡ Some (e, [])
 come_back_again end.None came = absurd came
-come_back_again end.Timeout came = refl
-come_back_again end.Interrupt came = refl
-come_back_again end.Signalled came = refl
+come_back_again _ came = refl
 
 recorded_again : (f : Fault) → IsRecorded f → recorded_at (fault_name f ∷ []) ≡ Some (f, [])
 recorded_again fault.NotOwner low = refl
@@ -45,13 +42,7 @@ recorded_again fault.TooManyHolds low = refl
 recorded_again fault.TooManyPermits low = refl
 recorded_again fault.Interrupted low = refl
 recorded_again fault.HoldsRead low = refl
-recorded_again fault.OutOfPhase low = absurd (omega (arith, low))
-recorded_again fault.NoSuchCondition low = absurd (omega (arith, low))
-recorded_again fault.BadAmount low = absurd (omega (arith, low))
-recorded_again fault.WrongMode low = absurd (omega (arith, low))
-recorded_again fault.HistoryFull low = absurd (omega (arith, low))
-recorded_again fault.OutOfMemory low = absurd (omega (arith, low))
-recorded_again fault.TrimFull low = absurd (omega (arith, low))
+recorded_again _ low = absurd (omega (arith, low))
 
 abbrev made : ℕ → Word → Mode → ℕ → ℕ → End → Entry
 made seat w m n at e = record { seat = seat; word = w; mode = m; n = n; at = at; end = e }
@@ -93,12 +84,6 @@ drained_again seat n le = rw (number_at_again 0 MOST_AMOUNT n [] (omega arith) (
 words_are_read : (seat : ℕ) (w : Word) (m : Mode) (n at : ℕ) (e : End) → HasWords w m n at e →
     n ≤ MOST_AMOUNT → at ≤ 15 → entry_at seat (spelt w m n at e) ≡ Some (made seat w m n at e, [])
 unfolding entry_at named_entry_at
-words_are_read seat word.Got m n at e has le c15 = rw (has.0, has.1, asked_again m n [] le) refl
-words_are_read seat word.TryGot m n at e has le c15 = rw (has.0, has.1, asked_again m n [] le) refl
-words_are_read seat word.Queued m n at e has le c15 = rw (has.0, has.1, asked_again m n [] le) refl
-words_are_read seat word.Granted m n at e has le c15 = rw (has.0, has.1, asked_again m n [] le) refl
-words_are_read seat word.Missed m n at e has le c15 = rw (has.0, has.1, asked_again m n [] le) refl
-words_are_read seat word.Gave m n at e has le c15 = rw (has.0, has.1, asked_again m n [] le) refl
 words_are_read seat word.Left m n at e has le c15 = rw (has.0, left_again seat m n e le has.1) refl
 words_are_read seat (word.Refused f) m n at e has le c15 =
     rw (has.0, has.1, refused_again seat f m n le has.2) refl
@@ -110,64 +95,30 @@ words_are_read seat word.Back m n at e has le c15 = rw (has.0, back_again seat a
 words_are_read seat word.Counted m n at e has le c15 =
     rw (has.0, has.1, has.2, has.3, counted_again seat) refl
 words_are_read seat word.Drained m n at e has le c15 = rw (has.0, has.1, has.2, drained_again seat n le) refl
+words_are_read seat _ m n at e has le c15 = rw (has.0, has.1, asked_again m n [] le) refl
 
 pub mode_plain : (m : Mode) → is_plain (mode_word m) ≡ true
 mode_plain X = refl
 mode_plain S = refl
 
 gave_up_plain : (e : End) → GaveUp e → is_plain (end_word e) ≡ true
-gave_up_plain end.None gave = absurd gave
 gave_up_plain end.Timeout gave = refl
 gave_up_plain end.Interrupt gave = refl
-gave_up_plain end.Signalled gave = absurd gave
+gave_up_plain _ gave = absurd gave
 
 came_back_plain : (e : End) → CameBack e → is_plain (end_word e) ≡ true
 came_back_plain end.None came = absurd came
-came_back_plain end.Timeout came = refl
-came_back_plain end.Interrupt came = refl
-came_back_plain end.Signalled came = refl
+came_back_plain _ came = refl
 
 name_plain : (f : Fault) → is_plain (fault_name f) ≡ true
 name_plain fault.NotOwner = refl
-name_plain fault.TooManyHolds = refl
-name_plain fault.TooManyPermits = refl
-name_plain fault.Interrupted = refl
-name_plain fault.HoldsRead = refl
-name_plain fault.OutOfPhase = refl
-name_plain fault.NoSuchCondition = refl
-name_plain fault.BadAmount = refl
-name_plain fault.WrongMode = refl
-name_plain fault.HistoryFull = refl
-name_plain fault.OutOfMemory = refl
-name_plain fault.TrimFull = refl
+name_plain _ = refl
 
--- a mode and an amount, and a condition and an amount, hold no spaces
-asked_plain : (m : Mode) (n : ℕ) → n < 2 ^ 64 → ArePlain (mode_word m ∷ decimal n ∷ [])
-asked_plain m n lt = (mode_plain m, (decimal_plain n lt, tt))
-
-slept_plain : (c n : ℕ) → c < 2 ^ 64 → n < 2 ^ 64 → ArePlain (decimal c ∷ decimal n ∷ [])
-slept_plain c n c64 lt = (decimal_plain c c64, (decimal_plain n lt, tt))
-
+-- and the words of each entry hold no spaces
 spelt_plain : (w : Word) (m : Mode) (n at : ℕ) (e : End) → HasWords w m n at e → n < 2 ^ 64 → at < 2 ^ 64 →
     ArePlain (spelt w m n at e)
-spelt_plain word.Got m n at e has lt c64 = (refl, asked_plain m n lt)
-spelt_plain word.TryGot m n at e has lt c64 = (refl, asked_plain m n lt)
-spelt_plain word.Queued m n at e has lt c64 = (refl, asked_plain m n lt)
-spelt_plain word.Granted m n at e has lt c64 = (refl, asked_plain m n lt)
-spelt_plain word.Missed m n at e has lt c64 = (refl, asked_plain m n lt)
-spelt_plain word.Gave m n at e has lt c64 = (refl, asked_plain m n lt)
-spelt_plain word.Left m n at e has lt c64 =
-    (refl, (mode_plain m, (decimal_plain n lt, (gave_up_plain e has.1, tt))))
-spelt_plain (word.Refused f) m n at e has lt c64 =
-    (refl, (mode_plain m, (decimal_plain n lt, (name_plain f, tt))))
-spelt_plain word.Await m n at e has lt c64 = (refl, slept_plain at n c64 lt)
-spelt_plain word.Lapse m n at e has lt c64 = (refl, (decimal_plain at c64, (gave_up_plain e has.2, tt)))
-spelt_plain word.Signal m n at e has lt c64 = (refl, slept_plain at n c64 lt)
-spelt_plain word.SignalAll m n at e has lt c64 = (refl, slept_plain at n c64 lt)
-spelt_plain word.Back m n at e has lt c64 =
-    (refl, (decimal_plain at c64, (decimal_plain n lt, (came_back_plain e has.1, tt))))
-spelt_plain word.Counted m n at e has lt c64 = (refl, asked_plain m n lt)
-spelt_plain word.Drained m n at e has lt c64 = (refl, asked_plain m n lt)
+spelt_plain (word.Refused f) m n at e has lt c64 = search (arith, mode_plain, name_plain, decimal_plain)
+spelt_plain _ m n at e has lt c64 = search (arith, mode_plain, gave_up_plain, came_back_plain, decimal_plain)
 
 pub plain_entry : (e : Entry) → IsWritten e → ArePlain (entry_words e)
 plain_entry e written =

@@ -1,5 +1,5 @@
 -- An entry that can be folded finds its places in the base.
-use Rattle.std.proofs.Common.{◌≡◌, ◌≢◌, ⊎_elim, ℕ, zero, suc, ◌+◌, ◌<◌, ◌≤◌, ◌^◌, [], ◌∷◌, ◌++◌, length, refl, ap, subst, ◌∙◌, arith, length-append}
+use Rattle.std.proofs.Common.{◌≡◌, ℕ, zero, suc, ◌+◌, ◌<◌, ◌≤◌, ◌^◌, [], ◌∷◌, length, refl, ap, subst, ◌∙◌, arith, length-append}
 use Rattle.std.proofs.lemmas.Bool.{cases_eq}
 use Rattle.std.proofs.lemmas.List.{length-map}
 use Rattle.history.specs.Prelude.{MOST_FOLDED, SeatBase, Entry, Base, based, folded, seat_of, sleepers_of, standing_after, IsGood, IsModest, IsInRange, line, next_base, seat_then, CanFold, sleepers, Start, asleep}
@@ -19,17 +19,7 @@ use Rattle.history.proofs.WhoWaits.{few_wait, idle_leaves_a_place}
 part_asleep : (n : ℕ) (s : Start) (c : ℕ) → c < n → length (sleepers s [] c) ≤ length (asleep n s [])
 part_asleep zero s c l = absurd (omega arith)
 part_asleep (suc n) s c l =
-    ⊎_elim (λ same. here same) (λ ne. before ne (λ m. part_asleep n s c m)) (cases_eq n c)
-  where
-    both : length (asleep n s [] ++ sleepers s [] n) ≡ length (asleep n s []) + length (sleepers s [] n)
-    both = length-append (asleep n s []) (sleepers s [] n)
-
-    here : n ≡ c → length (sleepers s [] c) ≤ length (asleep n s [] ++ sleepers s [] n)
-    here same = let q = ap (λ d. length (sleepers s [] d)) same in omega (arith, both, q)
-
-    before : n ≢ c → (c < n → length (sleepers s [] c) ≤ length (asleep n s [])) →
-        length (sleepers s [] c) ≤ length (asleep n s [] ++ sleepers s [] n)
-    before ne ih = let i = ih (omega (arith, l, ne)) in omega (arith, both, i)
+    grind (arith, cases_eq n c, length-append (asleep n s []) (sleepers s [] n), part_asleep n s c)
 
 module _ (b : Base) (e : Entry) (range : IsInRange b.header) (modest : IsModest b)
     (few : b.entries + 1 ≤ MOST_FOLDED) (can : CanFold b (e ∷ [])) where
@@ -62,8 +52,7 @@ module _ (b : Base) (e : Entry) (range : IsInRange b.header) (modest : IsModest 
   calls_room : (seat_of b e.seat).calls + 1 < 2 ^ 64
   calls_room =
       let part = total_part b.header.seats (λ i. (seat_of b i).calls) e.seat can.seated.0 in
-      let all = can.good.calls in
-      omega (arith, part, all, few)
+      omega (arith, part, can.good.calls, few)
 
   pub fold_places : HasPlaces b e
   fold_places =

@@ -1,10 +1,11 @@
 -- A base and entries behind it, folded, says what they said.
-use Rattle.std.proofs.Common.{◌≡◌, ◌≢◌, ⊎_elim, ℕ, zero, suc, ◌+◌, ◌-◌, ◌<◌, ◌≤◌, Bool, true, false, ◌&&◌, ◌||◌, cond, eqb, List, [], ◌∷◌, ◌++◌, map, length, get_or, replicate, Option, Some, None, refl, ap, ◌∙◌, sym, arith, ◌↔◌, ℤ, pos, ◌+ℤ◌, ◌-ℤ◌, eqb-true, eq-eqb, ne_eqb, length-append, ext_get_or}
+use Rattle.std.proofs.Common.{◌≡◌, ⊎_elim, ℕ, zero, suc, ◌+◌, ◌-◌, ◌<◌, ◌≤◌, Bool, true, false, ◌&&◌, ◌||◌, cond, eqb, List, [], ◌∷◌, ◌++◌, map, length, get_or, replicate, Option, Some, None, refl, ap, ◌∙◌, sym, arith, ◌↔◌, ℤ, pos, ◌+ℤ◌, ◌-ℤ◌, eq-eqb, ne_eqb, length-append, ext_get_or}
 use Rattle.std.specs.List.{AllByRecursion}
 use Rattle.std.proofs.lemmas.Bool.{cases_eq, or_right}
+use Rattle.std.proofs.lemmas.Bool.Decides.{nat_tests}
 use Rattle.std.proofs.lemmas.Int.{ints}
 use Rattle.std.proofs.lemmas.List.{length-replicate, get_or-replicate, get_or_append_left, get_or_at, get_or_past}
-use Rattle.history.specs.Prelude.{Arrival, SeatBase, Sleeper, LinePlace, Entry, Mode, X, S, Object, Lock, ReadWrite, Semaphore, Latch, Base, based, calls_of, each_below, either, folded, holds_of, nothing, or_awake, seat_after, seat_of, sleep_below, sleep_in_line, sleep_on, sleeper_after, sleepers_of, standing_after, stands_from, IsConserved, permits_held, counted, free, held, total, unheld, ends_call, AreCounted, IsGood, StandsWell, AreSeated, IsLegal, calls, line, created, is_semaphore, opening_count, has, last_sleep, sleepers, Sleep, awake, seats_of, times}
+use Rattle.history.specs.Prelude.{Arrival, SeatBase, Sleeper, LinePlace, Entry, Mode, X, S, Object, Base, based, calls_of, each_below, either, folded, nothing, or_awake, seat_after, seat_of, sleep_below, sleep_in_line, sleep_on, sleeper_after, sleepers_of, standing_after, stands_from, IsConserved, permits_held, counted, free, held, total, unheld, ends_call, AreCounted, IsGood, StandsWell, AreSeated, IsLegal, calls, line, created, is_semaphore, opening_count, has, last_sleep, sleepers, Sleep, awake, seats_of, times}
 use Rattle.history.specs.declared.entry.End.TheVariants as end
 use Rattle.history.proofs.Alike.{Alike, ReturnAlike, alike_next, entry_alike}
 use Rattle.history.proofs.Entering.{known}
@@ -21,32 +22,27 @@ use Rattle.history.proofs.WhoWaits.{no_sleepers_above}
 -- a list of a value for each number
 pub length-each : {A : Type 0} (n : ℕ) (f : ℕ → A) → length (each_below n f) ≡ n
 length-each zero f = refl
-length-each (suc n) f =
-    let l = length-append (each_below n f) (f n ∷ []) in
-    let i = length-each n f in
-    omega (arith, l, i)
+length-each (suc n) f = omega (arith, length-append (each_below n f) (f n ∷ []), length-each n f)
 
 pub get_or-each : {A : Type 0} (n : ℕ) (f : ℕ → A) (i : ℕ) (d : A) → i < n → get_or (each_below n f) i d ≡ f i
 get_or-each zero f i d l = absurd (omega arith)
 get_or-each (suc n) f i d l =
-    ⊎_elim (λ same. here same) (λ ne. before ne (λ m. get_or-each n f i d m)) (cases_eq n i)
-  where
-    here : n ≡ i → get_or (each_below n f ++ f n ∷ []) i d ≡ f i
-    here e = get_or_at (each_below n f) (f n) [] d i (length-each n f ∙ e) ∙ ap f e
+    ⊎_elim
+    (λ same. get_or_at (each_below n f) (f n) [] d i (length-each n f ∙ same) ∙ ap f same)
+    (λ ne. let m : i < n = omega (arith, ne, l) in
+    get_or_append_left (each_below n f) (f n ∷ []) d i (omega (arith, length-each n f, m))
+    ∙ get_or-each n f i d m)
+    (cases_eq n i)
 
-    before : n ≢ i → (i < n → get_or (each_below n f) i d ≡ f i) →
-        get_or (each_below n f ++ f n ∷ []) i d ≡ f i
-    before ne ih =
-        let m : i < n = omega (arith, ne, l) in
-        get_or_append_left (each_below n f) (f n ∷ []) d i (let n = length-each n f in omega (arith, n, m))
-        ∙ ih m
+list_again : {A : Type 0} (d : A) (xs : List A) (n : ℕ) (f : ℕ → A) → length xs ≡ n →
+    ((i : ℕ) → i < n → f i ≡ get_or xs i d) → each_below n f ≡ xs
+list_again d xs n f len same =
+    ext_get_or d (each_below n f) xs (length-each n f ∙ sym len)
+    (λ i l. let m : i < n = omega (arith, length-each n f, l) in get_or-each n f i d m ∙ same i m)
 
 pub each_same : {A : Type 0} (n : ℕ) (d : A) → each_below n (λ i. d) ≡ replicate n d
 each_same n d =
-    ext_get_or d (each_below n (λ i. d)) (replicate n d) (length-each n (λ i. d) ∙ sym (length-replicate n d))
-    (λ i l.
-    let m : i < n = let e = length-each n (λ (i : ℕ). d) in omega (arith, e, l) in
-    get_or-each n (λ i. d) i d m ∙ sym (get_or-replicate n i d d m))
+    list_again d (replicate n d) n (λ i. d) (length-replicate n d) (λ i l. sym (get_or-replicate n i d d l))
 
 pub each_agree : {A : Type 0} (n : ℕ) (f g : ℕ → A) → ((i : ℕ) → i < n → f i ≡ g i) →
     each_below n f ≡ each_below n g
@@ -73,52 +69,30 @@ pub none_beyond : (b : Base) (g : List Entry) → length b.seats ≡ b.header.se
     (i : ℕ) →
     b.header.seats ≤ i → (m : Mode) → held (based b) g i m ≡ 0
 none_beyond b [] seats s i l m =
-    ap (λ x. holds_of x m) (get_or_past b.seats i nothing (omega (arith, seats, l))) ∙ by m
-  where
-    by : (m : Mode) → holds_of nothing m ≡ 0
-    by X = refl
-    by S = refl
+    let past = get_or_past b.seats i nothing (omega (arith, seats, l)) in grind (arith, past)
 none_beyond b (e ∷ g) seats s i l m =
     held_other (based b) e g i m (λ same. (let f = s.0 in omega (arith, f, l, same)))
     ∙ none_beyond b g seats s.1 i l m
 
 holds_folded : (b : Base) (g : List Entry) → length b.seats ≡ b.header.seats → AreSeated (based b) g →
     (i : ℕ) (m : Mode) → held (based b) g i m ≡ held (based (folded b g)) [] i m
-holds_folded b g seats s i m = ⊎_elim within beyond (cases_below i b.header.seats)
-  where
-    of : (m : Mode) → held (based b) g i m ≡ holds_of (seat_after b g i) m
-    of X = refl
-    of S = refl
-
-    within : i < b.header.seats → held (based b) g i m ≡ held (based (folded b g)) [] i m
-    within l = of m ∙ sym (ap (λ x. holds_of x m) (seat_folded b g i l))
-
-    none : (m : Mode) → 0 ≡ holds_of nothing m
-    none X = refl
-    none S = refl
-
-    beyond : b.header.seats ≤ i → held (based b) g i m ≡ held (based (folded b g)) [] i m
-    beyond l =
-        none_beyond b g seats s i l m ∙ none m
-        ∙ sym (ap (λ x. holds_of x m) (get_or_past (each_below b.header.seats (seat_after b g)) i nothing
-        (let n = length-each b.header.seats (seat_after b g) in omega (arith, n, l))))
+holds_folded b g seats s i m =
+    ⊎_elim (λ l. let f = seat_folded b g i l in grind (arith, f))
+    (λ l. let n = none_beyond b g seats s i l m in
+    let p = get_or_past (each_below b.header.seats (seat_after b g)) i nothing
+    (omega (arith, length-each b.header.seats (seat_after b g), l)) in grind (arith, n, p))
+    (cases_below i b.header.seats)
 
 -- the calls of all seats are the calls
 pub calls_counted : (b : Base) (g : List Entry) → AreSeated (based b) g →
     total b.header.seats (calls_of b g) ≡ calls (based b) g
 calls_counted b [] s = refl
 calls_counted b (e ∷ g) s =
-    let more = total_change b.header.seats (calls_of b (e ∷ g)) (calls_of b g) e.seat s.0 (λ i ne.
-    other i (λ q. ne (sym q))) in
-    let before = calls_counted b g s.1 in
-    let now = own in
-    omega (arith, more, before, now)
-  where
-    other : (i : ℕ) → e.seat ≢ i → calls_of b (e ∷ g) i ≡ calls_of b g i
-    other i ne = rw (ne_eqb e.seat i ne) (omega arith)
-
-    own : calls_of b (e ∷ g) e.seat ≡ calls_of b g e.seat + cond (ends_call e.word) 1 0
-    own = rw (eq-eqb e.seat e.seat refl) refl
+    let own : calls_of b (e ∷ g) e.seat ≡ calls_of b g e.seat + cond (ends_call e.word) 1 0 =
+    rw (eq-eqb e.seat e.seat refl) refl in
+    let more = total_change b.header.seats (calls_of b (e ∷ g)) (calls_of b g) e.seat s.0
+    (λ i ne. rw (ne_eqb e.seat i (λ q. ne (sym q))) (omega arith)) in
+    omega (arith, own, more, calls_counted b g s.1)
 
 calls_folded : (b : Base) (g : List Entry) → AreSeated (based b) g →
     calls (based b) g ≡ calls (based (folded b g)) []
@@ -153,21 +127,14 @@ count_again n x = omega arith
 -- who sleeps on a condition
 sleepers_folded : (b : Base) (g : List Entry) → Waits (based b) g → (c : ℕ) →
     sleepers (based b) g c ≡ sleepers (based (folded b g)) [] c
-sleepers_folded b g v c = ⊎_elim within beyond (cases_below c b.header.conditions)
-  where
-    of : ℕ → List Sleeper
-    of c = map (sleeper_after b g) (sleepers (based b) g c)
-
-    within : c < b.header.conditions → sleepers (based b) g c ≡ sleepers (based (folded b g)) [] c
-    within l =
-        sym (seats_again b g (sleepers (based b) g c))
-        ∙ sym (ap (map (λ x. x.seat)) (get_or-each b.header.conditions of c [] l))
-
-    beyond : b.header.conditions ≤ c → sleepers (based b) g c ≡ sleepers (based (folded b g)) [] c
-    beyond l =
-        no_sleepers_above (based b) g v c l
-        ∙ sym (ap (map (λ x. x.seat)) (get_or_past (each_below b.header.conditions of) c []
-        (let n = length-each b.header.conditions of in omega (arith, n, l))))
+sleepers_folded b g v c =
+    let of = λ (c : ℕ). map (sleeper_after b g) (sleepers (based b) g c) in
+    ⊎_elim
+    (λ l. sym (ap (map (λ x. x.seat)) (get_or-each b.header.conditions of c [] l)
+    ∙ seats_again b g (sleepers (based b) g c)))
+    (λ l. no_sleepers_above (based b) g v c l
+    ∙ sym (ap (map (λ x. x.seat)) (get_or_past (each_below b.header.conditions of) c []
+    (omega (arith, length-each b.header.conditions of, l))))) (cases_below c b.header.conditions)
 
 -- who comes back in a line
 abbrev comes_at : ℕ → List Arrival → Bool
@@ -180,118 +147,50 @@ module _ (b : Base) (g : List Entry) (i : ℕ) where
       sleep_in_line i (map (standing_after b g) q)
       ≡ cond (comes_at i q) (Some (last_sleep (based b) g i)) None
   line_found [] = refl
-  line_found (a ∷ q) = by a.back (eqb a.seat i) refl (line_found q)
-    where
-      at : Sleep → Option Sleep
-      at w = Some (record { condition = w.condition; holds = w.holds; how = w.how })
-
-      rest : Option Sleep
-      rest = sleep_in_line i (map (standing_after b g) q)
-
-      by : (r t : Bool) → eqb a.seat i ≡ t →
-          rest ≡ cond (comes_at i q) (Some (last_sleep (based b) g i)) None →
-          cond (r && t) (at (cond r (last_sleep (based b) g a.seat) awake)) rest
-          ≡ cond ((r && t) || comes_at i q) (Some (last_sleep (based b) g i)) None
-      by true true e ih = ap (λ n. at (last_sleep (based b) g n)) (eqb-true a.seat i e)
-      by true false e ih = ih
-      by false t e ih = ih
+  line_found (a ∷ q) = grind (arith, nat_tests, line_found q)
 
   on_found : (c : ℕ) (xs : List ℕ) → ((j : ℕ) → has j xs ≡ true → Sleeps (based b) g c j) →
       sleep_on c i (map (sleeper_after b g) xs) ≡ cond (has i xs) (Some (last_sleep (based b) g i)) None
   on_found c [] well = refl
   on_found c (x ∷ xs) well =
-      by (eqb x i) refl (on_found c xs (λ j t. well j (or_right (eqb x j) (has j xs) t)))
-    where
-      at : ℕ → Option Sleep
-      at n = Some (record { condition = c; holds = n; how = end.Signalled })
-
-      here : x ≡ i → at (last_sleep (based b) g x).holds ≡ Some (last_sleep (based b) g i)
-      here e =
-          let w = well x (ap (λ b. b || has x xs) (eq-eqb x x refl)) in
-          (λ j. Some (record {
-            condition = sym w.condition j;
-            holds = (last_sleep (based b) g x).holds;
-            how = sym w.how j;
-          }))
-          ∙ ap (λ n. Some (last_sleep (based b) g n)) e
-
-      by : (t : Bool) → eqb x i ≡ t →
-          sleep_on c i (map (sleeper_after b g) xs) ≡ cond (has i xs) (Some (last_sleep (based b) g i)) None →
-          cond t (at (last_sleep (based b) g x).holds) (sleep_on c i (map (sleeper_after b g) xs))
-          ≡ cond (t || has i xs) (Some (last_sleep (based b) g i)) None
-      by true e ih = here (eqb-true x i e)
-      by false e ih = ih
+      let ih = on_found c xs (λ j t. well j (or_right (eqb x j) (has j xs) t)) in
+      let w = well x (ap (λ b. b || has x xs) (eq-eqb x x refl)) in
+      grind (arith, nat_tests, ih, w.condition, w.how)
 
   below_found : Waits (based b) g → (n c : ℕ) → n ≤ b.header.conditions → c < n →
       has i (sleepers (based b) g c) ≡ true →
       sleep_below n (folded b g) i ≡ Some (last_sleep (based b) g i)
   below_found v zero c l m t = absurd (omega arith)
   below_found v (suc n) c l m t =
-      by (has i (sleepers (based b) g n)) refl (λ k. below_found v n c (omega (arith, l)) k t)
-    where
-      of : ℕ → List Sleeper
-      of c = map (sleeper_after b g) (sleepers (based b) g c)
-
-      on : sleep_on n i (sleepers_of (folded b g) n)
-          ≡ cond (has i (sleepers (based b) g n)) (Some (last_sleep (based b) g i)) None
-      on =
-          ap (sleep_on n i) (get_or-each b.header.conditions of n [] l)
-          ∙ on_found n (sleepers (based b) g n) (λ j u. v.sleepers n j u)
-
-      by : (r : Bool) → has i (sleepers (based b) g n) ≡ r →
-          (c < n → sleep_below n (folded b g) i ≡ Some (last_sleep (based b) g i)) →
-          sleep_below (suc n) (folded b g) i ≡ Some (last_sleep (based b) g i)
-      by true e ih =
-          ap (λ w. either w (sleep_below n (folded b g) i))
-          (on ∙ ap (λ r. cond r (Some (last_sleep (based b) g i)) None) e)
-      by false e ih =
-          ap (λ w. either w (sleep_below n (folded b g) i))
-          (on ∙ ap (λ r. cond r (Some (last_sleep (based b) g i)) None) e)
-          ∙ ih (let ne : n ≢ c = λ same. (let u = ap (λ x. has i (sleepers (based b) g x)) same in
-          cc (t, e, u)) in
-          omega (arith, m, ne))
+      let asleep = λ (c : ℕ). map (sleeper_after b g) (sleepers (based b) g c) in
+      let found = get_or-each b.header.conditions asleep n [] l in
+      let on : sleep_on n i (sleepers_of (folded b g) n)
+      ≡ cond (has i (sleepers (based b) g n)) (Some (last_sleep (based b) g i)) None =
+      ap (sleep_on n i) found ∙ on_found n (sleepers (based b) g n) (λ j u. v.sleepers n j u) in
+      grind (arith, nat_tests, on, below_found v n c)
 
   -- the last sleep, where a fold finds the seat in its line or on its conditions
   slept : (r : Bool) → comes_at i (line (based b) g) ≡ r →
       (r ≡ false → sleep_below b.header.conditions (folded b g) i ≡ Some (last_sleep (based b) g i)) →
       last_sleep (based b) g i ≡ last_sleep (based (folded b g)) [] i
-  slept r e below =
-      sym (ap (λ w. or_awake (either w other))
-      (line_found (line (based b) g) ∙ ap (λ x. cond x (Some (last_sleep (based b) g i)) None) e)
-      ∙ by r below)
-    where
-      other : Option Sleep
-      other = sleep_below b.header.conditions (folded b g) i
-
-      by : (r : Bool) → (r ≡ false → other ≡ Some (last_sleep (based b) g i)) →
-          or_awake (either (cond r (Some (last_sleep (based b) g i)) None) other) ≡ last_sleep (based b) g i
-      by true below = refl
-      by false below = ap or_awake (below refl)
+  slept r e below = grind (arith, e, below, line_found (line (based b) g))
 
   sleeper_found : Waits (based b) g → (c : ℕ) → has i (sleepers (based b) g c) ≡ true →
       last_sleep (based b) g i ≡ last_sleep (based (folded b g)) [] i
   sleeper_found v c t =
+      let u = v.sleepers c i t in
+      let below : c < b.header.conditions = omega (arith, u.saved.condition, u.condition) in
       slept (comes_at i (line (based b) g)) refl
       (λ _. below_found v b.header.conditions c (omega arith) below t)
-    where
-      below : c < b.header.conditions
-      below =
-          let s = v.sleepers c i t in
-          let l = s.saved.condition in
-          let q = s.condition in
-          omega (arith, l, q)
 
 each_returns : (b : Base) (g : List Entry) (q : List Arrival) →
     ((i : ℕ) → comes_at i q ≡ true → comes_at i (line (based b) g) ≡ true) →
     AllByRecursion (ReturnAlike b.header (based b) (based (folded b g)) g []) q
 each_returns b g [] up = tt
 each_returns b g (a ∷ q) up = (
-  λ r. slept b g a.seat true (up a.seat (here r)) (λ f. absurd (cc)),
+  λ r. slept b g a.seat true (up a.seat (rw (r, eq-eqb a.seat a.seat refl) refl)) (λ f. absurd (cc)),
   each_returns b g q (λ i t. up i (or_right (a.back && eqb a.seat i) (comes_at i q) t)),
 )
-  where
-    here : a.back ≡ true → ((a.back && eqb a.seat a.seat) || comes_at a.seat q) ≡ true
-    here r = rw (r, eq-eqb a.seat a.seat refl) refl
 
 -- What a base says of legal entries is what their fold says.
 pub fold_alike : (b : Base) (g : List Entry) → IsGood b → IsLegal (based b) g → AreSeated (based b) g →
@@ -350,13 +249,9 @@ standing_alike : (b : Base) (g h : List Entry) (q : List Arrival) →
     map (standing_after (folded b g) h) q ≡ map (standing_after b (h ++ g)) q
 standing_alike b g h [] all = refl
 standing_alike b g h (a ∷ q) all =
-    λ j. stands_from a (sleep a.back refl j) ∷ standing_alike b g h q all.1 j
-  where
-    sleep : (r : Bool) → a.back ≡ r →
-        cond r (last_sleep (based (folded b g)) h a.seat) awake
-        ≡ cond r (last_sleep (based b) (h ++ g) a.seat) awake
-    sleep true e = sym (all.0 e)
-    sleep false e = refl
+    let sleep : cond a.back (last_sleep (based (folded b g)) h a.seat) awake
+    ≡ cond a.back (last_sleep (based b) (h ++ g) a.seat) awake = grind (arith, all.0) in
+    λ j. stands_from a (sleep j) ∷ standing_alike b g h q all.1 j
 
 sleeper_alike : (b : Base) (g h : List Entry) (xs : List ℕ) →
     ((i : ℕ) → has i xs ≡ true → last_sleep (based b) (h ++ g) i ≡ last_sleep (based (folded b g)) h i) →
@@ -391,7 +286,7 @@ folds_on b g h good s legal =
     a = goes_on b g h good s legal
 
     entries : b.entries + length g + length h ≡ b.entries + length (h ++ g)
-    entries = let l = length-append h g in omega (arith, l)
+    entries = omega (arith, length-append h g)
 
     seat : (i : ℕ) → i < b.header.seats → seat_after (folded b g) h i ≡ seat_after b (h ++ g) i
     seat i l =
@@ -415,22 +310,11 @@ folds_on b g h good s legal =
         ∙ sleeper_alike b g h (sleepers (based b) (h ++ g) c) (a.sleeping c)
 
 -- The fold of no entries is the base.
-list_again : {A : Type 0} (d : A) (xs : List A) (n : ℕ) (f : ℕ → A) → length xs ≡ n →
-    ((i : ℕ) → i < n → f i ≡ get_or xs i d) → each_below n f ≡ xs
-list_again d xs n f len same =
-    ext_get_or d (each_below n f) xs (length-each n f ∙ sym len)
-    (λ i l.
-    let m : i < n = let e = length-each n f in omega (arith, e, l) in
-    get_or-each n f i d m ∙ same i m)
-
 count_kept : (n c : ℕ) → c ≤ n → n - (n - c) ≡ c
 count_kept n c l = omega arith
 
 pub few_counted : (o : Object) (b : Base) → AreCounted o b → b.count ≤ opening_count o
-few_counted (Lock p) b v = let z = v.1 in omega (arith, z)
-few_counted (ReadWrite p) b v = let z = v.1 in omega (arith, z)
-few_counted (Semaphore p c) b v = let z = v.1 in omega (arith, z)
-few_counted (Latch c) b v = v.1
+few_counted o b v = grind arith
 
 -- the sleep of each that stands in a line once is found there
 abbrev kept_of : LinePlace → Sleep
@@ -443,34 +327,20 @@ past_one : (p : LinePlace) (find : ℕ → Option Sleep) (q : List LinePlace) �
     times p.who.seat (seats_of (map (λ p. p.who) q)) ≡ 0 → AllByRecursion (FoundAs find) q →
     AllByRecursion (FoundAs (λ i. cond (p.who.back && eqb p.who.seat i) (Some (kept_of p)) (find i))) q
 past_one p find [] z all = tt
-past_one p find (x ∷ q) z all = (λ r. other r (all.0 r), past_one p find q (omega (arith, z)) all.1)
-  where
-    apart : eqb p.who.seat x.who.seat ≡ false
-    apart = ne_eqb p.who.seat x.who.seat
-        (λ e. let o = once_same x.who.seat p.who.seat (sym e) in omega (arith, z, o))
-
-    other : x.who.back ≡ true → find x.who.seat ≡ Some (kept_of x) →
-        cond (p.who.back && eqb p.who.seat x.who.seat) (Some (kept_of p)) (find x.who.seat) ≡ Some (kept_of x)
-    other r f = by p.who.back
-      where
-        by : (t : Bool) →
-            cond (t && eqb p.who.seat x.who.seat) (Some (kept_of p)) (find x.who.seat) ≡ Some (kept_of x)
-        by true = rw apart f
-        by false = f
+past_one p find (x ∷ q) z all = (
+  λ r. let f = all.0 r in let o = once_same x.who.seat p.who.seat in grind (arith, nat_tests, z, f, o),
+  past_one p find q (omega (arith, z)) all.1,
+)
 
 each_found : (q : List LinePlace) → ((i : ℕ) → times i (seats_of (map (λ p. p.who) q)) ≤ 1) →
     AllByRecursion (FoundAs (λ i. sleep_in_line i q)) q
 each_found [] one = tt
 each_found (p ∷ q) one = (
   λ r. rw (r, eq-eqb p.who.seat p.who.seat refl) refl,
-  past_one p (λ i. sleep_in_line i q) q rest (each_found q (λ i. let o = one i in omega (arith, o))),
+  past_one p (λ i. sleep_in_line i q) q
+      (omega (arith, one p.who.seat, once_same p.who.seat p.who.seat refl))
+      (each_found q (λ i. omega (arith, one i))),
 )
-  where
-    rest : times p.who.seat (seats_of (map (λ p. p.who) q)) ≡ 0
-    rest =
-        let o = one p.who.seat in
-        let s = once_same p.who.seat p.who.seat refl in
-        omega (arith, o, s)
 
 pub standing_again : (b : Base) (p : LinePlace) → StandsWell b p → FoundAs (λ i. sleep_in_line i b.line) p →
     standing_after b [] p.who ≡ p
@@ -497,12 +367,9 @@ each_again b [] well found = tt
 each_again b (p ∷ q) well found =
     (standing_again b p well.0 found.0, each_again b q well.1 found.1)
 
-line_once : (b : Base) → IsGood b → (i : ℕ) → times i (seats_of (map (λ p. p.who) b.line)) ≤ 1
-line_once b good i = let w = waits_once b good i in omega (arith, w)
-
 -- each that stands in line is written again as it is
 pub all_again : (b : Base) → IsGood b → AllByRecursion (λ p. standing_after b [] p.who ≡ p) b.line
-all_again b good = each_again b b.line good.line (each_found b.line (line_once b good))
+all_again b good = each_again b b.line good.line (each_found b.line (λ i. omega (arith, waits_once b good i)))
 
 line_again : (b : Base) (q : List LinePlace) → AllByRecursion (λ p. standing_after b [] p.who ≡ p) q →
     map (standing_after b []) (map (λ p. p.who) q) ≡ q
@@ -518,24 +385,18 @@ past_sleeper : (c : ℕ) (y : Sleeper) (find : ℕ → Option Sleep) (xs : List 
     AllByRecursion (HeldAs (λ i. cond (eqb y.seat i)
     (Some (record { condition = c; holds = y.holds; how = end.Signalled })) (find i))) xs
 past_sleeper c y find [] z all = tt
-past_sleeper c y find (x ∷ xs) z all = (
-  (all.0.0, rw apart all.0.1, all.0.2),
-  past_sleeper c y find xs (omega (arith, z)) all.1,
-)
-  where
-    apart : eqb y.seat x.seat ≡ false
-    apart = ne_eqb y.seat x.seat (λ e. let o = once_same x.seat y.seat (sym e) in omega (arith, z, o))
+past_sleeper c y find (x ∷ xs) z all =
+    let apart = ne_eqb y.seat x.seat (λ e. omega (arith, z, once_same x.seat y.seat (sym e))) in
+    ((all.0.0, rw apart all.0.1, all.0.2), past_sleeper c y find xs (omega (arith, z)) all.1)
 
 each_held : (c : ℕ) (xs : List Sleeper) → ((i : ℕ) → times i (map (λ x. x.seat) xs) ≤ 1) →
     AllByRecursion (HeldAs (λ i. sleep_on c i xs)) xs
 each_held c [] one = tt
 each_held c (x ∷ xs) one = (
   (record { condition = c; holds = x.holds; how = end.Signalled }, rw (eq-eqb x.seat x.seat refl) refl, refl),
-  past_sleeper c x (λ i. sleep_on c i xs) xs rest (each_held c xs (λ i. let o = one i in omega (arith, o))),
+  past_sleeper c x (λ i. sleep_on c i xs) xs (omega (arith, one x.seat, once_same x.seat x.seat refl))
+      (each_held c xs (λ i. omega (arith, one i))),
 )
-  where
-    rest : times x.seat (map (λ x. x.seat) xs) ≡ 0
-    rest = let o = one x.seat in let s = once_same x.seat x.seat refl in omega (arith, o, s)
 
 one_found : (v w : Sleep) → Some v ≡ Some w → v ≡ w
 one_found v w q = cc
@@ -562,20 +423,16 @@ each_slept b good c (x ∷ xs) kept up = (
     slept : last_sleep (based b) [] x.seat ≡ sleep_of c x.holds
     slept =
         let found = slept_there b good c x.seat there in
-        let one : Some (sleep_of c found.0) ≡ Some kept.0.0 = sym found.1 ∙ kept.0.1 in
-        let holds : found.0 ≡ x.holds =
-        ap (λ (w : Sleep). w.holds) (one_found (sleep_of c found.0) kept.0.0 one) ∙ kept.0.2 in
-        found.2 ∙ ap (sleep_of c) holds
+        found.2 ∙ ap (sleep_of c) (ap (λ (w : Sleep). w.holds)
+        (one_found (sleep_of c found.0) kept.0.0 (sym found.1 ∙ kept.0.1)) ∙ kept.0.2)
 
 pub all_slept : (b : Base) → IsGood b → (c : ℕ) → c < b.header.conditions →
     AllByRecursion (SleptAs b c) (sleepers_of b c)
 all_slept b good c l =
     each_slept b good c (sleepers_of b c)
     (each_held c (sleepers_of b c) (λ i.
-    let w = waits_once b good i in
     let p = total_part b.header.conditions (λ d. times i (map (λ x. x.seat) (sleepers_of b d))) c l in
-    omega (arith, w, p)))
-    (λ i t. t)
+    omega (arith, p, waits_once b good i))) (λ i t. t)
 
 sleepers_again : (b : Base) (c : ℕ) (xs : List Sleeper) → AllByRecursion (SleptAs b c) xs →
     map (sleeper_after b []) (map (λ x. x.seat) xs) ≡ xs

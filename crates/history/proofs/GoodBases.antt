@@ -2,12 +2,13 @@
 use Rattle.std.proofs.Common.{◌≡◌, ◌≢◌, ⊎_elim, ℕ, zero, suc, ◌+◌, ◌<◌, ◌≤◌, Bool, true, false, ◌&&◌, ◌||◌, cond, eqb, List, [], ◌∷◌, map, Some, None, refl, ap, ◌∙◌, sym, subst, arith, eqb-true, eq-eqb}
 use Rattle.std.specs.List.{AllByRecursion}
 use Rattle.std.proofs.lemmas.Bool.{cases_eq, or_right}
-use Rattle.history.specs.Prelude.{Arrival, Sleeper, LinePlace, X, Object, Lock, ReadWrite, Semaphore, Latch, Base, based, either, or_awake, sleep_below, sleep_in_line, sleep_on, sleepers_of, held, total, AreHeld, GaveUp, IsGood, SleepsWell, StandsWell, line, is_lock, IsOwned, most_exclusive, has, last_sleep, sleepers, Sleep, seats_of, times}
+use Rattle.std.proofs.lemmas.Bool.Decides.{nat_tests}
+use Rattle.history.specs.Prelude.{Arrival, Sleeper, LinePlace, Object, Lock, ReadWrite, Base, based, either, or_awake, sleep_below, sleep_in_line, sleep_on, sleepers_of, total, AreHeld, GaveUp, IsGood, SleepsWell, StandsWell, line, is_lock, IsOwned, most_exclusive, has, last_sleep, sleepers, Sleep, seats_of, times}
 use Rattle.history.specs.declared.entry.End.TheVariants as end
 use Rattle.history.proofs.LineLemmas.{line_at_first}
 use Rattle.history.proofs.OneWait.{Saved, SavedIfBack, Sleeps, Waits}
 use Rattle.history.proofs.SleepLemmas.{times-waiting}
-use Rattle.history.proofs.Times.{has_once, never_has, once_same, total_part}
+use Rattle.history.proofs.Times.{has_once, never_has, total_part}
 
 abbrev pub sleep_of : ℕ → ℕ → Sleep
 sleep_of c n = record { condition = c; holds = n; how = end.Signalled }
@@ -17,25 +18,11 @@ found_on : (b : Base) (c i : ℕ) (xs : List Sleeper) → AllByRecursion (Sleeps
     has i (map (λ x. x.seat) xs) ≡ true →
     (n : ℕ) × (sleep_on c i xs ≡ Some (sleep_of c n)) × GaveUp b i c n
 found_on b c i [] all t = cc
-found_on b c i (x ∷ xs) all t = by (eqb x.seat i) refl t (λ u. found_on b c i xs all.1 u)
-  where
-    by : (q : Bool) → eqb x.seat i ≡ q → (q || has i (map (λ x. x.seat) xs)) ≡ true →
-        (has i (map (λ x. x.seat) xs) ≡ true →
-        (n : ℕ) × (sleep_on c i xs ≡ Some (sleep_of c n)) × GaveUp b i c n) →
-        (n : ℕ) × (cond q (Some (sleep_of c x.holds)) (sleep_on c i xs) ≡ Some (sleep_of c n))
-        × GaveUp b i c n
-    by true e u ih = (x.holds, refl, subst (λ j. GaveUp b j c x.holds) (eqb-true x.seat i e) all.0)
-    by false e u ih = ih u
+found_on b c i (x ∷ xs) all t = grind (arith, nat_tests, found_on b c i xs all.1)
 
 not_on : (c i : ℕ) (xs : List Sleeper) → has i (map (λ x. x.seat) xs) ≡ false → sleep_on c i xs ≡ None
 not_on c i [] f = refl
-not_on c i (x ∷ xs) f = by (eqb x.seat i) f (λ u. not_on c i xs u)
-  where
-    by : (q : Bool) → (q || has i (map (λ x. x.seat) xs)) ≡ false →
-        (has i (map (λ x. x.seat) xs) ≡ false → sleep_on c i xs ≡ None) →
-        cond q (Some (sleep_of c x.holds)) (sleep_on c i xs) ≡ None
-    by true u ih = cc
-    by false u ih = ih u
+not_on c i (x ∷ xs) f = grind (arith, not_on c i xs)
 
 -- whoever sleeps on one condition alone is found there
 found_below : (b : Base) (i c n d : ℕ) → d < n → sleep_on d i (sleepers_of b d) ≡ Some (sleep_of d c) →
@@ -43,35 +30,15 @@ found_below : (b : Base) (i c n d : ℕ) → d < n → sleep_on d i (sleepers_of
     sleep_below n b i ≡ Some (sleep_of d c)
 found_below b i c zero d l here none = absurd (omega arith)
 found_below b i c (suc n) d l here none =
-    ⊎_elim same (λ ne. other ne (λ m rest. found_below b i c n d m here rest)) (cases_eq n d)
-  where
-    same : n ≡ d → sleep_below (suc n) b i ≡ Some (sleep_of d c)
-    same q = ap (λ w. either w (sleep_below n b i))
-        (ap (λ x. sleep_on x i (sleepers_of b x)) q ∙ here)
-
-    other : n ≢ d →
-        (d < n → ((x : ℕ) → x < n → x ≢ d → sleep_on x i (sleepers_of b x) ≡ None) →
-        sleep_below n b i ≡ Some (sleep_of d c)) →
-        sleep_below (suc n) b i ≡ Some (sleep_of d c)
-    other ne ih =
-        ap (λ w. either w (sleep_below n b i)) (none n (omega arith) ne)
-        ∙ ih (omega (arith, ne, l)) (λ x m. none x (omega (arith, m)))
+    let ih : d < n → sleep_below n b i ≡ Some (sleep_of d c) =
+    λ m. found_below b i c n d m here (λ x k. none x (omega (arith, k))) in
+    grind (arith, cases_eq n d, none n (omega arith), ih)
 
 -- one who is in no line comes back from nowhere
 not_in_line : (i : ℕ) (q : List LinePlace) → times i (seats_of (map (λ p. p.who) q)) ≡ 0 →
     sleep_in_line i q ≡ None
 not_in_line i [] z = refl
-not_in_line i (p ∷ q) z =
-    by p.who.back (eqb p.who.seat i) refl (not_in_line i q (omega (arith, z)))
-  where
-    by : (r t : Bool) → eqb p.who.seat i ≡ t → sleep_in_line i q ≡ None →
-        cond (r && t) (Some (record { condition = p.condition; holds = p.holds; how = p.how }))
-        (sleep_in_line i q)
-        ≡ None
-    by true true e ih =
-        let o = once_same p.who.seat i (eqb-true p.who.seat i e) in absurd (omega (arith, z, o))
-    by true false e ih = ih
-    by false t e ih = ih
+not_in_line i (p ∷ q) z = grind (arith, nat_tests, not_in_line i q)
 
 -- who comes back in a line is found there with a sleep that it gave up its holds for
 abbrev comes_in : ℕ → List LinePlace → Bool
@@ -111,23 +78,7 @@ found_in_line b i (p ∷ q) all t =
 total_two : (n : ℕ) (f : ℕ → ℕ) (c d : ℕ) → c < n → d < n → c ≢ d → f c + f d ≤ total n f
 total_two zero f c d l m ne = absurd (omega arith)
 total_two (suc n) f c d l m ne =
-    ⊎_elim first
-    (λ x. ⊎_elim (second x) (λ y. rest x y (λ l m. total_two n f c d l m ne)) (cases_eq n d)) (cases_eq n c)
-  where
-    first : n ≡ c → f c + f d ≤ total (suc n) f
-    first e =
-        let p = total_part n f d (omega (arith, e, m, ne)) in
-        let q : f n ≡ f c = ap f e in
-        omega (arith, p, q)
-
-    second : n ≢ c → n ≡ d → f c + f d ≤ total (suc n) f
-    second x e =
-        let p = total_part n f c (omega (arith, x, l)) in
-        let q : f n ≡ f d = ap f e in
-        omega (arith, p, q)
-
-    rest : n ≢ c → n ≢ d → (c < n → d < n → f c + f d ≤ total n f) → f c + f d ≤ total (suc n) f
-    rest x y ih = let p = ih (omega (arith, x, l)) (omega (arith, y, m)) in omega (arith, p)
+    grind (arith, cases_eq n c, cases_eq n d, total_part n f c, total_part n f d, total_two n f c d)
 
 module _ (b : Base) (good : IsGood b) where
   line_is : line (based b) [] ≡ map (λ p. p.who) b.line
@@ -236,8 +187,7 @@ module _ (b : Base) (good : IsGood b) where
       by : (o : Object) → is_lock o ≡ true → AreHeld o b → IsOwned (based b) []
       by (Lock p) t v = v
       by (ReadWrite p) t v = v
-      by (Semaphore p c) t v = absurd (cc)
-      by (Latch c) t v = absurd (cc)
+      by _ t v = absurd (cc)
 
   pub good_waits : Waits (based b) []
   good_waits =

@@ -2,19 +2,20 @@
 use Rattle.std.proofs.Common.{◌≡◌, ◌≢◌, inl, inr, ⊎_elim, ℕ, ◌+◌, ◌*◌, ◌<◌, ◌≤◌, Bool, true, false, ◌&&◌, ◌||◌, cond, eqb, List, [], ◌∷◌, map, take, length, Some, Ok, refl, ap, ◌∙◌, sym, subst, arith, ℤ, pos, ◌≤ℤ◌, FitsSigned, eq-eqb}
 use Rattle.std.specs.List.{AllByRecursion}
 use Rattle.std.specs.Int.{w32}
-use Rattle.std.proofs.lemmas.Bool.{or_right}
+use Rattle.std.proofs.lemmas.Bool.{cases_Bool, or_right}
 use Rattle.std.proofs.lemmas.Int.{ints}
 use Rattle.std.proofs.lemmas.List.{get_or_past}
-use Rattle.history.specs.Prelude.{MOST_AMOUNT, MOST_FOLDED, Arrival, Sleeper, LinePlace, Entry, Mode, X, S, Word, Object, Lock, ReadWrite, Semaphore, Latch, Step, Base, based, each_below, folded, seat_after, sleeper_after, sleepers_of, standing_after, stands_from, count, free, held, holds_after, total, unheld, same_mode, is_bad_number, lacks_mode, AreCounted, AreHeld, ArePermits, GaveUp, IsGood, IsModest, SleepsWell, StandsWell, IsInRange, AreSeated, IsLegal, calls, arrivals_by, coming_back, line, created, is_latch, is_lock, is_semaphore, opening_count, IsOwned, most_exclusive, most_shared, CanFold, has, last_sleep, sleepers, Sleep, Start, awake, entry_for, times}
+use Rattle.history.specs.Prelude.{MOST_AMOUNT, MOST_FOLDED, Arrival, Sleeper, LinePlace, Entry, Mode, X, S, Word, Object, Semaphore, Latch, Step, Base, based, each_below, folded, seat_after, sleeper_after, sleepers_of, standing_after, stands_from, count, free, held, holds_after, total, unheld, same_mode, is_bad_number, lacks_mode, AreCounted, AreHeld, ArePermits, GaveUp, IsGood, IsModest, SleepsWell, StandsWell, IsInRange, AreSeated, IsLegal, calls, arrivals_by, coming_back, line, created, is_latch, is_lock, is_semaphore, opening_count, IsOwned, most_exclusive, most_shared, CanFold, has, last_sleep, sleepers, Sleep, Start, awake, entry_for, times}
 use Rattle.history.specs.declared.entry.Word.TheVariants as word
 use Rattle.history.proofs.Alike.{Alike, waiting_alike}
+use Rattle.history.proofs.Changes.{counts_nothing, either_way, held_same}
 use Rattle.history.proofs.Entering.{Known, KnownBy, known}
 use Rattle.history.proofs.Folding.{fold_alike, get_or-each, length-each, none_beyond}
 use Rattle.history.proofs.GoodBases.{good_owned, good_waits}
 use Rattle.history.proofs.LineLemmas.{line_after, line_at_first}
 use Rattle.history.proofs.Lists.{calls-ended, ended_calls_le}
 use Rattle.history.proofs.OneOwner.{Owned, cases_below, is_owned, owned_on}
-use Rattle.history.proofs.OneWait.{Saved, SavedIfBack, Sleeps, Waits, acts, line_stays, placed, waits_from}
+use Rattle.history.proofs.OneWait.{Saved, SavedIfBack, Sleeps, Waits, acts, all_come, line_stays, placed, waits_from}
 use Rattle.history.proofs.Permits.{IsLow, created_fits, free_fits_on, held_grows, low_on, no_exclusive, unheld_grows, unheld_none, fits_at_most}
 use Rattle.history.proofs.Queueing.{joining_owns_nothing}
 use Rattle.history.proofs.SleepLemmas.{held_other}
@@ -25,29 +26,19 @@ use Rattle.history.proofs.WhoWaits.{LineSeated, line_seated_next}
 latch_keeps : (o : Object) (w : Word) (n : ℕ) → is_latch o ≡ true → (w ≡ word.Drained → ⊥) →
     (w ≡ word.Back → ⊥) →
     holds_after o w n 0 ≡ 0
-latch_keeps (Latch c) word.Got n t d k = refl
-latch_keeps (Latch c) word.TryGot n t d k = refl
-latch_keeps (Latch c) word.Granted n t d k = refl
-latch_keeps (Latch c) word.Drained n t d k = absurd (d refl)
-latch_keeps (Latch c) word.Back n t d k = absurd (k refl)
-latch_keeps (Latch c) word.Gave n t d k = refl
-latch_keeps (Latch c) word.Await n t d k = refl
-latch_keeps (Latch c) _ n t d k = refl
-latch_keeps (Lock p) w n t d k = absurd (cc)
-latch_keeps (ReadWrite p) w n t d k = absurd (cc)
-latch_keeps (Semaphore p c) w n t d k = absurd (cc)
+latch_keeps o w n t d k = grind arith
 
 latch_lacks : (o : Object) → is_latch o ≡ true → (is_lock o ≡ false) × (is_semaphore o ≡ false)
-latch_lacks (Latch c) t = (refl, refl)
-latch_lacks (Lock p) t = absurd (cc)
-latch_lacks (ReadWrite p) t = absurd (cc)
-latch_lacks (Semaphore p c) t = absurd (cc)
+latch_lacks o t = grind arith
 
 pub latch_holds : (s : Start) (h : List Entry) → is_latch s.header.object ≡ true → Waits s [] → IsLegal s h →
     ((i : ℕ) (m : Mode) → held s [] i m ≡ 0) → (i : ℕ) (m : Mode) → held s h i m ≡ 0
 latch_holds s [] t v legal none i m = none i m
 latch_holds s (e ∷ h) t v legal none i m =
-    by (eqb e.seat i && same_mode e.mode m) (latch_holds s h t v legal.1 none i m)
+    ap (λ x. cond (eqb e.seat i && same_mode e.mode m) (holds_after s.header.object e.word e.n x) x)
+    (latch_holds s h t v legal.1 none i m)
+    ∙ either_way (eqb e.seat i && same_mode e.mode m) _ 0
+    (latch_keeps s.header.object e.word e.n t not_drained not_back)
   where
     k : Known s h e
     k = known s h legal.0.0 e legal.0.1
@@ -70,13 +61,6 @@ latch_holds s (e ∷ h) t v legal none i m =
         (waits_from s h v legal.1).line d.1 d.2).saved.lock in
         cc (y, f)
 
-    by : (b : Bool) → held s h i m ≡ 0 →
-        cond b (holds_after s.header.object e.word e.n (held s h i m)) (held s h i m) ≡ 0
-    by true z =
-        ap (holds_after s.header.object e.word e.n) z
-        ∙ latch_keeps s.header.object e.word e.n t not_drained not_back
-    by false z = z
-
 -- Who stands in line to acquire owns nothing, and asks for what the object has.
 abbrev pub Queues : Start → List Entry → Arrival → Type 0
 Queues s h a =
@@ -89,8 +73,7 @@ queues_other : (s : Start) (e : Entry) (h : List Entry) (a : Arrival) → e.seat
 queues_other s e h a ne w r = let q = w r in (q.0, q.1, held_other s e h a.seat X ne ∙ q.2)
 
 back_queues : (s : Start) (h : List Entry) (xs : List ℕ) → AllByRecursion (Queues s h) (map coming_back xs)
-back_queues s h [] = tt
-back_queues s h (x ∷ xs) = (λ r. cc, back_queues s h xs)
+back_queues s h xs = all_come (Queues s h) xs (λ i t r. cc)
 
 queues_next : (s : Start) (h : List Entry) (e : Entry) → Known s h e →
     (KnownBy s h e word.Queued → e.word ≡ word.Queued → held s h e.seat X ≡ 0) →
@@ -101,32 +84,12 @@ queues_next s h e k owns all =
     (line_stays (Queues s h) (Queues s (e ∷ h)) s h e (acts s h e k) (queues_other s e h) all)
     (by e.word refl k))
   where
-    kept : e.word ≡ word.Queued → held s (e ∷ h) e.seat X ≡ held s h e.seat X
-    kept w =
-        ap (λ v. cond (eqb e.seat e.seat && same_mode e.mode X)
-        (holds_after s.header.object v e.n (held s h e.seat X)) (held s h e.seat X)) w
-        ∙ either_way (eqb e.seat e.seat && same_mode e.mode X)
-      where
-        either_way : (b : Bool) → cond b (held s h e.seat X) (held s h e.seat X) ≡ held s h e.seat X
-        either_way true = refl
-        either_way false = refl
-
     by : (w : Word) → e.word ≡ w → KnownBy s h e w → AllByRecursion (Queues s (e ∷ h)) (arrivals_by s w e h)
-    by word.Queued w k = (λ r. (k.mode, k.amount, kept w ∙ owns k w), tt)
+    by word.Queued w k = (λ r. (k.mode, k.amount, held_same s e h e.seat X (ap counts_nothing w) ∙ owns k w), tt)
     by word.Lapse w k = back_queues s (e ∷ h) (e.seat ∷ [])
     by word.Signal w k = back_queues s (e ∷ h) (take e.n (sleepers s h e.at))
     by word.SignalAll w k = back_queues s (e ∷ h) (sleepers s h e.at)
-    by word.Got w k = tt
-    by word.TryGot w k = tt
-    by word.Granted w k = tt
-    by word.Missed w k = tt
-    by word.Left w k = tt
-    by word.Gave w k = tt
-    by (word.Refused f) w k = tt
-    by word.Await w k = tt
-    by word.Back w k = tt
-    by word.Counted w k = tt
-    by word.Drained w k = tt
+    by _ w k = tt
 
 -- What is known of a base and legal entries behind it.
 module _ (b : Base) (good : IsGood b) where
@@ -152,20 +115,17 @@ module _ (b : Base) (good : IsGood b) where
   -- nobody but a lock's owner holds exclusively
   owns_nothing : (h : List Entry) → IsLegal (based b) h → (o : Object) → b.header.object ≡ o →
       AreHeld o b → is_lock o ≡ false → (i : ℕ) → held (based b) h i X ≡ 0
-  owns_nothing h legal (Lock p) q v f i = absurd (cc)
-  owns_nothing h legal (ReadWrite p) q v f i = absurd (cc)
   owns_nothing h legal (Semaphore p c) q v f i =
       no_exclusive (based b) h (ap is_semaphore q) start legal i ∙ v.exclusive i
   owns_nothing h legal (Latch c) q v f i = latch_holds (based b) h (ap is_latch q) start legal v i X
+  owns_nothing h legal _ q v f i = absurd (cc)
 
   queued_owns : (h : List Entry) (e : Entry) (x : Step) → IsLegal (based b) h → AreSeated (based b) h →
       e.seat < b.header.seats → entry_for (based b) h e.seat x ≡ Ok (Some e) →
       KnownBy (based b) h e word.Queued → e.word ≡ word.Queued → held (based b) h e.seat X ≡ 0
-  queued_owns h e x legal s l made k w = by (is_lock b.header.object) refl
-    where
-      by : (r : Bool) → is_lock b.header.object ≡ r → held (based b) h e.seat X ≡ 0
-      by true q = joining_owns_nothing (based b) h x e (owned_behind h q legal s) q l k.idle made w
-      by false q = owns_nothing h legal b.header.object refl good.held q e.seat
+  queued_owns h e x legal s l made k w =
+      ⊎_elim (λ q. joining_owns_nothing (based b) h x e (owned_behind h q legal s) q l k.idle made w)
+      (λ q. owns_nothing h legal b.header.object refl good.held q e.seat) (cases_Bool (is_lock b.header.object))
 
   queues_at_first : (q : List LinePlace) → AllByRecursion (StandsWell b) q →
       AllByRecursion (Queues (based b) []) (map (λ p. p.who) q)
@@ -213,9 +173,7 @@ first_fits b range (Semaphore p c) q v t =
     by : (c f : ℤ) → FitsSigned w32 c → IsLow c f → f ≤ℤ pos MOST_AMOUNT → FitsSigned w32 f
     by c f fits (inl low) high = omega (arith, ints)
     by c f fits (inr low) high = omega (arith, ints)
-first_fits b range (Lock p) q v t = absurd (cc)
-first_fits b range (ReadWrite p) q v t = absurd (cc)
-first_fits b range (Latch c) q v t = absurd (cc)
+first_fits b range _ q v t = absurd (cc)
 
 pub free_fits_base : (b : Base) (h : List Entry) → IsInRange b.header → CanFold b h →
     is_semaphore b.header.object ≡ true → FitsSigned w32 (free (based b) h)
@@ -255,17 +213,11 @@ module _ (b : Base) (g : List Entry) (range : IsInRange b.header) (can : CanFold
   shared_few : is_semaphore b.header.object ≡ true → (i : ℕ) →
       held (based (folded b g)) [] i S ≤ MOST_AMOUNT * (b.entries + length g)
   shared_few t i =
-      let l = held_grows (based b) g t (good_waits b can.good) (fits_first t) can.legal i S in
-      let m = (modest t).1 i in
-      let e = held_at i S in
-      omega (arith, l, m, e)
+      omega (arith, held_grows (based b) g t (good_waits b can.good) (fits_first t) can.legal i S, (modest t).1 i, held_at i S)
 
   unheld_few : is_semaphore b.header.object ≡ true →
       unheld (based b) g ≤ MOST_AMOUNT * (b.entries + length g)
-  unheld_few t =
-      let l = unheld_grows (based b) g can.legal in
-      let m = (modest t).0 in
-      omega (arith, l, m)
+  unheld_few t = omega (arith, unheld_grows (based b) g can.legal, (modest t).0)
 
   permits_fold : (p : ℤ) → is_semaphore b.header.object ≡ true → ArePermits p b → ArePermits p (folded b g)
   permits_fold c t v =
@@ -281,30 +233,22 @@ module _ (b : Base) (g : List Entry) (range : IsInRange b.header) (can : CanFold
       }
 
   held_fold : (o : Object) → b.header.object ≡ o → AreHeld o b → AreHeld o (folded b g)
-  held_fold (Lock p) q v = owned_fold (ap is_lock q)
-  held_fold (ReadWrite p) q v = owned_fold (ap is_lock q)
   held_fold (Semaphore p c) q v = permits_fold c (ap is_semaphore q) v
   held_fold (Latch c) q v =
       λ i m. held_at i m ∙ latch_holds (based b) g (ap is_latch q) (good_waits b can.good) can.legal v i m
+  held_fold _ q v = owned_fold (ap is_lock q)
 
   no_unheld : (o : Object) → b.header.object ≡ o → is_semaphore o ≡ false → b.unheld ≡ 0 →
       unheld (based b) g ≡ 0
   no_unheld o q f z = unheld_none (based b) g (ap is_semaphore q ∙ f) ∙ z
 
   few_left : (o : Object) → b.header.object ≡ o → count (based b) g ≤ opening_count o
-  few_left o q =
-      let e = ap opening_count q in
-      omega (arith, e)
+  few_left o q = omega (arith, ap opening_count q)
 
   counted_fold : (o : Object) → b.header.object ≡ o → AreCounted o b → AreCounted o (folded b g)
-  counted_fold (Lock p) q v = (no_unheld (Lock p) q refl v.0, let l = few_left (Lock p) q in omega (arith, l))
-  counted_fold (ReadWrite p) q v =
-      (no_unheld (ReadWrite p) q refl v.0, let l = few_left (ReadWrite p) q in omega (arith, l))
-  counted_fold (Semaphore p c) q v = (
-    let l = unheld_few (ap is_semaphore q) in omega (arith, l, few),
-    let l = few_left (Semaphore p c) q in omega (arith, l),
-  )
-  counted_fold (Latch c) q v = (no_unheld (Latch c) q refl v.0, few_left (Latch c) q)
+  counted_fold (Semaphore p c) q v =
+      (omega (arith, unheld_few (ap is_semaphore q), few), omega (arith, few_left (Semaphore p c) q))
+  counted_fold o q v = (no_unheld o q refl v.0, omega (arith, few_left o q))
 
   gave_up : (i : ℕ) → Saved (based b) g i →
       GaveUp (folded b g) i (last_sleep (based b) g i).condition (last_sleep (based b) g i).holds
@@ -386,12 +330,7 @@ module _ (b : Base) (g : List Entry) (range : IsInRange b.header) (can : CanFold
           tt
 
   calls_few : calls (based (folded b g)) [] ≤ b.entries + length g
-  calls_few =
-      let e = sym same.ended in
-      let c = calls-ended (based b) g in
-      let l = ended_calls_le g in
-      let m = can.good.calls in
-      omega (arith, e, c, l, m)
+  calls_few = omega (arith, sym same.ended, calls-ended (based b) g, ended_calls_le g, can.good.calls)
 
   pub fold_good : IsGood (folded b g)
   fold_good =

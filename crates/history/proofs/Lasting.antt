@@ -1,22 +1,14 @@
 -- One who waits still does while no call of its seat ends and its last sleep stays, also where the history is
 -- folded in between.
-use Rattle.std.proofs.Common.{◌≡◌, ◌≢◌, ◌⊎◌, inl, inr, ⊎_elim, ℕ, ◌+◌, ◌<◌, Bool, true, false, ◌==◌, cond, eqb, eqb-true, List, [], ◌∷◌, ◌++◌, Option, Some, None, Result, Ok, refl, ap, ◌∙◌, sym, subst, arith, eq-eqb, append_assoc}
+use Rattle.std.proofs.Common.{◌≡◌, ◌≢◌, ◌⊎◌, inl, inr, ⊎_elim, ℕ, ◌+◌, ◌<◌, Bool, true, false, ◌==◌, eqb, eqb-true, List, [], ◌∷◌, ◌++◌, Option, Some, None, Result, Ok, refl, ap, ◌∙◌, sym, subst, arith, eq-eqb, append_assoc}
 use Rattle.std.specs.List.{AllByRecursion}
+use Rattle.std.proofs.lemmas.Bool.Decides.{nat_tests}
 use Rattle.std.proofs.lemmas.List.Elements.{filter-append}
-use Rattle.history.specs.Prelude.{Arrival, End, Entry, Word, Fault, Header, Point, Step, Expire, Interrupt, AwaitsAs, ReturnsAs, SleepsAs, lapse_from, lapsed, based, folded, seat_of, ended_calls, ends_arrival, ends_call, IsLegal, coming_back, line, place_of, is_away, phase, phase_by, suits, waits, Agrees, CanFold, ComesBefore, entries_of, has, last_sleep, sleeps_below, Sleep, Start, opening, entry_for}
+use Rattle.history.specs.Prelude.{Arrival, End, Entry, Word, Fault, Header, Point, Step, Interrupt, AwaitsAs, ReturnsAs, SleepsAs, lapse_from, lapsed, based, folded, seat_of, ended_calls, ends_arrival, ends_call, IsLegal, coming_back, line, place_of, is_away, phase, phase_by, suits, waits, Agrees, CanFold, ComesBefore, entries_of, has, last_sleep, sleeps_below, Sleep, Start, opening, entry_for}
 use Rattle.history.specs.declared.entry.End.TheVariants as end
 use Rattle.history.specs.declared.entry.Word.TheVariants as word
 use Rattle.history.proofs.Alike.{Alike, ReturnAlike, away_alike, on}
-use Rattle.history.proofs.Awaiting.{
-  AwaitMakes,
-  AwaitTurn,
-  LapsesBy,
-  await_turn,
-  awaits_other,
-  comes_back,
-  lapses,
-  sleeps_on,
-}
+use Rattle.history.proofs.Awaiting.{AwaitMakes, AwaitTurn, LapsesBy, await_turn, awaits_other, comes_back, lapses, sleeps_on}
 use Rattle.history.proofs.Entering.{admitted, known}
 use Rattle.history.proofs.Folding.{goes_on}
 use Rattle.history.proofs.GoodBases.{good_waits}
@@ -28,34 +20,16 @@ use Rattle.history.proofs.Staying.{stays_in_line}
 
 -- an entry that takes its seat out of the line ends a call
 leaves_ends : (w : Word) → ends_arrival w ≡ true → ends_call w ≡ true
-leaves_ends word.Granted t = refl
-leaves_ends word.Left t = refl
-leaves_ends word.Back t = refl
-leaves_ends _ t = absurd (cc (t))
-
-none_ends : (e : Entry) (l : List Entry) → ended_calls (e ∷ l) ≡ 0 → ends_call e.word ≡ true → ⊥
-none_ends e l none t = by (ends_call e.word) t none
-  where
-    by : (b : Bool) → b ≡ true → ended_calls l + cond b 1 0 ≡ 0 → ⊥
-    by true t z = absurd (omega (arith, z))
-    by false t z = absurd (cc (t))
+leaves_ends w t = grind arith
 
 -- the ended calls of a seat, entry by entry
 not_own : (i : ℕ) (e : Entry) (l : List Entry) → ended_calls (entries_of i (e ∷ l)) ≡ 0 →
     ended_calls (entries_of i l) ≡ 0
-not_own i e l none = by (eqb e.seat i) none
-  where
-    by : (b : Bool) → ended_calls (cond b (e ∷ entries_of i l) (entries_of i l)) ≡ 0 →
-        ended_calls (entries_of i l) ≡ 0
-    by true z = omega (arith, z)
-    by false z = z
+not_own i e l none = grind (arith, none)
 
 own_ends : (i : ℕ) (e : Entry) (l : List Entry) → e.seat ≡ i → ended_calls (entries_of i (e ∷ l)) ≡ 0 →
     ends_call e.word ≡ true → ⊥
-own_ends i e l same none t =
-    none_ends e (entries_of i l)
-    (subst (λ b. ended_calls (cond b (e ∷ entries_of i l) (entries_of i l)) ≡ 0) (eq-eqb e.seat i same)
-    none) t
+own_ends i e l same none t = grind (arith, nat_tests, same, none, t)
 
 -- one in line leaves it by the end of a call alone
 leaves_line : (s : Start) (h : List Entry) (e : Entry) (a : Arrival) → Acts s h e →
@@ -93,9 +67,7 @@ pub record HasLapsed (s : Start) (h : List Entry) (i : ℕ) (w : Sleep) : Type 0
   pub returns : ReturnsAs s h i (lapsed w how)
 
 lapses_how : (step : Step) (how : End) → LapsesBy step how → (how ≡ end.Timeout) ⊎ (how ≡ end.Interrupt)
-lapses_how Expire how t = inl t
-lapses_how Interrupt how t = inr t
-lapses_how _ how t = absurd t
+lapses_how step how t = grind (arith, t)
 
 phase_waits : (s : Start) (h : List Entry) (i : ℕ) (w : Sleep) (step : Step) → AwaitsAs s h i w →
     suits (phase s h i) step ≡ true → waits step ≡ true
@@ -223,11 +195,8 @@ between p q (inr folds) can =
       header = refl;
       alike = subst (λ l. Alike p.base.header (based p.base) (based (folded p.base front)) l q.entries) whole
           (goes_on p.base front q.entries folds.can.good folds.can.seated all.legal);
-      calls = λ i.
-          (let c = calls_folded p.base front i folds.can in
-          let w = ap (λ l. ended_calls (entries_of i l)) (sym whole) in
-          let e = seat_ended i q.entries front in
-          omega (arith, c, w, e));
+      calls = λ i. let same = ap (λ l. ended_calls (entries_of i l)) (sym whole) in
+          omega (arith, same, calls_folded p.base front i folds.can, seat_ended i q.entries front);
     })
   where
     front : List Entry
@@ -245,12 +214,7 @@ module _ (p q : Point) (i : ℕ) (es : List Entry) (before : ComesBefore p q) (c
   gap = between p q before now
 
   none : ended_calls (entries_of i gap.more) ≡ 0
-  none =
-      let c = gap.calls i in
-      let e = seat_ended i gap.more p.entries in
-      let a = was.calls in
-      let b = is.calls in
-      omega (arith, c, e, a, b)
+  none = omega (arith, gap.calls i, seat_ended i gap.more p.entries, was.calls, is.calls)
 
   first : Waits (based p.base) []
   first = good_waits p.base can.good

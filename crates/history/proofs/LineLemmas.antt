@@ -1,18 +1,14 @@
 -- What an entry makes of the line.
-use Rattle.std.proofs.Common.{◌≡◌, ℕ, ◌+◌, ◌≤◌, Bool, true, false, not, ◌&&◌, cond, eqb, leb, List, [], ◌∷◌, ◌++◌, length, map, Option, Some, None, refl, ap, ◌∙◌, sym, subst, arith, le-leb}
+use Rattle.std.proofs.Common.{◌≡◌, ℕ, ◌+◌, ◌≤◌, Bool, true, false, not, ◌&&◌, eqb, leb, List, [], ◌∷◌, ◌++◌, length, map, Option, None, refl, ap, ◌∙◌, sym, subst, arith, le-leb}
 use Rattle.std.proofs.Math.Bool.{and-true}
 use Rattle.std.specs.List.{filter, AllByRecursion}
 use Rattle.std.proofs.lemmas.List.Elements.{filter-append}
 use Rattle.std.proofs.lemmas.List.{map-append}
-use Rattle.std.proofs.lemmas.Bool.{lt-leb}
-use Rattle.history.specs.Prelude.{Start, Entry, Arrival, Word, Granted, Left, Back, ends_arrival, Arrived, arrived_at, arrivals, arrivals_by, Ending, ending, first_ending, is_open, stands, line}
+use Rattle.std.proofs.lemmas.Bool.Decides.{nat_tests}
+use Rattle.history.specs.Prelude.{Start, Entry, Arrival, Word, ends_arrival, Arrived, arrived_at, arrivals, arrivals_by, Ending, ending, first_ending, is_open, stands, line}
+use Rattle.history.proofs.Times.{each-append}
 
 -- the arrivals of a history came by its entries
-each_below-append : (n : ℕ) (xs ys : List Arrived) → AllByRecursion (λ a. a.place ≤ n) xs →
-    AllByRecursion (λ a. a.place ≤ n) ys → AllByRecursion (λ a. a.place ≤ n) (xs ++ ys)
-each_below-append n [] ys p q = q
-each_below-append n (x ∷ xs) ys p q = (p.0, each_below-append n xs ys p.1 q)
-
 below_more : (n : ℕ) (xs : List Arrived) → AllByRecursion (λ a. a.place ≤ n) xs →
     AllByRecursion (λ a. a.place ≤ n + 1) xs
 below_more n [] p = tt
@@ -31,16 +27,14 @@ arrivals_below s (e ∷ h) =
     let P : ℕ → Type 0 = λ n. AllByRecursion (λ a. a.place ≤ n) (arrivals s (e ∷ h)) in
     let old = below_more (length h) (arrivals s h) (arrivals_below s h) in
     let new = below_new (length h) (length h + 1) (arrivals_by s e.word e h) (omega arith) in
-    subst P (sym (length_more e h)) (each_below-append (length h + 1) (arrivals s h) _ old new)
+    subst P (sym (length_more e h)) (each-append (λ a. a.place ≤ length h + 1) (arrivals s h) _ old new)
 
 -- whether an entry leaves an arrival in line
 abbrev pub keeps : Word → ℕ → Arrived → Bool
 keeps w i a = not (ends_arrival w && eqb i a.who.seat)
 
 open_then : (o : Option Ending) (b : Bool) (y : Ending) → is_open (first_ending o b y) ≡ (is_open o && not b)
-open_then None true y = refl
-open_then None false y = refl
-open_then (Some x) b y = refl
+open_then o b y = grind arith
 
 stands_more : (e : Entry) (h : List Entry) (a : Arrived) → a.place ≤ length h →
     stands (e ∷ h) a ≡ (stands h a && keeps e.word e.seat a)
@@ -55,14 +49,7 @@ filter_two : (p q r : Arrived → Bool) (n : ℕ) (xs : List Arrived) → AllByR
     ((a : Arrived) → a.place ≤ n → p a ≡ (q a && r a)) → filter p xs ≡ filter r (filter q xs)
 filter_two p q r n [] all same = refl
 filter_two p q r n (x ∷ xs) all same =
-    let ih = filter_two p q r n xs all.1 same in
-    two_at (p x) (q x) (r x) x xs p q r (same x all.0) refl ih
-  where
-    two_at : (b c d : Bool) (x : Arrived) (xs : List Arrived) (p q r : Arrived → Bool) → b ≡ (c && d) →
-        r x ≡ d → filter p xs ≡ filter r (filter q xs) →
-        cond b (x ∷ filter p xs) (filter p xs) ≡ filter r (cond c (x ∷ filter q xs) (filter q xs))
-    two_at b true d x xs p q r e f ih = rw e (rw f (ap (λ l. cond d (x ∷ l) l) ih))
-    two_at b false d x xs p q r e f ih = rw e ih
+    grind (arith, same x all.0, filter_two p q r n xs all.1 same)
 
 filter_all : (p : Arrived → Bool) (n : ℕ) (xs : List Arrival) →
     ((a : Arrival) → p (arrived_at n a) ≡ true) → filter p (map (arrived_at n) xs) ≡ map (arrived_at n) xs
@@ -73,13 +60,7 @@ filter_all p n (x ∷ xs) all = rw (all x) (ap (λ l. arrived_at n x ∷ l) (fil
 pub ending_past : (h : List Entry) (i from : ℕ) → length h ≤ from → ending h i from ≡ None
 ending_past [] i from p = refl
 ending_past (e ∷ h) i from p =
-    let ih : ending h i from ≡ None = ending_past h i from (omega (arith, p, length_more e h)) in
-    let f : leb from (length h) ≡ false = lt-leb _ _ (omega (arith, p, length_more e h)) in
-    rw ih (rw f (and_nothing (ends_arrival e.word && eqb e.seat i) _))
-  where
-    and_nothing : (b : Bool) (y : Ending) → cond (b && false) (Some y) None ≡ None
-    and_nothing true y = refl
-    and_nothing false y = refl
+    grind (arith, nat_tests, length_more e h, ending_past h i from)
 
 -- what stays in line at an entry of a seat
 abbrev pub stays : Word → ℕ → Arrival → Bool
@@ -88,14 +69,7 @@ stays w i a = not (ends_arrival w && eqb i a.seat)
 map_filter : (w : Word) (i : ℕ) (xs : List Arrived) →
     map (λ a. a.who) (filter (keeps w i) xs) ≡ filter (stays w i) (map (λ a. a.who) xs)
 map_filter w i [] = refl
-map_filter w i (x ∷ xs) = by (keeps w i x) x xs (map_filter w i xs)
-  where
-    by : (b : Bool) (x : Arrived) (xs : List Arrived) →
-        map (λ a. a.who) (filter (keeps w i) xs) ≡ filter (stays w i) (map (λ a. a.who) xs) →
-        map (λ a. a.who) (cond b (x ∷ filter (keeps w i) xs) (filter (keeps w i) xs))
-        ≡ cond b (x.who ∷ filter (stays w i) (map (λ a. a.who) xs)) (filter (stays w i) (map (λ a. a.who) xs))
-    by true x xs ih = ap (λ l. x.who ∷ l) ih
-    by false x xs ih = ih
+map_filter w i (x ∷ xs) = grind (arith, map_filter w i xs)
 
 map_who : (n : ℕ) (xs : List Arrival) → map (λ a. a.who) (map (arrived_at n) xs) ≡ xs
 map_who n [] = refl
@@ -113,10 +87,7 @@ new_stand s e h false p none =
 
 pub no_arrival : (s : Start) (w : Word) (e : Entry) (h : List Entry) → ends_arrival w ≡ true →
     arrivals_by s w e h ≡ []
-no_arrival s Granted e h p = refl
-no_arrival s Left e h p = refl
-no_arrival s Back e h p = refl
-no_arrival s _ e h p = cc
+no_arrival s w e h p = grind arith
 
 -- the line after an entry: those whose wait it doesn't end, and then those who arrive by it
 pub line_after : (s : Start) (e : Entry) (h : List Entry) →

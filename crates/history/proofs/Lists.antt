@@ -1,11 +1,18 @@
 -- Lists of entries, the newest first.
 use Rattle.std.proofs.Common.{◌≡◌, ◌+◌, ◌≤◌, Bool, true, false, cond, List, [], ◌∷◌, ◌++◌, length, reverse, refl, ap, ◌∙◌, arith}
+use Rattle.std.specs.List.{AllByRecursion}
 use Rattle.std.proofs.lemmas.List.{reverse-append}
 use Rattle.history.specs.Prelude.{Entry, ends_call, ended_calls, calls, Start}
 
 -- one entry more at the end of a list is the first from behind
 pub reverse_push : {X : Type 0} (xs : List X) (x : X) → reverse (xs ++ x ∷ []) ≡ x ∷ reverse xs
 reverse_push xs x = reverse-append xs (x ∷ [])
+
+-- what follows from what holds of each
+pub each-as : {A : Type 0} (P Q : A → Type 0) (xs : List A) → ((x : A) → P x → Q x) → AllByRecursion P xs →
+    AllByRecursion Q xs
+each-as P Q [] next all = tt
+each-as P Q (x ∷ xs) next all = (next x all.0, each-as P Q xs next all.1)
 
 pub one_at_most : (b : Bool) → cond b 1 0 ≤ 1
 one_at_most true = omega arith

@@ -1,10 +1,10 @@
 -- The fold of one entry, part by part.
-use Rattle.std.proofs.Common.{◌≡◌, ◌≢◌, ◌⊎◌, ⊎_elim, inl, inr, ℕ, zero, suc, ◌+◌, ◌-◌, ◌<◌, ◌≤◌, Bool, true, false, not, ◌&&◌, cond, eqb, List, [], ◌∷◌, ◌++◌, map, take, drop, length, get_or, set, Some, refl, ap, ◌∙◌, sym, subst, arith, eq-eqb, ne_eqb, ext_get_or, get_or-set_other, get_or-set_same, length-set}
+use Rattle.std.proofs.Common.{◌≡◌, ◌≢◌, ◌⊎◌, ⊎_elim, inl, inr, ℕ, zero, suc, ◌+◌, ◌-◌, ◌<◌, ◌≤◌, Bool, true, not, cond, eqb, List, [], ◌∷◌, ◌++◌, map, take, drop, length, get_or, set, Some, refl, ap, ◌∙◌, sym, subst, arith, eq-eqb, ne_eqb, ext_get_or, get_or-set_other, get_or-set_same, length-set}
 use Rattle.std.proofs.Math.Nat.{add-zero}
 use Rattle.std.specs.List.{filter, AllByRecursion}
 use Rattle.std.proofs.lemmas.Bool.{cases_eq}
-use Rattle.std.proofs.lemmas.List.{map-append}
-use Rattle.history.specs.Prelude.{MOST_FOLDED, Arrival, SeatBase, Sleeper, LinePlace, Entry, X, S, Word, Base, based, each_below, folded, nothing, or_awake, seat_after, seat_of, sleep_on, sleeper_after, sleepers_of, standing_after, stands_from, counted_after, holds_after, unheld, ends_call, same_mode, IsGood, IsModest, IsInRange, AreSeated, IsLegal, arrivals_by, coming_back, line, count_then, joins_line, next_base, seat_then, signalled_on, sleepers_then, stays_there, opening_count, CanFold, has, last_sleep, sleep_after, sleepers, sleepers_after, without, Sleep, awake, times}
+use Rattle.std.proofs.lemmas.List.{drop-map, map-append, take-map}
+use Rattle.history.specs.Prelude.{MOST_FOLDED, Arrival, Sleeper, LinePlace, Entry, Word, Base, based, each_below, folded, nothing, or_awake, seat_after, seat_of, sleep_on, sleeper_after, sleepers_of, standing_after, stands_from, counted_after, unheld, IsGood, IsModest, IsInRange, AreSeated, IsLegal, arrivals_by, coming_back, line, count_then, joins_line, next_base, seat_then, signalled_on, sleepers_then, stays_there, opening_count, CanFold, has, last_sleep, sleep_after, sleepers, sleepers_after, without, Sleep, awake, times}
 use Rattle.history.specs.declared.entry.Word.TheVariants as word
 use Rattle.history.proofs.Entering.{Known, KnownBy, known}
 use Rattle.history.proofs.Folding.{SleptAs, all_again, all_slept, few_counted, folds_on, get_or-each, legal_goes_on, length-each}
@@ -16,91 +16,49 @@ use Rattle.history.proofs.Points.{seated_behind}
 use Rattle.history.proofs.SleepLemmas.{last_sleep_other, sleepers_here, sleepers_other, times-waiting}
 use Rattle.history.proofs.Times.{each-filter, has_once, total_part}
 
+-- a list of what each number below has, where one number has something else than in another list
+each_set : {A : Type 0} (d : A) (n : ℕ) (f : ℕ → A) (xs : List A) (i : ℕ) (x : A) → length xs ≡ n →
+    (i < n → f i ≡ x) → ((j : ℕ) → j < n → i ≢ j → f j ≡ get_or xs j d) → each_below n f ≡ set xs i x
+each_set d n f xs i x len here other =
+    ext_get_or d (each_below n f) (set xs i x) (length-each n f ∙ sym len ∙ sym (length-set xs i x))
+    (λ j l.
+    let m : j < n = let many = length-each n f in omega (arith, many, l) in
+    get_or-each n f j d m ∙ ⊎_elim (same j m) (λ ne. other j m ne ∙ sym (get_or-set_other xs i j x d
+    (λ q. ne (sym q)))) (cases_eq i j))
+  where
+    same : (j : ℕ) → j < n → i ≡ j → f j ≡ get_or (set xs i x) j d
+    same j m q =
+        ap f (sym q) ∙ here (omega (arith, q, m)) ∙ sym (get_or-set_same xs i x d (omega (arith, len, q, m)))
+        ∙ ap (λ k. get_or (set xs i x) k d) q
+
 -- the entry's seat, and the others
 module _ (b : Base) (e : Entry) where
   pub own_seat : seat_after b (e ∷ []) e.seat ≡ seat_then b.header.object e (seat_of b e.seat)
-  own_seat =
-      ap (λ t. record {
-        calls = (seat_of b e.seat).calls + cond (t && ends_call e.word) 1 0;
-        exclusive = cond (t && same_mode e.mode X)
-            (holds_after b.header.object e.word e.n (seat_of b e.seat).exclusive)
-            (seat_of b e.seat).exclusive;
-        shared = cond (t && same_mode e.mode S)
-            (holds_after b.header.object e.word e.n (seat_of b e.seat).shared) (seat_of b e.seat).shared;
-      })
-      (eq-eqb e.seat e.seat refl)
+  own_seat = rw (eq-eqb e.seat e.seat refl) refl
 
   other_seat : (i : ℕ) → e.seat ≢ i → seat_after b (e ∷ []) i ≡ seat_of b i
-  other_seat i ne =
-      ap (λ t. record {
-        calls = (seat_of b i).calls + cond (t && ends_call e.word) 1 0;
-        exclusive = cond (t && same_mode e.mode X)
-            (holds_after b.header.object e.word e.n (seat_of b i).exclusive) (seat_of b i).exclusive;
-        shared = cond (t && same_mode e.mode S)
-            (holds_after b.header.object e.word e.n (seat_of b i).shared) (seat_of b i).shared;
-      })
-      (ne_eqb e.seat i ne)
-      ∙ λ j. record {
-        calls = add-zero (seat_of b i).calls j;
-        exclusive = (seat_of b i).exclusive;
-        shared = (seat_of b i).shared;
-      }
+  other_seat i ne = rw (ne_eqb e.seat i ne, add-zero (seat_of b i).calls) refl
 
   next_seats : length b.seats ≡ b.header.seats → e.seat < b.header.seats →
       each_below b.header.seats (seat_after b (e ∷ []))
       ≡ set b.seats e.seat (seat_then b.header.object e (seat_of b e.seat))
   next_seats len seat =
-      ext_get_or nothing (each_below b.header.seats (seat_after b (e ∷ []))) now
-      (length-each b.header.seats (seat_after b (e ∷ [])) ∙ sym len
-      ∙ sym (length-set b.seats e.seat (seat_then b.header.object e (seat_of b e.seat))))
-      (λ i l.
-      let m : i < b.header.seats = let n = length-each b.header.seats (seat_after b (e ∷ [])) in
-      omega (arith, n, l) in
-      get_or-each b.header.seats (seat_after b (e ∷ [])) i nothing m
-      ∙ ⊎_elim (λ same. here i same) (λ ne. other i ne) (cases_eq e.seat i))
-    where
-      now : List SeatBase
-      now = set b.seats e.seat (seat_then b.header.object e (seat_of b e.seat))
-
-      here : (i : ℕ) → e.seat ≡ i → seat_after b (e ∷ []) i ≡ get_or now i nothing
-      here i same =
-          ap (seat_after b (e ∷ [])) (sym same) ∙ own_seat
-          ∙ sym (get_or-set_same b.seats e.seat (seat_then b.header.object e (seat_of b e.seat)) nothing
-          (omega (arith, len, seat)))
-          ∙ ap (λ n. get_or now n nothing) same
-
-      other : (i : ℕ) → e.seat ≢ i → seat_after b (e ∷ []) i ≡ get_or now i nothing
-      other i ne =
-          other_seat i ne
-          ∙ sym (get_or-set_other b.seats e.seat i (seat_then b.header.object e (seat_of b e.seat)) nothing
-          (λ q. ne (sym q)))
+      each_set nothing b.header.seats (seat_after b (e ∷ [])) b.seats e.seat
+      (seat_then b.header.object e (seat_of b e.seat)) len (λ l. own_seat) (λ i l ne. other_seat i ne)
 
 next_count : (w : Word) (n c : ℕ) → c ≤ n → n - counted_after w (n - c) ≡ count_then w c
-next_count word.Counted n c l = omega arith
-next_count _ n c l = omega arith
-
--- a last sleep that the entry leaves
-sleep_left : (b : Base) (e : Entry) (i : ℕ) → e.seat ≢ i →
-    last_sleep (based b) (e ∷ []) i ≡ last_sleep (based b) [] i
-sleep_left b e i ne = last_sleep_other (based b) e [] i ne
+next_count w n c l = grind arith
 
 standing_left : (b : Base) (e : Entry) (a : Arrival) → e.seat ≢ a.seat →
     standing_after b (e ∷ []) a ≡ standing_after b [] a
-standing_left b e a ne = ap (λ w. stands_from a (cond a.back w awake)) (sleep_left b e a.seat ne)
+standing_left b e a ne =
+    ap (λ w. stands_from a (cond a.back w awake)) (last_sleep_other (based b) e [] a.seat ne)
 
 -- whoever stays in line
 stays_as : (e : Entry) (q : List LinePlace) →
     filter (stays e.word e.seat) (map (λ p. p.who) q) ≡ map (λ p. p.who) (filter (stays_there e) q)
 stays_as e [] = refl
-stays_as e (p ∷ q) = by (stays_there e p) (stays_as e q)
-  where
-    by : (t : Bool) →
-        filter (stays e.word e.seat) (map (λ p. p.who) q) ≡ map (λ p. p.who) (filter (stays_there e) q) →
-        cond t (p.who ∷ filter (stays e.word e.seat) (map (λ p. p.who) q))
-        (filter (stays e.word e.seat) (map (λ p. p.who) q))
-        ≡ map (λ p. p.who) (cond t (p ∷ filter (stays_there e) q) (filter (stays_there e) q))
-    by true ih = ap (λ l. p.who ∷ l) ih
-    by false ih = ih
+stays_as e (p ∷ q) = grind (arith, stays_as e q)
 
 left_again : (b : Base) (e : Entry) (q : List LinePlace) →
     AllByRecursion (λ a. e.seat ≢ a.seat) (map (λ p. p.who) q) →
@@ -117,10 +75,7 @@ each_unit (x ∷ xs) = (tt, each_unit xs)
 -- whoever a signal moves
 keeps_sleep : (w : Word) (e : Entry) (t : Bool) (was : Sleep) → (w ≡ word.Signal) ⊎ (w ≡ word.SignalAll) →
     cond t (sleep_after w e was) was ≡ was
-keeps_sleep word.Signal e true was q = refl
-keeps_sleep word.SignalAll e true was q = refl
-keeps_sleep _ e true was q = absurd (⊎_elim (λ r. cc) (λ r. cc) q)
-keeps_sleep w e false was q = refl
+keeps_sleep w e t was q = grind arith
 
 moved_again : (b : Base) (e : Entry) (xs : List Sleeper) →
     (e.word ≡ word.Signal) ⊎ (e.word ≡ word.SignalAll) →
@@ -132,21 +87,11 @@ moved_again b e (x ∷ xs) w slept =
     ((keeps_sleep e.word e (eqb e.seat x.seat) (last_sleep (based b) [] x.seat) w ∙ slept.0.1) j)
     ∷ moved_again b e xs w slept.1 j
 
-taken_seats : (n : ℕ) (xs : List Sleeper) → take n (map (λ x. x.seat) xs) ≡ map (λ x. x.seat) (take n xs)
-taken_seats zero xs = refl
-taken_seats (suc n) [] = refl
-taken_seats (suc n) (x ∷ xs) = ap (λ l. x.seat ∷ l) (taken_seats n xs)
-
 each_taken : {A : Type 0} (P : A → Type 0) (n : ℕ) (xs : List A) → AllByRecursion P xs →
     AllByRecursion P (take n xs)
 each_taken P zero xs all = tt
 each_taken P (suc n) [] all = tt
 each_taken P (suc n) (x ∷ xs) all = (all.0, each_taken P n xs all.1)
-
-dropped_seats : (n : ℕ) (xs : List Sleeper) → drop n (map (λ x. x.seat) xs) ≡ map (λ x. x.seat) (drop n xs)
-dropped_seats zero xs = refl
-dropped_seats (suc n) [] = refl
-dropped_seats (suc n) (x ∷ xs) = dropped_seats n xs
 
 each_dropped : {A : Type 0} (P : A → Type 0) (n : ℕ) (xs : List A) → AllByRecursion P xs →
     AllByRecursion P (drop n xs)
@@ -157,15 +102,7 @@ each_dropped P (suc n) (x ∷ xs) all = each_dropped P n xs all.1
 without_seats : (i : ℕ) (xs : List Sleeper) →
     without i (map (λ x. x.seat) xs) ≡ map (λ x. x.seat) (filter (λ x. not (eqb x.seat i)) xs)
 without_seats i [] = refl
-without_seats i (x ∷ xs) = by (eqb x.seat i) (without_seats i xs)
-  where
-    by : (t : Bool) →
-        without i (map (λ x. x.seat) xs) ≡ map (λ x. x.seat) (filter (λ x. not (eqb x.seat i)) xs) →
-        cond (not t) (x.seat ∷ without i (map (λ x. x.seat) xs)) (without i (map (λ x. x.seat) xs))
-        ≡ map (λ x. x.seat) (cond (not t) (x ∷ filter (λ x. not (eqb x.seat i)) xs)
-        (filter (λ x. not (eqb x.seat i)) xs))
-    by true ih = ih
-    by false ih = ap (λ l. x.seat ∷ l) ih
+without_seats i (x ∷ xs) = grind (arith, without_seats i xs)
 
 module _ (b : Base) (e : Entry) (good : IsGood b) (k : Known (based b) [] e) where
   start : Waits (based b) []
@@ -176,9 +113,8 @@ module _ (b : Base) (e : Entry) (good : IsGood b) (k : Known (based b) [] e) whe
 
   joins_again : (w : Word) → e.word ≡ w → KnownBy (based b) [] e w →
       map (standing_after b (e ∷ [])) (arrivals_by (based b) w e []) ≡ joins_line b w e
-  joins_again word.Queued q k = refl
   joins_again word.Signal q k =
-      ap (λ l. map (standing_after b (e ∷ [])) (map coming_back l)) (taken_seats e.n (sleepers_of b e.at))
+      ap (λ l. map (standing_after b (e ∷ [])) (map coming_back l)) (take-map (λ x. x.seat) e.n (sleepers_of b e.at))
       ∙ moved_again b e (take e.n (sleepers_of b e.at)) (inl q)
       (each_taken (SleptAs b e.at) e.n (sleepers_of b e.at) (on_condition k.0.condition))
   joins_again word.SignalAll q k =
@@ -201,17 +137,7 @@ module _ (b : Base) (e : Entry) (good : IsGood b) (k : Known (based b) [] e) whe
           ∙ ap (λ w. sleep_after w e (last_sleep (based b) [] e.seat)) q
           ∙ ap (sleep_after word.Lapse e) was
           ∙ ap (λ w. record { condition = e.at; holds = (or_awake w).holds; how = e.end }) (sym on)
-  joins_again word.Got q k = refl
-  joins_again word.TryGot q k = refl
-  joins_again word.Granted q k = refl
-  joins_again word.Missed q k = refl
-  joins_again word.Left q k = refl
-  joins_again word.Gave q k = refl
-  joins_again (word.Refused f) q k = refl
-  joins_again word.Await q k = refl
-  joins_again word.Back q k = refl
-  joins_again word.Counted q k = refl
-  joins_again word.Drained q k = refl
+  joins_again _ q k = refl
 
   next_line : map (standing_after b (e ∷ [])) (line (based b) (e ∷ []))
       ≡ filter (stays_there e) b.line ++ joins_line b e.word e
@@ -242,7 +168,8 @@ module _ (b : Base) (e : Entry) (good : IsGood b) (k : Known (based b) [] e) whe
   holds_left : (c i : ℕ) → c < b.header.conditions → has i (sleepers (based b) [] c) ≡ true →
       (last_sleep (based b) (e ∷ []) i).holds ≡ (last_sleep (based b) [] i).holds
   holds_left c i l t =
-      ⊎_elim own (λ ne. ap (λ (w : Sleep). w.holds) (sleep_left b e i ne)) (cases_eq e.seat i)
+      ⊎_elim own (λ ne. ap (λ (w : Sleep). w.holds) (last_sleep_other (based b) e [] i ne))
+      (cases_eq e.seat i)
     where
       was : Sleep
       was = last_sleep (based b) [] e.seat
@@ -296,7 +223,7 @@ module _ (b : Base) (e : Entry) (good : IsGood b) (k : Known (based b) [] e) whe
       (each-filter (SleptAs b e.at) (λ x. not (eqb x.seat e.seat)) (sleepers_of b e.at)
       (all_slept b good e.at l))
   list_then l word.Signal q =
-      ap (map (sleeper_after b (e ∷ []))) (dropped_seats e.n (sleepers_of b e.at))
+      ap (map (sleeper_after b (e ∷ []))) (drop-map (λ x. x.seat) e.n (sleepers_of b e.at))
       ∙ list_left e.at l (drop e.n (sleepers_of b e.at))
       (each_dropped (SleptAs b e.at) e.n (sleepers_of b e.at) (all_slept b good e.at l))
   list_then l word.SignalAll q = refl
@@ -306,37 +233,13 @@ module _ (b : Base) (e : Entry) (good : IsGood b) (k : Known (based b) [] e) whe
       (λ c. map (sleeper_after b (e ∷ [])) (sleepers (based b) (e ∷ []) c))
       ≡ set b.sleepers e.at (sleepers_then e.word e (sleepers_of b e.at))
   next_sleepers =
-      ext_get_or [] (each_below b.header.conditions of) now
-      (length-each b.header.conditions of ∙ sym good.conditions
-      ∙ sym (length-set b.sleepers e.at (sleepers_then e.word e (sleepers_of b e.at))))
-      (λ c l.
-      let m : c < b.header.conditions = let n = length-each b.header.conditions of in omega (arith, n, l) in
-      get_or-each b.header.conditions of c [] m
-      ∙ ⊎_elim (λ same. here c m same) (λ ne. other c m ne) (cases_eq e.at c))
-    where
-      of : ℕ → List Sleeper
-      of c = map (sleeper_after b (e ∷ [])) (sleepers (based b) (e ∷ []) c)
-
-      now : List (List Sleeper)
-      now = set b.sleepers e.at (sleepers_then e.word e (sleepers_of b e.at))
-
-      here : (c : ℕ) → c < b.header.conditions → e.at ≡ c → of c ≡ get_or now c []
-      here c l same =
-          let m : e.at < b.header.conditions = omega (arith, l, same) in
-          let len = good.conditions in
-          ap of (sym same)
-          ∙ ap (map (sleeper_after b (e ∷ []))) (sleepers_here (based b) e [])
-          ∙ list_then m e.word refl
-          ∙ sym (get_or-set_same b.sleepers e.at (sleepers_then e.word e (sleepers_of b e.at)) []
-          (omega (arith, m, len)))
-          ∙ ap (λ n. get_or now n []) same
-
-      other : (c : ℕ) → c < b.header.conditions → e.at ≢ c → of c ≡ get_or now c []
-      other c l ne =
-          ap (map (sleeper_after b (e ∷ []))) (sleepers_other (based b) e [] c ne)
-          ∙ list_left c l (sleepers_of b c) (all_slept b good c l)
-          ∙ sym (get_or-set_other b.sleepers e.at c (sleepers_then e.word e (sleepers_of b e.at)) []
-          (λ q. ne (sym q)))
+      each_set [] b.header.conditions (λ c. map (sleeper_after b (e ∷ [])) (sleepers (based b) (e ∷ []) c))
+      b.sleepers e.at (sleepers_then e.word e (sleepers_of b e.at)) good.conditions
+      (λ l.
+      ap (map (sleeper_after b (e ∷ []))) (sleepers_here (based b) e []) ∙ list_then l e.word refl)
+      (λ c l ne.
+      ap (map (sleeper_after b (e ∷ []))) (sleepers_other (based b) e [] c ne)
+      ∙ list_left c l (sleepers_of b c) (all_slept b good c l))
 
 -- The fold of one entry.
 pub next_is : (b : Base) (e : Entry) → CanFold b (e ∷ []) → folded b (e ∷ []) ≡ next_base b e

@@ -1,7 +1,8 @@
 -- A lock or read-write lock has one owner.
-use Rattle.std.proofs.Common.{◌≡◌, ◌≢◌, ◌⊎◌, inl, inr, ⊎_elim, ℕ, zero, suc, ◌+◌, ◌<◌, ◌≤◌, Bool, true, false, ◌&&◌, cond, eqb, ltb, List, [], ◌∷◌, Option, Some, None, refl, ap, ◌∙◌, sym, subst, arith, eq-eqb, eqb-true, ltb-true, ltb-false}
-use Rattle.std.proofs.lemmas.Bool.{cases_eq, cases_Bool, and_parts}
-use Rattle.history.specs.Prelude.{MOST_HOLDS, MOST_READ_WRITE_HOLDS, Arrival, Entry, Mode, X, S, Word, Header, Object, Lock, ReadWrite, Semaphore, Latch, could, could_of, is_none_or, is_seat, Counts, counts, held, holds_after, owner, readers, total, same_mode, AreSeated, IsLegal, line, place_of, in_holds, is_lock, IsOwned, IsSaved, is_away, most_exclusive, most_shared, phase, phase_by, last_sleep, sleeps_below, Start, opening}
+use Rattle.std.proofs.Common.{◌≡◌, ◌≢◌, ◌⊎◌, inl, inr, ⊎_elim, ℕ, zero, suc, ◌+◌, ◌<◌, ◌≤◌, Bool, true, false, ◌&&◌, cond, eqb, ltb, List, [], ◌∷◌, Option, Some, None, refl, ap, ◌∙◌, sym, subst, arith, eqb-true, ltb-true}
+use Rattle.std.proofs.lemmas.Bool.{cases_lt, and_parts}
+use Rattle.std.proofs.lemmas.Bool.Decides.{nat_tests}
+use Rattle.history.specs.Prelude.{MOST_HOLDS, MOST_READ_WRITE_HOLDS, Arrival, Entry, Mode, X, S, Word, Header, Object, Lock, ReadWrite, could, could_of, is_none_or, is_seat, Counts, counts, held, holds_after, owner, readers, total, same_mode, AreSeated, IsLegal, line, place_of, in_holds, is_lock, IsOwned, IsSaved, is_away, most_shared, phase, phase_by, sleeps_below, Start, opening}
 use Rattle.history.specs.declared.entry.Word.TheVariants as word
 use Rattle.history.proofs.Entering.{Known, KnownBy, known, seat_is}
 use Rattle.history.proofs.OneWait.{Saved, SavedIfBack, Waits, opening_waits, placed, waits, waits_from}
@@ -22,34 +23,21 @@ none_or_some zero = inl refl
 none_or_some (suc n) = inr (omega arith)
 
 pub cases_below : (a b : ℕ) → (a < b) ⊎ (b ≤ a)
-cases_below a b = ⊎_elim (λ t. inl (ltb-true a b t)) (λ f. inr (ltb-false a b f)) (cases_Bool (ltb a b))
+cases_below a b = cases_lt a b
 
 -- where a seat or nobody owns, nobody else has exclusive holds
 others_own_nothing : (s : Start) (h : List Entry) (i : ℕ) → Owned s h →
     is_none_or (owner (counts s h)) i ≡ true → (j : ℕ) → j ≢ i → held s h j X ≡ 0
-others_own_nothing s h i v t j ne = by (owner (counts s h)) refl t
-  where
-    within : owner (counts s h) ≡ None → held s h j X ≡ 0
-    within p = ⊎_elim (λ l. nobody_holds (counts s h) j p l) (λ l. v.seats j X l)
-        (cases_below j s.header.seats)
-
-    by : (o : Option ℕ) → owner (counts s h) ≡ o → is_none_or o i ≡ true → held s h j X ≡ 0
-    by None p u = within p
-    by (Some x) p u =
-        let same : x ≡ i = eqb-true x i u in
-        let holds : 0 < held s h i X =
-        subst (λ y. 0 < held s h y X) same (owner_holds (counts s h) x p).1 in
-        ⊎_elim (λ z. z) (λ some. absurd (ne (sym (v.one i j holds some)))) (none_or_some (held s h j X))
+others_own_nothing s h i v t j ne =
+    let within = nobody_holds (counts s h) j in
+    grind (arith, nat_tests, t, ne, within, owner_holds (counts s h), v.seats j X, v.one i j)
 
 -- where nobody reads, nobody has shared holds
 nobody_reads : (s : Start) (h : List Entry) → Owned s h → total s.header.seats (λ i. held s h i S) ≡ 0 →
     (j : ℕ) → held s h j S ≡ 0
-nobody_reads s h v none j = ⊎_elim within (λ l. v.seats j S l) (cases_below j s.header.seats)
-  where
-    within : j < s.header.seats → held s h j S ≡ 0
-    within l =
-        let p = total_part s.header.seats (λ i. held s h i S) j l in
-        omega (arith, p, none)
+nobody_reads s h v none j =
+    ⊎_elim (λ l. omega (arith, total_part s.header.seats (λ i. held s h i S) j l, none)) (λ l. v.seats j S l)
+    (cases_below j s.header.seats)
 
 -- What an entry of a lock does to holds: its seat takes exclusively where nobody else holds anything, takes
 -- to read where nobody else owns and not all may read, or no holds grow.
@@ -78,12 +66,8 @@ could_write s h i n v t lock = by s.header.object t lock v.shared
         cond b (ltb (k.held i X) MOST_READ_WRITE_HOLDS) (is_none_or (owner k) i && eqb (readers k) 0) ≡ true →
         (j : ℕ) (m : Mode) → j ≢ i → held s h j m ≡ 0
     writes true q u =
-        let holds : 0 < held s h i X = (owner_holds (counts s h) i (seat_is (owner (counts s h)) i q)).1 in
-        both s h i
-        (λ j ne. ⊎_elim (λ z. z) (λ some. absurd (ne (sym (v.one i j holds some))))
-        (none_or_some (held s h j X)))
-        (λ j ne. ⊎_elim (λ z. z) (λ some. absurd (ne (sym (v.alone i j holds some))))
-        (none_or_some (held s h j S)))
+        let l : 0 < held s h i X = (owner_holds (counts s h) i (seat_is (owner (counts s h)) i q)).1 in
+        both s h i (λ j ne. grind (arith, l, ne, v.one i j)) (λ j ne. grind (arith, l, ne, v.alone i j))
     writes false q u =
         let parts = and_parts (is_none_or (owner (counts s h)) i) (eqb (readers (counts s h)) 0) u in
         both s h i (others_own_nothing s h i v parts.0)
@@ -96,8 +80,7 @@ could_write s h i n v t lock = by s.header.object t lock v.shared
         let parts = and_parts (is_none_or (owner (counts s h)) i) (ltb (held s h i X) MOST_HOLDS) u in
         both s h i (others_own_nothing s h i v parts.0) (λ j ne. nobody_reads s h v (omega (arith, few)) j)
     by (ReadWrite policy) u l few = writes (is_seat (owner (counts s h)) i) refl u
-    by (Semaphore policy permits) u l few = absurd (cc)
-    by (Latch opening) u l few = absurd (cc)
+    by _ u l few = absurd (cc)
 
 -- who could read finds that nobody else owns, and that fewer read than may
 could_read : (s : Start) (h : List Entry) (i n : ℕ) → Owned s h → could (counts s h) i S n ≡ true →
@@ -107,39 +90,15 @@ could_read s h i n v t lock = by s.header.object t lock
   where
     by : (o : Object) → could_of o (counts s h) i S n ≡ true → is_lock o ≡ true →
         ((j : ℕ) → j ≢ i → held s h j X ≡ 0) × (total s.header.seats (λ j. held s h j S) < most_shared o)
-    by (Lock policy) u l = absurd (cc)
     by (ReadWrite policy) u l =
         let parts = and_parts (is_none_or (owner (counts s h)) i)
         (ltb (readers (counts s h)) MOST_READ_WRITE_HOLDS) u in
         (others_own_nothing s h i v parts.0, ltb-true _ MOST_READ_WRITE_HOLDS parts.1)
-    by (Semaphore policy permits) u l = absurd (cc)
-    by (Latch opening) u l = absurd (cc)
-
--- the words by which no holds grow
-abbrev lessens : Word → Bool
-lessens word.Got = false
-lessens word.TryGot = false
-lessens word.Granted = false
-lessens word.Back = false
-lessens word.Drained = false
-lessens _ = true
-
-lessens_by : (o : Object) (w : Word) (n x : ℕ) → lessens w ≡ true → holds_after o w n x ≤ x
-lessens_by o word.Got n x t = absurd (cc)
-lessens_by o word.TryGot n x t = absurd (cc)
-lessens_by o word.Granted n x t = absurd (cc)
-lessens_by o word.Back n x t = absurd (cc)
-lessens_by o word.Drained n x t = absurd (cc)
-lessens_by o word.Gave n x t = omega arith
-lessens_by o word.Await n x t = omega arith
-lessens_by o _ n x t = omega arith
+    by _ u l = absurd (cc)
 
 -- a lock is held once by each take
 pub lock_holds : (o : Object) (n : ℕ) → is_lock o ≡ true → in_holds o n ≡ 1
-lock_holds (Lock p) n t = refl
-lock_holds (ReadWrite p) n t = refl
-lock_holds (Semaphore p c) n t = cc
-lock_holds (Latch c) n t = cc
+lock_holds o n t = grind arith
 
 takes_change : (s : Start) (e : Entry) (h : List Entry) (w : Word) → e.word ≡ w → Owned s h →
     is_lock s.header.object ≡ true
@@ -159,9 +118,6 @@ changes : (s : Start) (e : Entry) (h : List Entry) → is_lock s.header.object �
     Waits s h → Owned s h → Changes s e h
 changes s e h lock known waits v = by e.word refl known
   where
-    less : lessens e.word ≡ true → Changes s e h
-    less t = Lessens (λ x. lessens_by s.header.object e.word e.n x t)
-
     by : (w : Word) → e.word ≡ w → KnownBy s h e w → Changes s e h
     by word.Got p k = takes_change s e h word.Got p v lock (λ n x. refl) k.1
     by word.TryGot p k = takes_change s e h word.TryGot p v lock (λ n x. refl) k.1
@@ -178,51 +134,26 @@ changes s e h lock known waits v = by e.word refl known
         (could_write s h e.seat k.0.n v (ap (λ m. could (counts s h) e.seat m k.0.n) (sym b.mode)
         ∙ c) lock)
     by word.Drained p k = absurd (semaphore_no_lock s.header.object k.1 lock)
-    by word.Queued p k = less (ap lessens p)
-    by word.Missed p k = less (ap lessens p)
-    by word.Left p k = less (ap lessens p)
-    by word.Gave p k = less (ap lessens p)
-    by (word.Refused f) p k = less (ap lessens p)
-    by word.Await p k = less (ap lessens p)
-    by word.Lapse p k = less (ap lessens p)
-    by word.Signal p k = less (ap lessens p)
-    by word.SignalAll p k = less (ap lessens p)
-    by word.Counted p k = less (ap lessens p)
+    by _ p k = Lessens (λ x. omega (arith, ap (λ w. holds_after s.header.object w e.n x) p))
 
 -- the holds after an entry
 held_less : (s : Start) (e : Entry) (h : List Entry) →
     ((x : ℕ) → holds_after s.header.object e.word e.n x ≤ x) → (i : ℕ) (m : Mode) →
     held s (e ∷ h) i m ≤ held s h i m
-held_less s e h less i m = by (eqb e.seat i && same_mode e.mode m)
-  where
-    by : (b : Bool) →
-        cond b (holds_after s.header.object e.word e.n (held s h i m)) (held s h i m) ≤ held s h i m
-    by true = less (held s h i m)
-    by false = omega arith
+held_less s e h less i m = grind (arith, less (held s h i m))
 
 other_mode : (s : Start) (e : Entry) (h : List Entry) (i : ℕ) (m n : Mode) → e.mode ≡ m →
     same_mode m n ≡ false → held s (e ∷ h) i n ≡ held s h i n
-other_mode s e h i m n p t = by (eqb e.seat i) _ (ap (λ x. same_mode x n) p ∙ t)
-  where
-    by : (b c : Bool) → c ≡ false →
-        cond (b && c) (holds_after s.header.object e.word e.n (held s h i n)) (held s h i n) ≡ held s h i n
-    by true c q = rw q refl
-    by false c q = refl
+other_mode s e h i m n p t = grind (arith, p, t)
 
 pub total_less : (n : ℕ) (f g : ℕ → ℕ) → ((i : ℕ) → f i ≤ g i) → total n f ≤ total n g
 total_less zero f g less = omega arith
-total_less (suc n) f g less = let ih = total_less n f g less in let l = less n in omega (arith, ih, l)
+total_less (suc n) f g less = omega (arith, total_less n f g less, less n)
 
 -- nobody but the entry's seat has what nobody else has
 own_alone : (s : Start) (e : Entry) (h : List Entry) (m : Mode) →
     ((j : ℕ) → j ≢ e.seat → held s h j m ≡ 0) → (i : ℕ) → 0 < held s (e ∷ h) i m → i ≡ e.seat
-own_alone s e h m nobody i some = ⊎_elim (λ same. same) (λ ne. absurd (none ne)) (cases_eq i e.seat)
-  where
-    none : (i ≡ e.seat → ⊥) → ⊥
-    none ne =
-        let a : held s (e ∷ h) i m ≡ held s h i m = held_other s e h i m (λ q. ne (sym q)) in
-        let b : held s h i m ≡ 0 = nobody i ne in
-        omega (arith, a, b, some)
+own_alone s e h m nobody i some = grind (arith, nat_tests, some, nobody i)
 
 seats_next : (s : Start) (e : Entry) (h : List Entry) → e.seat < s.header.seats → Owned s h →
     (i : ℕ) (m : Mode) → s.header.seats ≤ i → held s (e ∷ h) i m ≡ 0
@@ -233,17 +164,9 @@ shared_by_one : (s : Start) (e : Entry) (h : List Entry) → e.mode ≡ S → e.
     ((x : ℕ) → holds_after s.header.object e.word e.n x ≡ x + 1) →
     total s.header.seats (λ i. held s (e ∷ h) i S) ≡ total s.header.seats (λ i. held s h i S) + 1
 shared_by_one s e h m seat one =
-    let c : total s.header.seats (λ i. held s (e ∷ h) i S) + held s h e.seat S
-    ≡ total s.header.seats (λ i. held s h i S) + held s (e ∷ h) e.seat S =
-    total_change s.header.seats (λ i. held s (e ∷ h) i S) (λ i. held s h i S) e.seat seat
+    let change = total_change s.header.seats (λ i. held s (e ∷ h) i S) (λ i. held s h i S) e.seat seat
     (λ i ne. held_other s e h i S (λ q. ne (sym q))) in
-    let d : held s (e ∷ h) e.seat S ≡ held s h e.seat S + 1 = at in
-    omega (arith, c, d)
-  where
-    at : held s (e ∷ h) e.seat S ≡ held s h e.seat S + 1
-    at = rw (eq-eqb e.seat e.seat refl)
-        (ap (λ x. cond (same_mode x S) (holds_after s.header.object e.word e.n (held s h e.seat S))
-        (held s h e.seat S)) m ∙ one _)
+    grind (arith, nat_tests, change, m, one (held s h e.seat S))
 
 owned_next : (s : Start) (e : Entry) (h : List Entry) → e.seat < s.header.seats → Owned s h →
     Changes s e h → Owned s (e ∷ h)
@@ -260,28 +183,24 @@ owned_next s e h seat v (Writes mode nobody) =
 owned_next s e h seat v (Reads mode nobody few one) =
     record {
       one = λ i j a b. own_alone s e h X nobody i a ∙ sym (own_alone s e h X nobody j b);
-      alone = λ i j a b. beside i j (own_alone s e h X nobody i a)
-          (subst (λ n. 0 < n) (other_mode s e h i S X mode refl) a) b (cases_eq j e.seat);
-      shared = let t = shared_by_one s e h mode seat one in omega (arith, t, few);
+      alone = λ i j a b. let p = own_alone s e h X nobody i a in
+          let x = other_mode s e h i S X mode refl in
+          let y = held_other s e h j S in
+          grind (arith, a, b, p, x, y, v.alone i j);
+      shared = omega (arith, shared_by_one s e h mode seat one, few);
       seats = seats_next s e h seat v;
     }
-  where
-    beside : (i j : ℕ) → i ≡ e.seat → 0 < held s h i X → 0 < held s (e ∷ h) j S →
-        (j ≡ e.seat) ⊎ (j ≡ e.seat → ⊥) → i ≡ j
-    beside i j p a b (inl q) = p ∙ sym q
-    beside i j p a b (inr ne) =
-        v.alone i j a (subst (λ n. 0 < n) (held_other s e h j S (λ q. ne (sym q))) b)
 owned_next s e h seat v (Lessens less) =
     record {
       one = λ i j a b. v.one i j (was i X a) (was j X b);
       alone = λ i j a b. v.alone i j (was i X a) (was j S b);
-      shared = let t = total_less s.header.seats _ _ (λ i. held_less s e h less i S) in let f = v.shared in
-          omega (arith, t, f);
+      shared =
+          let l = total_less s.header.seats _ _ (λ i. held_less s e h less i S) in omega (arith, v.shared, l);
       seats = seats_next s e h seat v;
     }
   where
     was : (i : ℕ) (m : Mode) → 0 < held s (e ∷ h) i m → 0 < held s h i m
-    was i m a = let l = held_less s e h less i m in omega (arith, l, a)
+    was i m a = omega (arith, held_less s e h less i m, a)
 
 -- from a start of which it holds
 pub owned_on : (s : Start) (h : List Entry) → is_lock s.header.object ≡ true → Waits s [] → Owned s [] →
@@ -299,7 +218,7 @@ owned_from k h lock legal seats =
     (record {
       one = λ i j a b. absurd (omega (arith, a));
       alone = λ i j a b. absurd (omega (arith, a));
-      shared = let z = total_nothing k.seats in omega (arith, z);
+      shared = omega (arith, total_nothing k.seats);
       seats = λ i m l. refl;
     })
     legal seats
@@ -313,7 +232,7 @@ is_owned s h lock waits v =
       alone = v.alone;
       exclusive = λ i. ⊎_elim
           (λ l. waits.holds i l lock)
-          (λ l. let z = v.seats i X l in omega (arith, z)) (cases_below i s.header.seats);
+          (λ l. omega (arith, v.seats i X l)) (cases_below i s.header.seats);
       shared = v.shared;
     }
 
@@ -330,11 +249,7 @@ saved_from s h v i t =
   where
     as_saved : Saved s h i → IsSaved s h i
     as_saved r =
-        record {
-          nothing = r.nothing;
-          some = r.some;
-          most = r.most;
-        }
+        record { nothing = r.nothing; some = r.some; most = r.most }
 
     by : (o : Option Arrival) (b : Bool) → place_of i (line s h) ≡ o →
         sleeps_below s.header.conditions s h i ≡ b → is_away (phase_by o b) ≡ true → IsSaved s h i

@@ -1,37 +1,34 @@
 -- How the room that stays reserved changes at one entry.
-use Rattle.std.proofs.Common.{◌≡◌, ◌≢◌, ⊎_elim, ℕ, zero, suc, ◌+◌, ◌-◌, ◌<◌, ◌≤◌, Bool, true, false, not, ◌&&◌, cond, eqb, ltb, List, [], ◌∷◌, ◌++◌, length, map, take, Some, refl, ap, ◌∙◌, sym, subst, arith, eq-eqb, ne_eqb, ltb-true, append-nil}
+use Rattle.std.proofs.Common.{◌≡◌, ◌≢◌, ℕ, zero, suc, ◌+◌, ◌-◌, ◌<◌, ◌≤◌, Bool, true, false, not, ◌&&◌, cond, eqb, List, [], ◌∷◌, ◌++◌, length, map, take, Some, refl, ap, ◌∙◌, sym, subst, arith, eq-eqb, ne_eqb, append-nil}
 use Rattle.std.proofs.Math.Nat.{add-zero}
 use Rattle.std.specs.List.{filter}
-use Rattle.std.proofs.lemmas.Bool.{cases_Bool}
-use Rattle.history.specs.Prelude.{Arrival, Entry, Mode, X, S, Word, Fault, Header, Object, Lock, ReadWrite, Semaphore, Latch, Counts, counts, held, holds_after, total, same_mode, ends_arrival, line, arrivals_by, coming_back, place_of, is_lock, is_semaphore, in_holds, Sleeping, phase, released_by, releases, reserved_by, reserves, sum_of, holds_owe, arrival_owes, sleeper_owes, sleepers_owe, owed, sleepers, sleepers_after, sleep_after, last_sleep, sleeps_below, has, IsLegal, AreSeated, Start, Sleep, opening, times, seats_of, IsOneWait, gave, at_most_one, back, lapse}
+use Rattle.std.proofs.lemmas.Bool.Decides.{nat_tests}
+use Rattle.history.specs.Prelude.{Arrival, Entry, Mode, X, S, Word, Header, Object, Counts, counts, held, holds_after, total, ends_arrival, line, arrivals_by, coming_back, place_of, is_lock, is_semaphore, in_holds, Sleeping, phase, released_by, releases, reserved_by, reserves, sum_of, holds_owe, arrival_owes, sleeper_owes, sleepers_owe, owed, sleepers, sleepers_after, sleep_after, last_sleep, sleeps_below, has, IsLegal, AreSeated, Start, Sleep, opening, times, seats_of, IsOneWait, gave, at_most_one, back, lapse}
 use Rattle.history.specs.declared.entry.Word.TheVariants as word
 use Rattle.history.proofs.Changes.{all_stay}
 use Rattle.history.proofs.Entering.{Known, KnownBy, OnCondition, LeavesLine, known}
 use Rattle.history.proofs.LineLemmas.{line_after, stays, no_arrival}
-use Rattle.history.proofs.ListSums.{sum_of_append, sum_of_same, sum_of_more, sum_of_map, sum_of_split, sum_of_without, line_without, sum_of_line_without, sum_of_others, sum_of_line_others}
+use Rattle.history.proofs.ListSums.{sum_of_append, sum_of_same, sum_of_more, sum_of_map, sum_of_split, sum_of_without, sum_of_line_without, sum_of_others, sum_of_line_others}
 use Rattle.history.proofs.OneWait.{Waits, SavedIfBack, placed, waits}
-use Rattle.history.proofs.SleepLemmas.{awake_nowhere, idle_parts, last_sleep_other, sleeping_parts, sleeps_at, times-waiting}
+use Rattle.history.proofs.SleepLemmas.{awake_nowhere, idle_parts, last_sleep_other, leaves_sleepers, sleepers_same, sleeping_parts, sleeps_at, times-waiting}
 use Rattle.history.proofs.Times.{never_has, place_once, total_part}
 use Rattle.history.proofs.Sums.{total_same, total_change, total_change_below}
 
 -- a seat is in line or on a condition once, and where it doesn't sleep on none
 in_line_once : (s : Start) (h : List Entry) → IsOneWait s h → (i : ℕ) → times i (seats_of (line s h)) ≤ 1
-in_line_once s h once i = let w = times-waiting s h i in let o = once i in omega (arith, w, o)
+in_line_once s h once i = omega (arith, times-waiting s h i, once i)
 
 asleep_once : (s : Start) (h : List Entry) → IsOneWait s h → (i c : ℕ) → c < s.header.conditions →
     times i (sleepers s h c) ≤ 1
 asleep_once s h once i c l =
-    let w = times-waiting s h i in
-    let p = total_part s.header.conditions (λ d. times i (sleepers s h d)) c l in
-    let o = once i in
-    omega (arith, w, p, o)
+    let part = total_part s.header.conditions (λ d. times i (sleepers s h d)) c l in
+    omega (arith, part, times-waiting s h i, once i)
 
 sleeps_not : (s : Start) (h : List Entry) (i c : ℕ) → sleeps_below s.header.conditions s h i ≡ false →
     c < s.header.conditions → has i (sleepers s h c) ≡ false
 sleeps_not s h i c t l =
-    let z = awake_nowhere s.header.conditions s h i t in
     let p = total_part s.header.conditions (λ d. times i (sleepers s h d)) c l in
-    never_has i (sleepers s h c) (omega (arith, z, p))
+    never_has i (sleepers s h c) (omega (arith, p, awake_nowhere s.header.conditions s h i t))
 
 -- the holds
 abbrev if_lock : Object → ℕ → ℕ
@@ -41,22 +38,7 @@ if_lock o n = cond (is_lock o) n 0
 own_holds : (s : Start) (e : Entry) (h : List Entry) → held s (e ∷ h) e.seat X + held s (e ∷ h) e.seat S
     + held s h e.seat e.mode ≡ held s h e.seat X + held s h e.seat S
     + holds_after s.header.object e.word e.n (held s h e.seat e.mode)
-own_holds s e h = rw (eq-eqb e.seat e.seat refl) (by e.mode)
-  where
-    by : (m : Mode) →
-        cond (same_mode m X) (holds_after s.header.object e.word e.n (held s h e.seat X))
-        (held s h e.seat X)
-        + cond (same_mode m S) (holds_after s.header.object e.word e.n (held s h e.seat S))
-        (held s h e.seat S) + held s h e.seat m ≡ held s h e.seat X + held s h e.seat S
-        + holds_after s.header.object e.word e.n (held s h e.seat m)
-    by X = swap _ _ _
-      where
-        swap : (a b x : ℕ) → a + b + x ≡ x + b + a
-        swap a b x = omega arith
-    by S = swap _ _ _
-      where
-        swap : (a b x : ℕ) → x + a + b ≡ x + b + a
-        swap a b x = omega arith
+own_holds s e h = grind (arith, nat_tests)
 
 other_holds : (s : Start) (e : Entry) (h : List Entry) (i : ℕ) → i ≢ e.seat →
     held s (e ∷ h) i X + held s (e ∷ h) i S ≡ held s h i X + held s h i S
@@ -66,39 +48,19 @@ holds_change : (s : Start) (e : Entry) (h : List Entry) → e.seat < s.header.se
     holds_owe s (e ∷ h) + if_lock s.header.object (held s h e.seat e.mode)
     ≡ holds_owe s h
     + if_lock s.header.object (holds_after s.header.object e.word e.n (held s h e.seat e.mode))
-holds_change s e h seat = by (is_lock s.header.object)
-  where
-    by : (b : Bool) → cond b (total s.header.seats (λ i. held s (e ∷ h) i X + held s (e ∷ h) i S)) 0
-        + cond b (held s h e.seat e.mode) 0
-        ≡ cond b (total s.header.seats (λ i. held s h i X + held s h i S)) 0
-        + cond b (holds_after s.header.object e.word e.n (held s h e.seat e.mode)) 0
-    by false = refl
-    by true = three _ _ _ _ _ _
-        (total_change s.header.seats (λ i. held s (e ∷ h) i X + held s (e ∷ h) i S)
-        (λ i. held s h i X + held s h i S) e.seat seat (other_holds s e h)) (own_holds s e h)
-      where
-        three : (t' t f g a b : ℕ) → t' + g ≡ t + f → f + a ≡ g + b → t' + a ≡ t + b
-        three t' t f g a b p q = omega (arith, p, q)
+holds_change s e h seat =
+    let change = total_change s.header.seats (λ i. held s (e ∷ h) i X + held s (e ∷ h) i S)
+    (λ i. held s h i X + held s h i S) e.seat seat (other_holds s e h) in
+    grind (arith, change, own_holds s e h)
 
 -- the last sleep, whose holds only an await changes
 abbrev falls_asleep : Word → Bool
 falls_asleep word.Await = true
 falls_asleep _ = false
 
-sleep_by : (w : Word) (e : Entry) (was : Sleep) → falls_asleep w ≡ false →
-    (sleep_after w e was).holds ≡ was.holds
-sleep_by word.Await e was t = cc
-sleep_by word.Lapse e was t = refl
-sleep_by _ e was t = refl
-
 sleep_kept : (s : Start) (e : Entry) (h : List Entry) (i : ℕ) → falls_asleep e.word ≡ false →
     (last_sleep s (e ∷ h) i).holds ≡ (last_sleep s h i).holds
-sleep_kept s e h i t = by (eqb e.seat i)
-  where
-    by : (b : Bool) → (cond b (sleep_after e.word e (last_sleep s h i)) (last_sleep s h i)).holds
-        ≡ (last_sleep s h i).holds
-    by true = sleep_by e.word e (last_sleep s h i) t
-    by false = refl
+sleep_kept s e h i t = grind (arith, t)
 
 -- what an arrival and a sleeper owe, by the holds that were given up
 arrival_owes_as : (s : Start) (h g : List Entry) (a : Arrival) →
@@ -155,97 +117,24 @@ sleepers_change : (s : Start) (e : Entry) (h : List Entry) (w : Word) → e.word
     + asleep_owe s h e.at ≡ sleepers_owe s.header.conditions s h + asleep_after s e h w
 sleepers_change s e h w p t l =
     let t' : falls_asleep e.word ≡ false = ap falls_asleep p ∙ t in
-    join _ _ _ _ _ _ _
-    (sleepers_total s.header.conditions s (e ∷ h))
-    (sleepers_total s.header.conditions s h)
-    (total_change s.header.conditions (asleep_owe s (e ∷ h)) (asleep_owe s h) e.at l
-    (λ c ne. asleep_elsewhere s e h c t' ne))
-    (asleep_at s e h t' ∙ ap (asleep_after s e h) p)
-  where
-    join : (a b t u x y z : ℕ) → a ≡ t → b ≡ u → t + x ≡ u + y → y ≡ z → a + x ≡ b + z
-    join a b t u x y z p q r v = omega (arith, p, q, r, v)
+    let change = total_change s.header.conditions (asleep_owe s (e ∷ h)) (asleep_owe s h) e.at l
+    (λ c ne. asleep_elsewhere s e h c t' ne) in
+    let now = sleepers_total s.header.conditions s (e ∷ h) in
+    omega (arith, sleepers_total s.header.conditions s h, asleep_at s e h t' ∙ ap (asleep_after s e h) p)
 
--- the words by which nobody begins or ends to wait
-abbrev moves_no_waiter : Word → Bool
-moves_no_waiter word.Got = true
-moves_no_waiter word.TryGot = true
-moves_no_waiter word.Missed = true
-moves_no_waiter word.Gave = true
-moves_no_waiter (word.Refused f) = true
-moves_no_waiter word.Counted = true
-moves_no_waiter word.Drained = true
-moves_no_waiter _ = false
+-- where nobody falls asleep or leaves a condition
+still_awake : (w : Word) → leaves_sleepers w ≡ true → falls_asleep w ≡ false
+still_awake w t = grind arith
 
-record MovesNoWaiter (s : Start) (e : Entry) (h : List Entry) (w : Word) : Type 0 where
-  ends : ends_arrival w ≡ false
-  nobody : arrivals_by s w e h ≡ []
-  awake : falls_asleep w ≡ false
-
-no_waiter : (s : Start) (e : Entry) (h : List Entry) (w : Word) → moves_no_waiter w ≡ true →
-    MovesNoWaiter s e h w
-no_waiter s e h word.Got t = record { ends = refl; nobody = refl; awake = refl }
-no_waiter s e h word.TryGot t = record { ends = refl; nobody = refl; awake = refl }
-no_waiter s e h word.Missed t = record { ends = refl; nobody = refl; awake = refl }
-no_waiter s e h word.Gave t = record { ends = refl; nobody = refl; awake = refl }
-no_waiter s e h (word.Refused f) t = record { ends = refl; nobody = refl; awake = refl }
-no_waiter s e h word.Counted t = record { ends = refl; nobody = refl; awake = refl }
-no_waiter s e h word.Drained t = record { ends = refl; nobody = refl; awake = refl }
-no_waiter s e h _ t = absurd (cc)
-
--- the words by which nobody falls asleep or leaves a condition
-abbrev moves_no_sleeper : Word → Bool
-moves_no_sleeper word.Await = false
-moves_no_sleeper word.Signal = false
-moves_no_sleeper word.SignalAll = false
-moves_no_sleeper word.Lapse = false
-moves_no_sleeper _ = true
-
-no_sleeper : (w : Word) (i n : ℕ) (seats : List ℕ) → moves_no_sleeper w ≡ true →
-    (sleepers_after w i n seats ≡ seats) × (falls_asleep w ≡ false)
-no_sleeper word.Await i n seats t = absurd (cc)
-no_sleeper word.Signal i n seats t = absurd (cc)
-no_sleeper word.SignalAll i n seats t = absurd (cc)
-no_sleeper word.Lapse i n seats t = absurd (cc)
-no_sleeper _ i n seats t = (refl, refl)
-
-sleepers_kept : (s : Start) (e : Entry) (h : List Entry) → moves_no_sleeper e.word ≡ true →
+sleepers_kept : (s : Start) (e : Entry) (h : List Entry) → leaves_sleepers e.word ≡ true →
     sleepers_owe s.header.conditions s (e ∷ h) ≡ sleepers_owe s.header.conditions s h
 sleepers_kept s e h t =
     sleepers_total s.header.conditions s (e ∷ h)
-    ∙ total_same s.header.conditions (asleep_owe s (e ∷ h)) (asleep_owe s h) same
+    ∙ total_same s.header.conditions (asleep_owe s (e ∷ h)) (asleep_owe s h) (λ c.
+    sum_of_same (sleeper_owes s (e ∷ h)) (sleeper_owes s h) (sleepers s (e ∷ h) c)
+    (λ i. sleeper_owes_as s h (e ∷ h) i (sleep_kept s e h i (still_awake e.word t)))
+    ∙ ap (sum_of (sleeper_owes s h)) (sleepers_same s e h c t))
     ∙ sym (sleepers_total s.header.conditions s h)
-  where
-    list : (c : ℕ) → sleepers s (e ∷ h) c ≡ sleepers s h c
-    list c = by (eqb e.at c)
-      where
-        by : (b : Bool) → cond b (sleepers_after e.word e.seat e.n (sleepers s h c)) (sleepers s h c)
-            ≡ sleepers s h c
-        by true = (no_sleeper e.word e.seat e.n (sleepers s h c) t).0
-        by false = refl
-
-    same : (c : ℕ) → asleep_owe s (e ∷ h) c ≡ asleep_owe s h c
-    same c =
-        sum_of_same (sleeper_owes s (e ∷ h)) (sleeper_owes s h) (sleepers s (e ∷ h) c)
-        (λ i. sleeper_owes_as s h (e ∷ h) i
-        (sleep_kept s e h i (no_sleeper e.word e.seat e.n (sleepers s h c) t).1))
-        ∙ ap (sum_of (sleeper_owes s h)) (list c)
-
--- the parts of what is owed, before and behind an entry
-pub record Balance (s : Start) (e : Entry) (h : List Entry)
-    (holds_less holds_more line_less line_more asleep_less asleep_more : ℕ) : Type 0 where
-  holds : holds_owe s (e ∷ h) + holds_less ≡ holds_owe s h + holds_more
-  line : line_owes s (e ∷ h) + line_less ≡ line_owes s h + line_more
-  asleep : sleepers_owe s.header.conditions s (e ∷ h) + asleep_less
-      ≡ sleepers_owe s.header.conditions s h + asleep_more
-
-balance : (s : Start) (e : Entry) (h : List Entry) (l1 m1 l2 m2 l3 m3 l m : ℕ) →
-    Balance s e h l1 m1 l2 m2 l3 m3 → l + m1 + m2 + m3 ≡ m + l1 + l2 + l3 →
-    owed s (e ∷ h) + l ≡ owed s h + m
-balance s e h l1 m1 l2 m2 l3 m3 l m b q = add_up _ _ _ _ _ _ b.holds b.line b.asleep
-  where
-    add_up : (a' a b' b c' c : ℕ) → a' + l1 ≡ a + m1 → b' + l2 ≡ b + m2 → c' + l3 ≡ c + m3 →
-        a' + b' + c' + l ≡ a + b + c + m
-    add_up a' a b' b c' c x y z = omega (arith, x, y, z, q)
 
 -- the holds of an entry's seat, in its mode
 abbrev own : Start → List Entry → Entry → ℕ
@@ -262,93 +151,47 @@ line_joined : (s : Start) (e : Entry) (h : List Entry) (w : Word) → e.word ≡
     falls_asleep w ≡ false → line_owes s (e ∷ h) + 0 ≡ line_owes s h
     + sum_of (arrival_owes s h) (arrivals_by s w e h)
 line_joined s e h w p ends awake =
-    let c = line_change s e h w p awake in
-    let d : sum_of (arrival_owes s h) (filter (stays w e.seat) (line s h)) ≡ line_owes s h =
-    ap (sum_of (arrival_owes s h)) (all_stay w e.seat (line s h) ends) in
-    join _ _ _ _ c d
-  where
-    join : (a b x y : ℕ) → a ≡ x + y → x ≡ b → a + 0 ≡ b + y
-    join a b x y p q = omega (arith, p, q)
+    let x = line_change s e h w p awake in
+    omega (arith, ap (sum_of (arrival_owes s h)) (all_stay w e.seat (line s h) ends))
 
 -- a seat leaves the line
 line_left : (s : Start) (e : Entry) (h : List Entry) (w : Word) (a : Arrival) → e.word ≡ w →
     ends_arrival w ≡ true → falls_asleep w ≡ false → Waits s h → place_of e.seat (line s h) ≡ Some a →
     line_owes s (e ∷ h) + arrival_owes s h a ≡ line_owes s h + 0
 line_left s e h w a p ends awake apart there =
-    let c = line_change s e h w p awake in
     let f = arrival_owes s h in
-    let d : sum_of f (filter (stays w e.seat) (line s h)) ≡ sum_of f (line_without e.seat (line s h)) =
-    ap (λ b. sum_of f (filter (λ x. not (b && eqb e.seat x.seat)) (line s h))) ends in
-    let n : sum_of f (arrivals_by s w e h) ≡ 0 = ap (sum_of f) (no_arrival s w e h ends) in
-    let r = sum_of_line_without f e.seat a (line s h) (in_line_once s h apart.once e.seat) there in
-    join _ _ _ _ _ _ c d n r
-  where
-    join : (t u x y z v : ℕ) → t ≡ x + y → x ≡ z → y ≡ 0 → z + v ≡ u → t + v ≡ u + 0
-    join t u x y z v p q r m = omega (arith, p, q, r, m)
-
-sleepers_none : (s : Start) (e : Entry) (h : List Entry) → moves_no_sleeper e.word ≡ true →
-    sleepers_owe s.header.conditions s (e ∷ h) + 0 ≡ sleepers_owe s.header.conditions s h + 0
-sleepers_none s e h t = ap (λ x. x + 0) (sleepers_kept s e h t)
+    let y = sum_of_line_without f e.seat a (line s h) (in_line_once s h apart.once e.seat) there in
+    let z = ap (λ b. sum_of f (filter (λ x. not (b && eqb e.seat x.seat)) (line s h))) ends in
+    omega (arith, line_change s e h w p awake, ap (sum_of f) (no_arrival s w e h ends))
 
 -- the words by which nobody begins or ends to wait
 owed_still : (s : Start) (e : Entry) (h : List Entry) (w : Word) (l m : ℕ) → e.word ≡ w →
-    moves_no_waiter w ≡ true → moves_no_sleeper w ≡ true → e.seat < s.header.seats
+    ends_arrival w ≡ false → arrivals_by s w e h ≡ [] → leaves_sleepers w ≡ true → e.seat < s.header.seats
     → l + if_lock s.header.object (holds_after s.header.object w e.n (own s h e))
     ≡ m + if_lock s.header.object (own s h e)
     → owed s (e ∷ h) + l ≡ owed s h + m
-owed_still s e h w l m p t u seat q =
-    let n = no_waiter s e h w t in
-    let b : Balance s e h (if_lock s.header.object (own s h e))
-    (if_lock s.header.object (holds_after s.header.object w e.n (own s h e))) 0 0 0 0 =
-    record {
-      holds = holds_by s e h w p seat;
-      line = line_joined s e h w p n.ends n.awake
-          ∙ ap (λ q. line_owes s h + sum_of (arrival_owes s h) q) n.nobody;
-      asleep = sleepers_none s e h (ap moves_no_sleeper p ∙ u);
-    } in
-    balance s e h _ _ _ _ _ _ l m b (omega (arith, q))
+owed_still s e h w l m p ends nobody t seat q =
+    let x = sleepers_kept s e h (ap leaves_sleepers p ∙ t) in
+    let y = holds_by s e h w p seat in
+    omega (arith, q, line_joined s e h w p ends (still_awake w t), ap (sum_of (arrival_owes s h)) nobody)
 
 lock_took : (o : Object) (n x : ℕ) → 0 + if_lock o (x + in_holds o n) ≡ cond (is_lock o) 1 0 + if_lock o x
-lock_took (Lock p) n x = omega arith
-lock_took (ReadWrite p) n x = omega arith
-lock_took (Semaphore p c) n x = refl
-lock_took (Latch c) n x = refl
-
-passed : (n : ℕ) (f : Fault) → cond (ltb 0 n) word.Gave (word.Refused f) ≡ word.Gave → 0 < n
-passed n f g = ⊎_elim (λ t. ltb-true _ _ t) (λ t. absurd (no t)) (cases_Bool (ltb 0 n))
-  where
-    no : ltb 0 n ≡ false → ⊥
-    no t =
-        let r : word.Refused f ≡ word.Gave = rw t at g in
-        cc
-
-one : (x : ℕ) → 0 < x → 1 + (x - 1) ≡ 0 + x
-one x p = omega (arith, p)
+lock_took o n x = grind arith
 
 lock_gave : (o : Object) (k : Counts) (i : ℕ) (m : Mode) (n : ℕ) → gave o k i m n ≡ word.Gave →
     cond (is_lock o) 1 0 + if_lock o (k.held i m - in_holds o n) ≡ 0 + if_lock o (k.held i m)
-lock_gave (Lock p) k i m n g = one _ (passed _ _ g)
-lock_gave (ReadWrite p) k i m n g = one _ (passed _ _ g)
-lock_gave (Semaphore p c) k i m n g = refl
-lock_gave (Latch c) k i m n g = refl
+lock_gave o k i m n g = grind (arith, nat_tests)
 
 -- the words by which a seat leaves the line
 owed_left : (s : Start) (e : Entry) (h : List Entry) (w : Word) (a : Arrival) (l m : ℕ) → e.word ≡ w →
-    ends_arrival w ≡ true → falls_asleep w ≡ false → moves_no_sleeper w ≡ true → e.seat < s.header.seats
+    ends_arrival w ≡ true → leaves_sleepers w ≡ true → e.seat < s.header.seats
     → Waits s h → place_of e.seat (line s h) ≡ Some a
     → l + if_lock s.header.object (holds_after s.header.object w e.n (own s h e))
     ≡ m + if_lock s.header.object (own s h e) + arrival_owes s h a
     → owed s (e ∷ h) + l ≡ owed s h + m
-owed_left s e h w a l m p t f u seat apart there q =
-    let b : Balance s e h (if_lock s.header.object (own s h e))
-    (if_lock s.header.object (holds_after s.header.object w e.n (own s h e)))
-    (arrival_owes s h a) 0 0 0 =
-    record {
-      holds = holds_by s e h w p seat;
-      line = line_left s e h w a p t f apart there;
-      asleep = sleepers_none s e h (ap moves_no_sleeper p ∙ u);
-    } in
-    balance s e h _ _ _ _ _ _ l m b (omega (arith, q))
+owed_left s e h w a l m p t u seat apart there q =
+    let x = sleepers_kept s e h (ap leaves_sleepers p ∙ u) in
+    omega (arith, q, holds_by s e h w p seat, line_left s e h w a p t (still_awake w u) apart there)
 
 queued_owes : (s : Start) (h : List Entry) (a : Arrival) → a.back ≡ false →
     arrival_owes s h a ≡ cond (is_lock s.header.object) 2 1
@@ -360,15 +203,12 @@ back_owes s h a b = rw b refl
 
 lock_granted : (o : Object) (n x r : ℕ) → r ≡ cond (is_lock o) 2 1 →
     1 + if_lock o (x + in_holds o n) ≡ 0 + if_lock o x + r
-lock_granted (Lock p) n x r e = omega (arith, e)
-lock_granted (ReadWrite p) n x r e = omega (arith, e)
-lock_granted (Semaphore p c) n x r e = omega (arith, e)
-lock_granted (Latch c) n x r e = omega (arith, e)
+lock_granted o n x r e = grind arith
 
 owed_granted : (s : Start) (e : Entry) (h : List Entry) (a : Arrival) → e.word ≡ word.Granted →
     e.seat < s.header.seats → Waits s h → LeavesLine s h e a → owed s (e ∷ h) + 1 ≡ owed s h + 0
 owed_granted s e h a p seat apart k =
-    owed_left s e h word.Granted a 1 0 p refl refl refl seat apart k.stands
+    owed_left s e h word.Granted a 1 0 p refl refl seat apart k.stands
     (lock_granted s.header.object e.n (own s h e) _ (queued_owes s h a k.queued))
 
 owed_gave_up : (s : Start) (e : Entry) (h : List Entry) (a : Arrival) → e.word ≡ word.Left →
@@ -376,7 +216,7 @@ owed_gave_up : (s : Start) (e : Entry) (h : List Entry) (a : Arrival) → e.word
     owed s (e ∷ h) + cond (is_lock s.header.object) 2 1 ≡ owed s h + 0
 owed_gave_up s e h a p seat apart k =
     let r = queued_owes s h a k.queued in
-    owed_left s e h word.Left a (cond (is_lock s.header.object) 2 1) 0 p refl refl refl seat apart k.stands
+    owed_left s e h word.Left a (cond (is_lock s.header.object) 2 1) 0 p refl refl seat apart k.stands
     (omega (arith, r))
 
 owed_back : (s : Start) (e : Entry) (h : List Entry) (a : Arrival) → e.word ≡ word.Back →
@@ -387,41 +227,22 @@ owed_back s e h a p seat apart there b is =
     (placed (SavedIfBack s h) e.seat (line s h) a apart.line there b).saved.lock in
     let r : arrival_owes s h a ≡ (last_sleep s h e.seat).holds + 1 = back_owes s h a b
     ∙ ap (λ i. (last_sleep s h i).holds + 1) (place_once e.seat (line s h) a there).0 in
-    let n : e.n ≡ (last_sleep s h e.seat).holds = ap (λ (x : Entry). x.n) is in
-    owed_left s e h word.Back a 1 0 p refl refl refl seat apart there
-    (by (is_lock s.header.object) _ _ _ _ lock n r)
-  where
-    by : (b : Bool) (x n m r : ℕ) → b ≡ true → n ≡ m → r ≡ m + 1 → 1 + cond b (x + n) 0 ≡ 0 + cond b x 0 + r
-    by true x n m r t p q = omega (arith, p, q)
-    by false x n m r t p q = absurd (cc)
+    let n = ap (λ (x : Entry). x.n) is in
+    owed_left s e h word.Back a 1 0 p refl refl seat apart there (grind (arith, lock, n, r))
 
 -- a new acquire joins the line
 owed_queued : (s : Start) (e : Entry) (h : List Entry) → e.word ≡ word.Queued → e.seat < s.header.seats →
     owed s (e ∷ h) + 0 ≡ owed s h + cond (is_lock s.header.object) 2 1
 owed_queued s e h p seat =
-    let b : Balance s e h (if_lock s.header.object (own s h e)) (if_lock s.header.object (own s h e)) 0
-    (cond (is_lock s.header.object) 2 1 + 0) 0 0 =
-    record {
-      holds = holds_by s e h word.Queued p seat;
-      line = line_joined s e h word.Queued p refl refl;
-      asleep = sleepers_none s e h (ap moves_no_sleeper p);
-    } in
-    balance s e h _ _ _ _ _ _ 0 (cond (is_lock s.header.object) 2 1) b (omega arith)
+    let x = holds_by s e h word.Queued p seat in
+    omega (arith, line_joined s e h word.Queued p refl refl, sleepers_kept s e h (ap leaves_sleepers p))
 
 -- a sleeper that is moved to the line has lapsed: it owes one less
 moved_owes : (s : Start) (h : List Entry) (seats : List ℕ) →
     sum_of (arrival_owes s h) (map coming_back seats) + length seats ≡ sum_of (sleeper_owes s h) seats
 moved_owes s h seats =
-    let a : sum_of (arrival_owes s h) (map coming_back seats)
-    ≡ sum_of (λ i. (last_sleep s h i).holds + 1) seats =
-    sum_of_map (arrival_owes s h) coming_back seats in
-    let b : sum_of (sleeper_owes s h) seats ≡ sum_of (λ i. (last_sleep s h i).holds + 1) seats
-    + length seats =
-    sum_of_more (sleeper_owes s h) (λ i. (last_sleep s h i).holds + 1) seats (λ i. plus_two _) in
-    omega (arith, a, b)
-  where
-    plus_two : (n : ℕ) → n + 2 ≡ (n + 1) + 1
-    plus_two n = omega arith
+    let x = sum_of_map (arrival_owes s h) coming_back seats in
+    omega (arith, sum_of_more (sleeper_owes s h) (λ i. (last_sleep s h i).holds + 1) seats (λ i. omega arith))
 
 owed_moved : (s : Start) (e : Entry) (h : List Entry) (w : Word) (moved : List ℕ) (n : ℕ) → e.word ≡ w →
     ends_arrival w ≡ false → falls_asleep w ≡ false → e.seat < s.header.seats → e.at < s.header.conditions
@@ -431,26 +252,15 @@ owed_moved : (s : Start) (e : Entry) (h : List Entry) (w : Word) (moved : List �
     → length moved ≡ n
     → owed s (e ∷ h) + n ≡ owed s h + 0
 owed_moved s e h w moved n p ends awake seat condition kept come split count =
-    let o = s.header.object in
-    let b : Balance s e h (if_lock o (own s h e)) (if_lock o (own s h e)) 0
-    (sum_of (arrival_owes s h) (map coming_back moved)) (asleep_owe s h e.at) (asleep_after s e h w) =
-    record {
-      holds = holds_by s e h w p seat ∙ ap (λ x. holds_owe s h + if_lock o x) kept;
-      line = line_joined s e h w p ends awake ∙ ap (λ q. line_owes s h + sum_of (arrival_owes s h) q) come;
-      asleep = sleepers_change s e h w p awake condition;
-    } in
-    let m = moved_owes s h moved in
-    balance s e h _ _ _ _ _ _ n 0 b (sums _ _ _ _ _ _ m split count)
-  where
-    sums : (x u l v a t : ℕ) → u + l ≡ v → v + a ≡ t → l ≡ n → n + x + u + a ≡ 0 + x + 0 + t
-    sums x u l v a t p q r = omega (arith, p, q, r)
+    let x = sleepers_change s e h w p awake condition in
+    let y = ap (sum_of (arrival_owes s h)) come in
+    let z = ap (if_lock s.header.object) kept in
+    let a = moved_owes s h moved in
+    omega (arith, split, count, holds_by s e h w p seat, line_joined s e h w p ends awake)
 
 take_one : (xs : List ℕ) → length (take (at_most_one (length xs)) xs) ≡ at_most_one (length xs)
 take_one [] = refl
-take_one (x ∷ xs) = rw (not_none (length xs)) refl
-  where
-    not_none : (n : ℕ) → at_most_one (suc n) ≡ 1
-    not_none n = let t : eqb (suc n) 0 ≡ false = ne_eqb _ _ (λ q. absurd (omega (arith, q))) in rw t refl
+take_one (x ∷ xs) = rw (ne_eqb (length (x ∷ xs)) 0 (λ q. omega (arith, q))) refl
 
 owed_signal : (s : Start) (e : Entry) (h : List Entry) → e.word ≡ word.Signal → e.seat < s.header.seats →
     e.at < s.header.conditions → e.n ≡ at_most_one (length (sleepers s h e.at)) →
@@ -477,12 +287,9 @@ owed_lapse s e h p seat apart sleeps is =
     subst (λ x. x < s.header.conditions) (sym (c ∙ same)) k.1 in
     let there : has e.seat (sleepers s h e.at) ≡ true = ap (λ x. has e.seat (sleepers s h x)) (c ∙ same)
     ∙ k.2 in
-    owed_moved s e h word.Lapse (e.seat ∷ []) 1 p refl refl seat condition refl refl
-    (join _ _ _ (sum_of_without (sleeper_owes s h) e.seat (sleepers s h e.at)
-    (asleep_once s h apart.once e.seat e.at condition) there)) refl
-  where
-    join : (x f t : ℕ) → x + f ≡ t → f + 0 + x ≡ t
-    join x f t q = omega (arith, q)
+    let left = sum_of_without (sleeper_owes s h) e.seat (sleepers s h e.at)
+    (asleep_once s h apart.once e.seat e.at condition) there in
+    owed_moved s e h word.Lapse (e.seat ∷ []) 1 p refl refl seat condition refl refl (omega arith) refl
 
 -- an await
 owed_await : (s : Start) (e : Entry) (h : List Entry) → e.word ≡ word.Await → e.seat < s.header.seats →
@@ -509,18 +316,16 @@ owed_await s e h p seat on n =
     ∙ ap (λ x. x + (f e.seat + 0))
     (sum_of_others f g e.seat (sleepers s h e.at) others (away e.at on.condition))
     ∙ ap (λ x. asleep_owe s h e.at + (x + 2 + 0)) own_sleep in
-    let b : Balance s e h (if_lock o (own s h e)) (if_lock o 0) 0 0 0 (e.n + 2) =
-    record {
-      holds = holds_by s e h word.Await p seat;
-      line = ap (λ x. x + 0) (ap (sum_of (arrival_owes s (e ∷ h))) line_is
-          ∙ sum_of_line_others (arrival_owes s (e ∷ h)) (arrival_owes s h) e.seat (line s h)
-          (λ a ne. arrival_owes_as s h (e ∷ h) a
-          (ap (λ (z : Sleep). z.holds) (last_sleep_other s e h a.seat (λ q. ne (sym q))))) idle.0);
-      asleep = join _ _ _ _ _ _ (sleepers_total d s (e ∷ h)) (sleepers_total d s h)
-          (total_change_below d (asleep_owe s (e ∷ h)) (asleep_owe s h) e.at on.condition elsewhere) here;
-    } in
-    let x : own s h e ≡ e.n = ap (held s h e.seat) on.mode ∙ sym n in
-    balance s e h _ _ _ _ _ _ 0 2 b (by (is_lock o) _ _ on.lock x)
+    let line_now : line_owes s (e ∷ h) ≡ line_owes s h = ap (sum_of (arrival_owes s (e ∷ h))) line_is
+    ∙ sum_of_line_others (arrival_owes s (e ∷ h)) (arrival_owes s h) e.seat (line s h)
+    (λ a ne. arrival_owes_as s h (e ∷ h) a
+    (ap (λ (z : Sleep). z.holds) (last_sleep_other s e h a.seat (λ q. ne (sym q))))) idle.0 in
+    let y = total_change_below d (asleep_owe s (e ∷ h)) (asleep_owe s h) e.at on.condition elsewhere in
+    let k = ap (λ b. cond b (own s h e) 0) on.lock in
+    let m = ap {B = ℕ} (λ b. cond b 0 0) on.lock in
+    let r = ap (held s h e.seat) on.mode ∙ sym n in
+    let u = sleepers_total d s h in
+    omega (arith, here, line_now, holds_by s e h word.Await p seat, sleepers_total d s (e ∷ h))
   where
     list_elsewhere : (c : ℕ) → c ≢ e.at → sleepers s (e ∷ h) c ≡ sleepers s h c
     list_elsewhere c ne = rw (ne_eqb e.at c (λ q. ne (sym q))) refl
@@ -531,20 +336,9 @@ owed_await s e h p seat on n =
     own_sleep : (last_sleep s (e ∷ h) e.seat).holds ≡ e.n
     own_sleep = rw (eq-eqb e.seat e.seat refl) (ap (λ w. (sleep_after w e (last_sleep s h e.seat)).holds) p)
 
-    join : (a b t u x n : ℕ) → a ≡ t → b ≡ u → {y : ℕ} → t + x ≡ u + y → y ≡ x + (n + 2 + 0) →
-        a + 0 ≡ b + (n + 2)
-    join a b t u x n p q r v = omega (arith, p, q, r, v)
-
-    by : (b : Bool) (x n : ℕ) → b ≡ true → x ≡ n → 0 + cond b 0 0 + 0 + (n + 2) ≡ 2 + cond b x 0 + 0 + 0
-    by true x n t q = omega (arith, q)
-    by false x n t q = absurd (cc)
-
 -- a semaphore is no lock
 no_lock : (o : Object) (x y : ℕ) → is_semaphore o ≡ true → if_lock o x ≡ if_lock o y
-no_lock (Lock p) x y t = cc
-no_lock (ReadWrite p) x y t = cc
-no_lock (Semaphore p c) x y t = refl
-no_lock (Latch c) x y t = refl
+no_lock o x y t = grind arith
 
 -- what is owed behind one entry that its seat's step makes
 pub owed_known : (s : Start) (e : Entry) (h : List Entry) → Known s h e → Waits s h →
@@ -555,25 +349,25 @@ owed_known s e h known apart seat = by e.word refl known
     by : (w : Word) → e.word ≡ w → KnownBy s h e w → owed s (e ∷ h) + released_by s.header.object w e.n
         ≡ owed s h + reserved_by s.header.object w
     by word.Got p k =
-        owed_still s e h word.Got 0 _ p refl refl seat (lock_took s.header.object e.n (own s h e))
+        owed_still s e h word.Got 0 _ p refl refl refl seat (lock_took s.header.object e.n (own s h e))
     by word.TryGot p k =
-        owed_still s e h word.TryGot 0 _ p refl refl seat (lock_took s.header.object e.n (own s h e))
+        owed_still s e h word.TryGot 0 _ p refl refl refl seat (lock_took s.header.object e.n (own s h e))
     by word.Queued p k = owed_queued s e h p seat
     by word.Granted p k = owed_granted s e h k.0 p seat apart k.1
-    by word.Missed p k = owed_still s e h word.Missed 0 0 p refl refl seat refl
+    by word.Missed p k = owed_still s e h word.Missed 0 0 p refl refl refl seat refl
     by word.Left p k = owed_gave_up s e h k.0 p seat apart k.1
     by word.Gave p k =
-        owed_still s e h word.Gave _ 0 p refl refl seat
+        owed_still s e h word.Gave _ 0 p refl refl refl seat
         (lock_gave s.header.object (counts s h) e.seat e.mode e.n k.1)
-    by (word.Refused f) p k = owed_still s e h (word.Refused f) 0 0 p refl refl seat refl
+    by (word.Refused f) p k = owed_still s e h (word.Refused f) 0 0 p refl refl refl seat refl
     by word.Await p k = owed_await s e h p seat k.0 k.2
     by word.Lapse p k = owed_lapse s e h p seat apart k.0 k.2
     by word.Signal p k = owed_signal s e h p seat k.0.condition k.1
     by word.SignalAll p k = owed_signal_all s e h p seat k.0.condition k.1
     by word.Back p k = owed_back s e h k.0 p seat apart k.1 k.2 k.4
-    by word.Counted p k = owed_still s e h word.Counted 0 0 p refl refl seat refl
+    by word.Counted p k = owed_still s e h word.Counted 0 0 p refl refl refl seat refl
     by word.Drained p k =
-        owed_still s e h word.Drained 0 0 p refl refl seat
+        owed_still s e h word.Drained 0 0 p refl refl refl seat
         (ap (λ x. 0 + x) (no_lock s.header.object _ _ k.1))
 
 -- what is owed behind one entry more of a legal history

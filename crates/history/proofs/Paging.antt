@@ -10,18 +10,14 @@ use Rattle.history.specs.inner.Paged.{AreFull, AreKept, in_pages, used}
 pub full_length : (n : ℕ) (pages : List (List Entry)) → AreFull n pages → length (in_pages pages) ≡ 1024 * n
 full_length zero [] f = refl
 full_length zero (p ∷ ps) f =
-    let ih = full_length zero ps f.1 in
-    let none = ap length f.0 in
-    omega (arith, length-append p (in_pages ps), none, ih)
+    omega (arith, length-append p (in_pages ps), ap length f.0, full_length zero ps f.1)
 full_length (suc n) [] f = absurd f
-full_length (suc n) (p ∷ ps) f =
-    let ih = full_length n ps f.1 in
-    omega (arith, length-append p (in_pages ps), f.0, ih)
+full_length (suc n) (p ∷ ps) f = omega (arith, length-append p (in_pages ps), f.0, full_length n ps f.1)
 
 pub few_full : (n : ℕ) (pages : List (List Entry)) → AreFull n pages → n ≤ length pages
 few_full zero pages f = omega arith
 few_full (suc n) [] f = absurd f
-few_full (suc n) (p ∷ ps) f = let ih = few_full n ps f.1 in omega (arith, ih)
+few_full (suc n) (p ∷ ps) f = omega (arith, few_full n ps f.1)
 
 -- empty pages have no entries
 pub none_full : (pages : List (List Entry)) → AreFull zero pages → in_pages pages ≡ []
@@ -170,50 +166,35 @@ used_empty (p ∷ ps) f = λ j. sym f.0 j ∷ used_empty ps f.1 j
 module _ (others : List (List Entry)) (full : ℕ) (hand : List Entry) (room : ℕ)
     (kept : AreKept others full hand room) where
   pub kept_length : length (in_pages others ++ hand) ≡ 1024 * full + length hand
-  kept_length =
-      let l = length-append (in_pages others) hand in
-      let f = full_length full others kept.full_first in
-      omega (arith, l, f)
+  kept_length = omega (arith, length-append (in_pages others) hand, full_length full others kept.full_first)
 
   pub kept_full : full ≤ length others
   kept_full = few_full full others kept.full_first
 
   -- at most a page is at hand, and without places nothing
   pub hand_small : length hand ≤ 1024
-  hand_small =
-      let f = kept.fits in
-      ⊎_elim (λ (q : room ≡ 1024). omega (arith, f, q)) (λ none. omega (arith, f, none.0)) kept.page
+  hand_small = grind (arith, kept.fits, kept.page)
 
   pub kept_within : length (in_pages others ++ hand) ≤ 1024 * length others + room
-  kept_within = let n = kept_length in let m = kept_full in let f = kept.fits in omega (arith, n, m, f)
+  kept_within = omega (arith, kept_length, kept_full, kept.fits)
 
   pub get_hand : (number : ℕ) → number / 1024 ≡ full →
       slice_get (in_pages others ++ hand) number ≡ slice_get hand (number % 1024)
   get_hand number is =
-      let f = full_length full others kept.full_first in
-      get_right (in_pages others) hand (number % 1024) number (omega (arith, f, is))
+      get_right (in_pages others) hand (number % 1024) number
+      (omega (arith, full_length full others kept.full_first, is))
 
   pub get_other : (number : ℕ) → (number / 1024 ≡ full → ⊥) →
       slice_get (in_pages others ++ hand) number ≡ at_place (slice_get others (number / 1024)) (number % 1024)
-  get_other number ne = ⊎_elim before behind (cases_lt (number / 1024) full)
-    where
-      before : number / 1024 < full →
-          slice_get (in_pages others ++ hand) number
-          ≡ at_place (slice_get others (number / 1024)) (number % 1024)
-      before l =
-          let f = full_length full others kept.full_first in
-          get_left (in_pages others) hand number (omega (arith, f, l))
-          ∙ in_page full others kept.full_first (number / 1024) (number % 1024) number (omega arith)
-          (omega arith) l
-
-      behind : full ≤ number / 1024 →
-          slice_get (in_pages others ++ hand) number
-          ≡ at_place (slice_get others (number / 1024)) (number % 1024)
-      behind l =
-          let n = kept_length in
-          let m = hand_small in
-          slice_get_past (in_pages others ++ hand) number (omega (arith, n, m, l, ne))
-          ∙ sym (at_none full others kept.full_first (number / 1024) (number % 1024) l)
+  get_other number ne =
+      ⊎_elim
+      (λ l. get_left (in_pages others) hand number
+      (omega (arith, full_length full others kept.full_first, l))
+      ∙ in_page full others kept.full_first (number / 1024) (number % 1024) number (omega arith)
+      (omega arith) l)
+      (λ l. slice_get_past (in_pages others ++ hand) number (omega (arith, kept_length, hand_small, l, ne))
+      ∙ sym (at_none full others kept.full_first (number / 1024) (number % 1024) l))
+      (cases_lt (number / 1024) full)
 
   -- a page is at hand where an entry fits
   pub at_hand : length (in_pages others ++ hand) < 1024 * length others + room → room ≡ 1024
@@ -222,22 +203,18 @@ module _ (others : List (List Entry)) (full : ℕ) (hand : List Entry) (room : �
       (λ none. (let l = ap length none.1 in absurd (omega (arith, fits, none.0, l)))) kept.page
 
   pub page_there : length hand < room → room ≡ 1024
-  page_there place =
-      ⊎_elim (λ (q : room ≡ 1024). q) (λ none. absurd (omega (arith, place, none.0))) kept.page
+  page_there place = grind (arith, kept.page)
 
   pub next_within : length hand ≡ 1024 →
       length (in_pages others ++ hand) < 1024 * length others + room → full < length others
-  next_within l fits =
-      let n = kept_length in
-      let r = at_hand fits in
-      omega (arith, l, fits, n, r)
+  next_within l fits = omega (arith, l, fits, kept_length, at_hand fits)
 
   -- one entry more at hand
   pub kept_add : (e : Entry) → room ≡ 1024 → length hand < 1024 → AreKept others full (hand ++ e ∷ []) room
   kept_add e page short =
       record {
         full_first = kept.full_first;
-        fits = let l = length-append hand (e ∷ []) in omega (arith, l, page, short);
+        fits = omega (arith, length-append hand (e ∷ []), page, short);
         page = kept.page;
         few = kept.few;
       }
@@ -250,9 +227,9 @@ module _ (others : List (List Entry)) (full : ℕ) (hand : List Entry) (room : �
         full_first = let more : suc full ≡ full + 1 = omega arith in
             subst (λ n. AreFull n (set others full hand)) more
             (full_next full others hand kept.full_first l within);
-        fits = let n = ap length (is ∙ next_empty full others kept.full_first) in omega (arith, n);
+        fits = omega (arith, ap length (is ∙ next_empty full others kept.full_first));
         page = inl refl;
-        few = let n = length-set others full hand in let f = kept.few in omega (arith, n, f, page);
+        few = omega (arith, length-set others full hand, kept.few, page);
       }
 
   pub entries_turn : (next : List Entry) → full < length others → next ≡ get_or others full [] →
@@ -270,8 +247,8 @@ module _ (others : List (List Entry)) (full : ℕ) (hand : List Entry) (room : �
         full_first = full_more full others kept.full_first k;
         fits = kept.fits;
         page = inl page;
-        few = let l = length-append others (replicate k [])
-            ∙ ap (λ n. length others + n) (length-replicate k []) in omega (arith, l, few);
+        few = let l = length-append others (replicate k []) in
+            omega (arith, l, few, length-replicate {A = List Entry} k []);
       }
 
   -- the first page
@@ -280,10 +257,10 @@ module _ (others : List (List Entry)) (full : ℕ) (hand : List Entry) (room : �
     where
       by : (room ≡ 0) × (others ≡ []) → AreFull zero others × (in_pages others ++ hand ≡ []) × (full ≡ 0)
       by q =
-          let zero_full : full ≡ 0 = let n = kept_full in let l = ap length q.1 in omega (arith, n, l) in (
+          let zero_full : full ≡ 0 = omega (arith, kept_full, ap length q.1) in (
             subst (λ n. AreFull n others) zero_full kept.full_first,
             ap (λ ps. in_pages ps ++ hand) q.1
-                ∙ nil_from_length hand (let f = kept.fits in omega (arith, f, none)),
+                ∙ nil_from_length hand (omega (arith, kept.fits, none)),
             zero_full,
           )
 
@@ -300,9 +277,9 @@ module _ (pages others : List (List Entry)) (page : List Entry) (f : AreFull zer
   kept_first few =
       record {
         full_first = first_parts.0;
-        fits = let l = ap length first_parts.1 in omega (arith, l);
+        fits = omega (arith, ap length first_parts.1);
         page = inl refl;
-        few = let l = ap length is ∙ length-append others (page ∷ []) in omega (arith, l, few);
+        few = omega (arith, ap length is ∙ length-append others (page ∷ []), few);
       }
 
   pub entries_first : in_pages others ++ page ≡ []
@@ -314,9 +291,7 @@ pub no_other : (full : ℕ) (others : List (List Entry)) (hand : List Entry) (ro
     AreKept (used full others) full hand room → room ≡ 0 → others ≡ []
 no_other full others hand room kept none =
     ⊎_elim (λ (q : room ≡ 1024). absurd (omega (arith, q, none)))
-    (λ q. (let l = ap length q.1 in
-    let m = length-used full others in
-    nil_from_length others (omega (arith, l, m)))) kept.page
+    (λ q. nil_from_length others (omega (arith, ap length q.1, length-used full others))) kept.page
 
 -- all entries fewer
 pub kept_none : (others : List (List Entry)) (full : ℕ) (hand : List Entry) (room : ℕ) →
@@ -326,12 +301,9 @@ kept_none others full hand room kept =
       full_first = none_used others;
       fits = omega arith;
       page = ⊎_elim (λ (q : room ≡ 1024). inl q) (λ none. inr (none.0, nothing (ap length none.1))) kept.page;
-      few = let l = length-used 0 others in let m = length-used full others in let f = kept.few in
-          omega (arith, l, m, f);
+      few = omega (arith, length-used 0 others, length-used full others, kept.few);
     }
   where
     nothing : length (used full others) ≡ 0 → used 0 others ≡ []
     nothing q =
-        let l = length-used 0 others in
-        let m = length-used full others in
-        nil_from_length (used 0 others) (omega (arith, l, m, q))
+        nil_from_length (used 0 others) (omega (arith, length-used 0 others, length-used full others, q))

@@ -3,7 +3,7 @@ use Rattle.std.proofs.Common.{◌≡◌, ℕ, suc, ◌^◌, ◌<◌, ◌≤◌, 
 use Rattle.std.specs.Int.{w32}
 use Rattle.std.specs.Fmt.{signed_decimal}
 use Rattle.std.proofs.lemmas.Fmt.{decimal_nonempty}
-use Rattle.history.specs.Prelude.{LEAST_CAP, MOST_AMOUNT, MOST_CONDITIONS, MOST_SEATS, Header, Object, Lock, ReadWrite, Semaphore, Latch, Policy, Fair, NonFair, Strict, IsInRange, IsOpening, line_of, words_of, policy_word, object_words, part_words, part_of, Words}
+use Rattle.history.specs.Prelude.{LEAST_CAP, MOST_AMOUNT, MOST_CONDITIONS, MOST_SEATS, Header, Object, Lock, ReadWrite, Semaphore, Latch, Policy, Fair, IsInRange, IsOpening, line_of, words_of, policy_word, object_words, part_words, part_of, Words}
 use Rattle.history.specs.inner.HeaderReading.{policy_at, permits_from, lock_at, semaphore_at, latch_at, header_at}
 use Rattle.history.proofs.Numbers.{number_again, number_at_again, digits_alone}
 use Rattle.history.proofs.Plain.{is_plain, ArePlain, words_again, decimal_plain, signed_plain}
@@ -33,8 +33,7 @@ permits_again (negsuc n) fits =
 -- a policy is read again
 policy_again : (p : Policy) (ws : Words) → policy_at (policy_word p ∷ ws) ≡ Some (p, ws)
 policy_again Fair ws = refl
-policy_again NonFair ws = refl
-policy_again Strict ws = refl
+policy_again _ ws = refl
 
 lock_again : (o : Policy → Object) (p : Policy) (n c k : ℕ) → 1 ≤ n → n ≤ MOST_SEATS → c ≤ MOST_CONDITIONS → LEAST_CAP ≤ k → k < 2 ^ 32
     → lock_at o (policy_word p ∷ codes "seats" ∷ decimal n ∷ codes "conditions" ∷ decimal c
@@ -82,59 +81,13 @@ object_again (Latch q) n c k o n1 n2 k1 k2 = rw o.0 (latch_again q n k o.1 n1 n2
 
 policy_plain : (p : Policy) → is_plain (policy_word p) ≡ true
 policy_plain Fair = refl
-policy_plain NonFair = refl
-policy_plain Strict = refl
+policy_plain _ = refl
 
 part_plain : (o : Object) (n c k : ℕ) → IsOpening o c → n ≤ MOST_SEATS → k < 2 ^ 32 → ArePlain (object_words o n c k)
-part_plain (Lock p) n c k o n2 k2 = (
-  refl,
-  (
-    policy_plain p,
-    (
-      refl,
-      (
-        decimal_plain n (omega arith),
-        (refl, (decimal_plain c (omega (arith, o)), (refl, (decimal_plain k (omega arith), tt)))),
-      ),
-    ),
-  ),
-)
-part_plain (ReadWrite p) n c k o n2 k2 = (
-  refl,
-  (
-    policy_plain p,
-    (
-      refl,
-      (
-        decimal_plain n (omega arith),
-        (refl, (decimal_plain c (omega (arith, o)), (refl, (decimal_plain k (omega arith), tt)))),
-      ),
-    ),
-  ),
-)
-part_plain (Semaphore p z) n c k o n2 k2 = (
-  refl,
-  (
-    policy_plain p,
-    (
-      refl,
-      (
-        decimal_plain n (omega arith),
-        (refl, (signed_plain z o.1, (refl, (decimal_plain k (omega arith), tt)))),
-      ),
-    ),
-  ),
-)
-part_plain (Latch q) n c k o n2 k2 = (
-  refl,
-  (
-    refl,
-    (
-      decimal_plain n (omega arith),
-      (refl, (decimal_plain q (omega (arith, o)), (refl, (decimal_plain k (omega arith), tt)))),
-    ),
-  ),
-)
+part_plain (Lock p) n c k o n2 k2 = search (arith, policy_plain, decimal_plain)
+part_plain (ReadWrite p) n c k o n2 k2 = search (arith, policy_plain, decimal_plain)
+part_plain (Semaphore p z) n c k o n2 k2 = search (arith, policy_plain, decimal_plain, signed_plain)
+part_plain (Latch q) n c k o n2 k2 = search (arith, decimal_plain)
 
 pub plain_part : (h : Header) → IsInRange h → ArePlain (part_words h)
 plain_part h fits = part_plain h.object h.seats h.conditions h.cap fits.opening fits.seats fits.cap
@@ -142,9 +95,7 @@ plain_part h fits = part_plain h.object h.seats h.conditions h.cap fits.opening 
 words_of_object : (o : Object) (n c k : ℕ) → ArePlain (object_words o n c k) →
     words_of (line_of (object_words o n c k)) ≡ object_words o n c k
 words_of_object (Lock p) n c k plain = words_again _ _ plain
-words_of_object (ReadWrite p) n c k plain = words_again _ _ plain
-words_of_object (Semaphore p z) n c k plain = words_again _ _ plain
-words_of_object (Latch q) n c k plain = words_again _ _ plain
+words_of_object _ n c k plain = words_again _ _ plain
 
 pub part_again : (h : Header) → IsInRange h → header_at (words_of (part_of h)) ≡ Some (h, [])
 part_again h fits =

@@ -1,20 +1,19 @@
 -- Nobody in line is passed in a legal history.
-use Rattle.std.proofs.Common.{◌≡◌, ◌⊎◌, inl, inr, ⊎_elim, ℕ, ◌<◌, Bool, true, false, ◌&&◌, cond, eqb, leb, List, [], ◌∷◌, ◌++◌, length, map, Option, Some, None, refl, ap, ◌∙◌, sym, subst, arith, eqb-true, eq-eqb, true≢false}
-use Rattle.std.proofs.lemmas.Option.{same_Some}
+use Rattle.std.proofs.Common.{◌≡◌, ◌⊎◌, inl, inr, ⊎_elim, ℕ, ◌<◌, Bool, true, false, ◌&&◌, cond, eqb, leb, List, [], ◌∷◌, ◌++◌, length, map, Option, Some, None, refl, ap, ◌∙◌, sym, subst, arith, eqb-true}
+use Rattle.std.proofs.lemmas.Option.{none-some, same_Some}
 use Rattle.std.specs.List.{filter, AllByRecursion}
 use Rattle.std.proofs.lemmas.List.Elements.{filter-append}
 use Rattle.std.proofs.lemmas.List.{map-append}
-use Rattle.std.proofs.lemmas.Bool.{and_parts, or_left}
-use Rattle.history.specs.Prelude.{Arrival, Entry, Mode, Word, Header, Object, Lock, ReadWrite, Semaphore, Latch, Policy, Fair, NonFair, Strict, held_back, is_reentrant, line_blocks, counts, ends_arrival, IsLegal, Arrived, arrived_at, arrivals, arrivals_by, Ending, ending, first_ending, is_open, stands, line, first_of, mode_of, first_mode, place_of, ready, is_fair, is_fair_policy, is_strict, is_strict_policy, is_passage, takes_in_turn, EndedBefore, IsInOrder, IsFairOrder, Start, opening, StandOnce}
+use Rattle.std.proofs.lemmas.Bool.{and_parts}
+use Rattle.std.proofs.lemmas.Bool.Decides.{nat_tests}
+use Rattle.history.specs.Prelude.{Arrival, Entry, Mode, Word, Header, Object, held_back, is_reentrant, line_blocks, counts, ends_arrival, IsLegal, Arrived, arrived_at, arrivals, arrivals_by, Ending, ending, first_ending, is_open, stands, line, first_of, mode_of, first_mode, place_of, ready, is_fair, is_passage, takes_in_turn, EndedBefore, IsInOrder, IsFairOrder, Start, opening, StandOnce}
 use Rattle.history.specs.declared.entry.Word.TheVariants as word
 use Rattle.history.proofs.Entering.{Known, KnownBy, known}
 use Rattle.history.proofs.LineLemmas.{ending_past, no_arrival}
+use Rattle.history.proofs.Lists.{each-as}
 use Rattle.history.proofs.OneWait.{Waits, waits_from, opening_waits}
 use Rattle.history.proofs.Owners.{ready_first}
 use Rattle.history.proofs.WhoWaits.{stand_once}
-
-some_none : {A : Type 0} {x : A} → Some x ≡ None → ⊥
-some_none q = cc
 
 -- what an entry makes of an ending
 abbrev ends_it : Entry → ℕ → ℕ → ℕ → Bool
@@ -22,13 +21,10 @@ ends_it e i from n = (ends_arrival e.word && eqb e.seat i) && leb from n
 
 later_is : (o : Option Ending) (b : Bool) (y x : Ending) → first_ending o b y ≡ Some x → (o ≡ Some x)
     ⊎ ((o ≡ None) × (b ≡ true) × (y ≡ x))
-later_is (Some z) b y x q = inl q
-later_is None true y x q = inr (refl, refl, same_Some _ _ q)
-later_is None false y x q = cc
+later_is o b y x q = grind arith
 
 later_kept : (o : Option Ending) (b : Bool) (y x : Ending) → o ≡ Some x → first_ending o b y ≡ Some x
-later_kept (Some z) b y x q = q
-later_kept None b y x q = cc
+later_kept o b y x q = grind arith
 
 -- an ending has a number below the length
 ending_below : (h : List Entry) (i from : ℕ) (x : Ending) → ending h i from ≡ Some x → x.place < length h
@@ -50,8 +46,7 @@ kept_ended e h p a w = record {
 
 all_kept : (e : Entry) (h : List Entry) (p : ℕ) (xs : List Arrived) → AllByRecursion (EndedBefore h p) xs →
     AllByRecursion (EndedBefore (e ∷ h) p) xs
-all_kept e h p [] all = tt
-all_kept e h p (x ∷ xs) all = (kept_ended e h p x all.0, all_kept e h p xs all.1)
+all_kept e h p xs all = each-as (EndedBefore h p) (EndedBefore (e ∷ h) p) xs (kept_ended e h p) all
 
 -- whoever doesn't stand has ended
 gone : (h : List Entry) (a : Arrived) → stands h a ≡ false → EndedBefore h (length h) a
@@ -66,13 +61,7 @@ gone h a f = by (ending h a.who.seat a.place) refl f
 all_gone : (h : List Entry) (xs : List Arrived) → filter (stands h) xs ≡ [] →
     AllByRecursion (EndedBefore h (length h)) xs
 all_gone h [] q = tt
-all_gone h (x ∷ xs) q = by (stands h x) refl q (λ r. all_gone h xs r)
-  where
-    by : (b : Bool) → stands h x ≡ b → cond b (x ∷ filter (stands h) xs) (filter (stands h) xs) ≡ [] →
-        (filter (stands h) xs ≡ [] → AllByRecursion (EndedBefore h (length h)) xs) →
-        AllByRecursion (EndedBefore h (length h)) (x ∷ xs)
-    by true t r ih = cc
-    by false t r ih = (gone h x t, ih r)
+all_gone h (x ∷ xs) q = grind (arith, gone h x, all_gone h xs)
 
 map_nil : (xs : List Arrived) → map (λ a. a.who) xs ≡ [] → xs ≡ []
 map_nil [] q = refl
@@ -85,29 +74,11 @@ no_first (a ∷ q) e = cc
 -- a fair object with somebody in line holds back what isn't reentrant
 not_blocked : (o : Object) (m : Mode) (first : Option Mode) → is_fair o ≡ true →
     line_blocks o m first ≡ false → first ≡ None
-not_blocked o m None f b = refl
-not_blocked (Lock p) m (Some x) f b = absurd (true≢false (sym f ∙ b))
-not_blocked (ReadWrite p) m (Some x) f b = absurd (true≢false (sym (or_left (is_fair_policy p) _ f) ∙ b))
-not_blocked (Semaphore p c) m (Some x) f b = absurd (true≢false (sym f ∙ b))
-not_blocked (Latch c) m (Some x) f b = cc
-
--- a strict policy holds back all that a fair one does
-strict_fair_policy : (p : Policy) → is_strict_policy p ≡ true → is_fair_policy p ≡ true
-strict_fair_policy Fair t = refl
-strict_fair_policy NonFair t = cc
-strict_fair_policy Strict t = refl
-
-strict_fair : (o : Object) → is_strict o ≡ true → is_fair o ≡ true
-strict_fair (Lock p) t = strict_fair_policy p t
-strict_fair (ReadWrite p) t = strict_fair_policy p t
-strict_fair (Semaphore p c) t = strict_fair_policy p t
-strict_fair (Latch c) t = cc
+not_blocked o m first f b = grind arith
 
 -- an object in which a word takes in turn holds back those who pass a line
 turn_fair : (o : Object) (w : Word) → takes_in_turn o w ≡ true → is_fair o ≡ true
-turn_fair o word.Got t = t
-turn_fair o word.TryGot t = strict_fair o t
-turn_fair o _ t = cc
+turn_fair o w t = grind arith
 
 -- a new call that takes in turn and isn't reentrant finds that nobody waits
 pub fair_order : (s : Start) (h : List Entry) → IsLegal s h → IsFairOrder s h
@@ -133,14 +104,8 @@ fair_order s (e ∷ h) l = (now, fair_order s h l.1)
 
 found : (i : ℕ) (q : List Arrival) (b : Arrival) (r : List Arrival) → b.seat ≡ i →
     place_of i (q ++ b ∷ r) ≡ None → ⊥
-found i [] b r s n = let t : eqb b.seat i ≡ true =
-    eq-eqb b.seat i s in let x : cond true (Some b) (place_of i r) ≡ None = rw t at n in some_none x
-found i (a ∷ q) b r s n = by (eqb a.seat i) n (λ m. found i q b r s m)
-  where
-    by : (t : Bool) → cond t (Some a) (place_of i (q ++ b ∷ r)) ≡ None →
-        (place_of i (q ++ b ∷ r) ≡ None → ⊥) → ⊥
-    by true m ih = some_none m
-    by false m ih = ih m
+found i [] b r s n = grind (arith, nat_tests)
+found i (a ∷ q) b r s n = grind (arith, nat_tests, found i q b r s)
 
 -- whoever is first finds nobody before it
 nobody_before : (s : Start) (h : List Entry) (before after : List Arrived) (b : Arrived) →
@@ -168,15 +133,6 @@ nobody_before s h before after b split st apart f first same =
         absurd (found x.who.seat (map (λ a. a.who) xs) b.who (map (λ a. a.who) (filter (stands h) after)) s
         (subst P p ap_).0)
 
-heads : {x y : Arrived} {xs ys : List Arrived} → x ∷ xs ≡ y ∷ ys → x ≡ y
-heads q = cc
-
-tails : {x y : Arrived} {xs ys : List Arrived} → x ∷ xs ≡ y ∷ ys → xs ≡ ys
-tails q = cc
-
-cons_nil : {A : Type 0} {x : A} {xs : List A} → x ∷ xs ≡ [] → ⊥
-cons_nil q = cc
-
 -- where a member of two lists joined stands
 abbrev Parted : List Arrived → List Arrived → List Arrived → Arrived → List Arrived → Type 0
 Parted xs ys before b after =
@@ -185,22 +141,17 @@ Parted xs ys before b after =
 parted : (xs ys before : List Arrived) (b : Arrived) (after : List Arrived) →
     xs ++ ys ≡ before ++ b ∷ after → Parted xs ys before b after
 parted [] ys before b after q = inr (before, q)
-parted (x ∷ xs) ys [] b after q =
-    let e : x ≡ b = heads q in
-    inl (xs, ap (λ y. y ∷ xs) e)
+parted (x ∷ xs) ys [] b after q = inl (xs, cc)
 parted (x ∷ xs) ys (y ∷ before) b after q =
-    let e : x ≡ y = heads q in
-    let t : xs ++ ys ≡ before ++ b ∷ after = tails q in
-    ⊎_elim (λ w. inl (w.0, ap (λ z. z ∷ xs) e ∙ ap (λ l. y ∷ l) w.1)) (λ w. inr w)
-    (parted xs ys before b after t)
+    ⊎_elim (λ w. inl (w.0, (let e = w.1 in cc))) (λ w. inr w) (parted xs ys before b after (cc))
 
 -- each new arrival has the entry's number
 new_place : (n : ℕ) (xs : List Arrival) (more : List Arrived) (b : Arrived) (after : List Arrived) →
     map (arrived_at n) xs ≡ more ++ b ∷ after → (b.place ≡ n) × (xs ≡ [] → ⊥)
 new_place n [] [] b after q = cc
 new_place n [] (m ∷ more) b after q = cc
-new_place n (x ∷ xs) [] b after q = (ap (λ (a : Arrived). a.place) (sym (heads q)), λ z. cons_nil z)
-new_place n (x ∷ xs) (m ∷ more) b after q = ((new_place n xs more b after (tails q)).0, λ z. cons_nil z)
+new_place n (x ∷ xs) [] b after q = grind arith
+new_place n (x ∷ xs) (m ∷ more) b after q = grind (arith, new_place n xs more b after)
 
 -- who is granted or comes back was ready
 passer : (s : Start) (h : List Entry) (e : Entry) (w : Word) → is_passage w ≡ true → KnownBy s h e w →
@@ -208,9 +159,6 @@ passer : (s : Start) (h : List Entry) (e : Entry) (w : Word) → is_passage w �
 passer s h e word.Granted t x = x.2
 passer s h e word.Back t x = x.3
 passer s h e _ t x = cc
-
-stands_none : (h : List Entry) (b : Arrived) → ending h b.who.seat b.place ≡ None → stands h b ≡ true
-stands_none h b q = rw q refl
 
 -- one that arrives by an entry isn't ended by it
 new_case : (s : Start) (e : Entry) (h : List Entry) (more after : List Arrived) (b : Arrived) (x : Ending) →
@@ -220,7 +168,7 @@ new_case s e h more after b x split q =
     let n = new_place (length h) (arrivals_by s e.word e h) more b after split in
     let past : ending h b.who.seat b.place ≡ None =
     ending_past h b.who.seat b.place (omega (arith, n.0)) in
-    ⊎_elim (λ o. some_none (sym o ∙ past))
+    ⊎_elim (λ o. none-some x (sym past ∙ o))
     (λ w. n.1 (no_arrival s e.word e h (and_parts _ _ (and_parts _ _ w.1).0).0))
     (later_is (ending h b.who.seat b.place) (ends_it e b.who.seat b.place (length h))
     (record { place = length h; word = e.word }) x q)
@@ -248,7 +196,7 @@ old_case s e h before rest b x ih apart is split q passage =
         eqb-true e.seat b.who.seat (and_parts (ends_arrival e.word) (eqb e.seat b.who.seat)
         (and_parts (ends_arrival e.word && eqb e.seat b.who.seat) (leb b.place (length h)) w.1).0).1 in
         let first = ready_first (counts s h) (line s h) e.seat (passer s h e e.word pass is) in
-        let none = nobody_before s h before rest b split (stands_none h b w.0) apart first.0 first.1
+        let none = nobody_before s h before rest b split (rw w.0 refl) apart first.0 first.1
         (first.2 ∙ seat) in
         let P : ℕ → Type 0 = λ n. AllByRecursion (EndedBefore (e ∷ h) n) before in
         subst P place (all_kept e h (length h) before (all_gone h before none))

@@ -1,8 +1,9 @@
 -- The permits of a semaphore: held and free, they are conserved, and neither number leaves its range.
-use Rattle.std.proofs.Common.{◌≡◌, ◌⊎◌, inl, inr, ⊎_elim, ℕ, suc, ◌+◌, ◌-◌, ◌*◌, ◌<◌, ◌≤◌, Bool, true, false, ◌&&◌, cond, eqb, ltb, List, [], ◌∷◌, length, refl, ap, ◌∙◌, sym, subst, arith, ℤ, pos, negsuc, ◌+ℤ◌, ◌-ℤ◌, ◌≤ℤ◌, int_le, int_lt, FitsSigned, eq-eqb, ne_eqb}
+use Rattle.std.proofs.Common.{◌≡◌, ◌⊎◌, inl, inr, ⊎_elim, ℕ, ◌+◌, ◌-◌, ◌*◌, ◌<◌, ◌≤◌, true, false, cond, List, [], ◌∷◌, length, refl, ap, ◌∙◌, sym, subst, arith, ℤ, pos, negsuc, ◌+ℤ◌, ◌-ℤ◌, ◌≤ℤ◌, int_le, int_lt, FitsSigned, ne_eqb}
 use Rattle.std.specs.Int.{w32}
+use Rattle.std.proofs.lemmas.Bool.Decides.{nat_tests}
 use Rattle.std.proofs.lemmas.Int.{ints}
-use Rattle.history.specs.Prelude.{MOST_AMOUNT, Entry, Mode, X, S, Word, Header, Object, Lock, ReadWrite, Semaphore, Latch, IsConserved, permits_held, could, could_of, Counts, counts, held, holds_after, beyond, free, free_after, unheld, total, same_mode, lacks_mode, IsInRange, IsOpening, IsLegal, AreSeated, line, created, in_holds, is_semaphore, Start, opening, at_least_none, gave}
+use Rattle.history.specs.Prelude.{MOST_AMOUNT, Entry, Mode, X, S, Word, Header, Object, Semaphore, IsConserved, permits_held, could, could_of, Counts, counts, held, holds_after, beyond, free, free_after, unheld, total, lacks_mode, IsInRange, IsOpening, IsLegal, AreSeated, line, created, in_holds, is_semaphore, Start, opening, at_least_none, gave}
 use Rattle.history.specs.declared.entry.Word.TheVariants as word
 use Rattle.history.specs.declared.fault.Fault.TheVariants as fault
 use Rattle.history.proofs.Asking.{asked_few}
@@ -13,37 +14,22 @@ use Rattle.history.proofs.Sums.{total_change, total_nothing, total_same}
 
 -- a semaphore is no lock, has the shared mode alone and holds what is asked for
 semaphore_holds : (o : Object) (n : ℕ) → is_semaphore o ≡ true → in_holds o n ≡ n
-semaphore_holds (Lock p) n t = cc
-semaphore_holds (ReadWrite p) n t = cc
-semaphore_holds (Semaphore p c) n t = refl
-semaphore_holds (Latch c) n t = cc
+semaphore_holds o n t = grind arith
 
 -- what could be taken of a semaphore is shared, and free
 semaphore_could : (o : Object) (k : Counts) (i : ℕ) (m : Mode) (n : ℕ) → is_semaphore o ≡ true →
     could_of o k i m n ≡ true → (m ≡ S) × (int_le (pos 0) (k.free -ℤ pos n) ≡ true)
-semaphore_could (Semaphore p c) k i S n t u = (refl, u)
-semaphore_could (Semaphore p c) k i X n t u = absurd (cc)
-semaphore_could (Lock p) k i m n t u = absurd (cc)
-semaphore_could (ReadWrite p) k i m n t u = absurd (cc)
-semaphore_could (Latch c) k i m n t u = absurd (cc)
+semaphore_could o k i m n t u = grind arith
 
 semaphore_gave : (o : Object) (k : Counts) (i : ℕ) (m : Mode) (n : ℕ) → is_semaphore o ≡ true →
     lacks_mode o m ≡ false → gave o k i m n ≡ word.Gave → (m ≡ S)
     × (int_lt (pos MOST_AMOUNT) (k.free +ℤ pos n) ≡ false)
-semaphore_gave (Semaphore p c) k i S n t u g = (refl, by (int_lt (pos MOST_AMOUNT) (k.free +ℤ pos n)) refl g)
-  where
-    by : (b : Bool) → int_lt (pos MOST_AMOUNT) (k.free +ℤ pos n) ≡ b →
-        cond b (word.Refused fault.TooManyPermits) word.Gave ≡ word.Gave → b ≡ false
-    by true q r = cc
-    by false q r = refl
-semaphore_gave (Semaphore p c) k i X n t u g = absurd (cc)
-semaphore_gave (Lock p) k i m n t u g = absurd (cc)
-semaphore_gave (ReadWrite p) k i m n t u g = absurd (cc)
-semaphore_gave (Latch c) k i m n t u g = absurd (cc)
+semaphore_gave o k i m n t u g = grind arith
 
--- What an entry of a semaphore does to permits: it takes what is free, gives back, takes all, or nothing.
+-- What an entry of a semaphore does to permits: it takes what is free or all of it, gives back, or nothing.
 data Moves (s : Start) (e : Entry) (h : List Entry) : Type 0 where
-  Takes : (shared : e.mode ≡ S) → (there : int_le (pos 0) (free s h -ℤ pos e.n) ≡ true) →
+  Takes : (shared : e.mode ≡ S) →
+      (there : (int_le (pos 0) (free s h -ℤ pos e.n) ≡ true) ⊎ (e.n ≡ at_least_none (free s h))) →
       (holds : (x : ℕ) → holds_after s.header.object e.word e.n x ≡ x + e.n) →
       (frees : free s (e ∷ h) ≡ free s h -ℤ pos e.n) → (own : (x : ℕ) → beyond e.word e.n x ≡ 0) →
       Moves s e h
@@ -51,55 +37,8 @@ data Moves (s : Start) (e : Entry) (h : List Entry) : Type 0 where
       (holds : (x : ℕ) → holds_after s.header.object e.word e.n x ≡ x - e.n) →
       (frees : free s (e ∷ h) ≡ free s h +ℤ pos e.n) → (own : (x : ℕ) → beyond e.word e.n x ≡ e.n - x) →
       Moves s e h
-  Drains : (shared : e.mode ≡ S) → (all : e.n ≡ at_least_none (free s h)) →
-      (holds : (x : ℕ) → holds_after s.header.object e.word e.n x ≡ x + e.n) →
-      (frees : free s (e ∷ h) ≡ free s h -ℤ pos e.n) → (own : (x : ℕ) → beyond e.word e.n x ≡ 0) →
-      Moves s e h
   Keeps : (holds : (x : ℕ) → holds_after s.header.object e.word e.n x ≡ x) →
       (frees : free s (e ∷ h) ≡ free s h) → (own : (x : ℕ) → beyond e.word e.n x ≡ 0) → Moves s e h
-
--- a word's number of permits
-module _ (s : Start) (e : Entry) (h : List Entry) (w : Word) (p : e.word ≡ w) where
-  holds_as : (x y : ℕ) → holds_after s.header.object w e.n x ≡ y →
-      holds_after s.header.object e.word e.n x ≡ y
-  holds_as x y q = ap (λ v. holds_after s.header.object v e.n x) p ∙ q
-
-  frees_as : (y : ℤ) → free_after w e.n (free s h) ≡ y → free s (e ∷ h) ≡ y
-  frees_as y q = ap (λ v. free_after v e.n (free s h)) p ∙ q
-
-  own_as : (x y : ℕ) → beyond w e.n x ≡ y → beyond e.word e.n x ≡ y
-  own_as x y q = ap (λ v. beyond v e.n x) p ∙ q
-
--- the words that leave permits alone
-abbrev idles : Word → Bool
-idles word.Queued = true
-idles word.Missed = true
-idles word.Left = true
-idles (word.Refused f) = true
-idles word.Lapse = true
-idles word.Signal = true
-idles word.SignalAll = true
-idles word.Counted = true
-idles _ = false
-
-keeps_by : (o : Object) (w : Word) (n x : ℕ) (f : ℤ) → idles w ≡ true →
-    (holds_after o w n x ≡ x) × (free_after w n f ≡ f) × (beyond w n x ≡ 0)
-keeps_by o word.Queued n x f t = (refl, refl, refl)
-keeps_by o word.Missed n x f t = (refl, refl, refl)
-keeps_by o word.Left n x f t = (refl, refl, refl)
-keeps_by o (word.Refused g) n x f t = (refl, refl, refl)
-keeps_by o word.Lapse n x f t = (refl, refl, refl)
-keeps_by o word.Signal n x f t = (refl, refl, refl)
-keeps_by o word.SignalAll n x f t = (refl, refl, refl)
-keeps_by o word.Counted n x f t = (refl, refl, refl)
-keeps_by o _ n x f t = absurd (cc)
-
-idle_moves : (s : Start) (e : Entry) (h : List Entry) → idles e.word ≡ true → Moves s e h
-idle_moves s e h t =
-    let k : (x : ℕ) → (holds_after s.header.object e.word e.n x ≡ x)
-    × (free_after e.word e.n (free s h) ≡ free s h) × (beyond e.word e.n x ≡ 0) =
-    λ x. keeps_by s.header.object e.word e.n x (free s h) t in
-    Keeps (λ x. (k x).0) (k 0).1 (λ x. (k x).2)
 
 take_moves : (s : Start) (e : Entry) (h : List Entry) (w : Word) → e.word ≡ w →
     is_semaphore s.header.object ≡ true
@@ -108,11 +47,9 @@ take_moves : (s : Start) (e : Entry) (h : List Entry) (w : Word) → e.word ≡ 
     → could (counts s h) e.seat e.mode e.n ≡ true → Moves s e h
 take_moves s e h w p t holds frees own c =
     let k = semaphore_could s.header.object (counts s h) e.seat e.mode e.n t c in
-    Takes k.0 k.1
-    (λ x. holds_as s e h w p x (x + e.n) (holds e.n x
-    ∙ ap (λ n. x + n) (semaphore_holds s.header.object e.n t)))
-    (frees_as s e h w p (free s h -ℤ pos e.n) frees)
-    (λ x. own_as s e h w p x 0 (own e.n x))
+    let n = semaphore_holds s.header.object e.n t in
+    Takes k.0 (inl k.1) (λ x. grind (arith, p, n, holds e.n x)) (grind (arith, p, frees))
+    (λ x. grind (arith, p, own e.n x))
 
 moves : (s : Start) (e : Entry) (h : List Entry) → is_semaphore s.header.object ≡ true → Known s h e →
     Waits s h → Moves s e h
@@ -129,51 +66,29 @@ moves s e h t known back = by e.word refl known
         (ap (λ x. could (counts s h) e.seat x e.n) m ∙ ap (could (counts s h) e.seat k.0.mode) n ∙ c)
     by word.Gave p k =
         let g = semaphore_gave s.header.object (counts s h) e.seat e.mode e.n t k.0.mode k.1 in
-        Gives g.0 g.1
-        (λ x. holds_as s e h word.Gave p x (x - e.n)
-        (ap (λ n. x - n) (semaphore_holds s.header.object e.n t)))
-        (frees_as s e h word.Gave p (free s h +ℤ pos e.n) refl)
-        (λ x. own_as s e h word.Gave p x (e.n - x) refl)
+        let n = semaphore_holds s.header.object e.n t in
+        Gives g.0 g.1 (λ x. grind (arith, p, n)) (grind (arith, p)) (λ x. grind (arith, p))
     by word.Drained p k =
-        Drains (ap (λ (x : Entry). x.mode) k.2) (ap (λ (x : Entry). x.n) k.2)
-        (λ x. holds_as s e h word.Drained p x (x + e.n) refl)
-        (frees_as s e h word.Drained p (free s h -ℤ pos e.n) refl)
-        (λ x. own_as s e h word.Drained p x 0 refl)
+        Takes (ap (λ (x : Entry). x.mode) k.2) (inr (ap (λ (x : Entry). x.n) k.2)) (λ x. grind (arith, p))
+        (grind (arith, p)) (λ x. grind (arith, p))
     by word.Back p k =
         absurd (semaphore_no_lock s.header.object t
         (placed (SavedIfBack s h) e.seat (line s h) k.0 back.line k.1 k.2).saved.lock)
     by word.Await p k = absurd (semaphore_no_lock s.header.object t k.0.lock)
-    by word.Queued p k = idle_moves s e h (ap idles p)
-    by word.Missed p k = idle_moves s e h (ap idles p)
-    by word.Left p k = idle_moves s e h (ap idles p)
-    by (word.Refused f) p k = idle_moves s e h (ap idles p)
-    by word.Lapse p k = idle_moves s e h (ap idles p)
-    by word.Signal p k = idle_moves s e h (ap idles p)
-    by word.SignalAll p k = idle_moves s e h (ap idles p)
-    by word.Counted p k = idle_moves s e h (ap idles p)
+    by _ p k = Keeps (λ x. grind (arith, p)) (grind (arith, p)) (λ x. grind (arith, p))
 
 -- what the seats hold together
 held_shared : (s : Start) (e : Entry) (h : List Entry) → e.mode ≡ S → e.seat < s.header.seats →
     permits_held s (e ∷ h) + held s h e.seat S ≡ permits_held s h
     + holds_after s.header.object e.word e.n (held s h e.seat S)
 held_shared s e h m seat =
-    total_change s.header.seats (λ i. held s (e ∷ h) i S) (λ i. held s h i S) e.seat seat
-    (λ i ne. rw (ne_eqb e.seat i (λ q. ne (sym q))) refl)
-    ∙ ap (λ x. permits_held s h + x) at
-  where
-    at : held s (e ∷ h) e.seat S ≡ holds_after s.header.object e.word e.n (held s h e.seat S)
-    at = rw (eq-eqb e.seat e.seat refl)
-        (ap (λ x. cond (same_mode x S) (holds_after s.header.object e.word e.n (held s h e.seat S))
-        (held s h e.seat S)) m)
+    let change = total_change s.header.seats (λ i. held s (e ∷ h) i S) (λ i. held s h i S) e.seat seat
+    (λ i ne. rw (ne_eqb e.seat i (λ q. ne (sym q))) refl) in
+    grind (arith, nat_tests, change, m)
 
 held_kept : (s : Start) (e : Entry) (h : List Entry) (i : ℕ) (m : Mode) →
     ((x : ℕ) → holds_after s.header.object e.word e.n x ≡ x) → held s (e ∷ h) i m ≡ held s h i m
-held_kept s e h i m same = by (eqb e.seat i && same_mode e.mode m)
-  where
-    by : (b : Bool) → cond b (holds_after s.header.object e.word e.n (held s h i m)) (held s h i m)
-        ≡ held s h i m
-    by true = same (held s h i m)
-    by false = refl
+held_kept s e h i m same = grind (arith, same (held s h i m))
 
 unheld_more : (s : Start) (e : Entry) (h : List Entry) → is_semaphore s.header.object ≡ true →
     unheld s (e ∷ h) ≡ unheld s h + beyond e.word e.n (held s h e.seat e.mode)
@@ -198,10 +113,6 @@ conserved_more s e h t seat (Takes shared there holds frees own) c =
     taken _ _ (held s h e.seat S) e.n _ _ _ _ _ (held_shared s e h shared seat
     ∙ ap (λ x. permits_held s h + x) (holds _)) (unheld_more s e h t
     ∙ ap (λ x. unheld s h + x) (own _)) frees c
-conserved_more s e h t seat (Drains shared there holds frees own) c =
-    taken _ _ (held s h e.seat S) e.n _ _ _ _ _ (held_shared s e h shared seat
-    ∙ ap (λ x. permits_held s h + x) (holds _)) (unheld_more s e h t
-    ∙ ap (λ x. unheld s h + x) (own _)) frees c
 conserved_more s e h t seat (Gives shared below holds frees own) c =
     returned _ _ (held s h e.seat S) e.n _ _ _ _ _ (held_shared s e h shared seat
     ∙ ap (λ x. permits_held s h + x) (holds _)) (unheld_more s e h t
@@ -211,10 +122,7 @@ conserved_more s e h t seat (Keeps holds frees own) c =
     (unheld_more s e h t ∙ ap (λ x. unheld s h + x) (own _)) frees c
 
 nothing_held : (n : ℕ) (c : ℤ) → pos (total n (λ i. 0)) +ℤ c ≡ c +ℤ pos 0
-nothing_held n c = by _ (total_nothing n)
-  where
-    by : (t : ℕ) → t ≡ 0 → pos t +ℤ c ≡ c +ℤ pos 0
-    by t p = omega (arith, ints)
+nothing_held n c = omega (arith, ints, total_nothing n)
 
 pub conserved_from : (s : Start) (h : List Entry) → is_semaphore s.header.object ≡ true → Waits s [] →
     IsConserved s [] → IsLegal s h → AreSeated s h → IsConserved s h
@@ -231,11 +139,7 @@ conserved k h t legal seats =
 
 -- a drain takes what there is
 drained_is : (f : ℤ) → (at_least_none f ≡ 0) ⊎ (pos (at_least_none f) ≡ f)
-drained_is (pos a) = by (ltb a 0)
-  where
-    by : (b : Bool) → (cond b 0 a ≡ 0) ⊎ (pos (cond b 0 a) ≡ pos a)
-    by true = inl refl
-    by false = inr refl
+drained_is (pos a) = grind arith
 drained_is (negsuc b) = inl refl
 
 fits_taken : (f : ℤ) (n : ℕ) → FitsSigned w32 f → int_le (pos 0) (f -ℤ pos n) ≡ true →
@@ -247,32 +151,21 @@ fits_returned : (f : ℤ) (n : ℕ) → FitsSigned w32 f → int_lt (pos MOST_AM
 fits_returned f n p q = omega (arith, ints)
 
 fits_drained : (f : ℤ) (n : ℕ) → FitsSigned w32 f → n ≡ at_least_none f → FitsSigned w32 (f -ℤ pos n)
-fits_drained f n p q = ⊎_elim (λ z. none (q ∙ z)) (λ all. rest (ap pos q ∙ all)) (drained_is f)
-  where
-    none : n ≡ 0 → FitsSigned w32 (f -ℤ pos n)
-    none z = omega (arith, ints, p, z)
-
-    rest : pos n ≡ f → FitsSigned w32 (f -ℤ pos n)
-    rest z = omega (arith, ints, p, z)
+fits_drained f n p q =
+    ⊎_elim (λ z. omega (arith, ints, p, q, z)) (λ all. omega (arith, ints, p, ap pos q ∙ all)) (drained_is f)
 
 few : (f : ℤ) (n : ℕ) → FitsSigned w32 f → int_le (pos 0) (f -ℤ pos n) ≡ true → n ≤ MOST_AMOUNT
 few f n p q = omega (arith, ints)
 
 few_drained : (f : ℤ) (n : ℕ) → FitsSigned w32 f → n ≡ at_least_none f → n ≤ MOST_AMOUNT
-few_drained f n p q = ⊎_elim (λ z. none (q ∙ z)) (λ all. rest (ap pos q ∙ all)) (drained_is f)
-  where
-    none : n ≡ 0 → n ≤ MOST_AMOUNT
-    none z = omega (arith, z)
-
-    rest : pos n ≡ f → n ≤ MOST_AMOUNT
-    rest z = omega (arith, ints, p, z)
+few_drained f n p q =
+    ⊎_elim (λ z. omega (arith, q, z)) (λ all. omega (arith, ints, p, ap pos q ∙ all)) (drained_is f)
 
 fits_more : (s : Start) (e : Entry) (h : List Entry) → Moves s e h → FitsSigned w32 (free s h) →
     FitsSigned w32 (free s (e ∷ h))
 fits_more s e h (Takes shared there holds frees own) fits =
-    subst (FitsSigned w32) (sym frees) (fits_taken (free s h) e.n fits there)
-fits_more s e h (Drains shared all holds frees own) fits =
-    subst (FitsSigned w32) (sym frees) (fits_drained (free s h) e.n fits all)
+    subst (FitsSigned w32) (sym frees)
+    (⊎_elim (fits_taken (free s h) e.n fits) (fits_drained (free s h) e.n fits) there)
 fits_more s e h (Gives shared below holds frees own) fits =
     subst (FitsSigned w32) (sym frees) (fits_returned (free s h) e.n fits below)
 fits_more s e h (Keeps holds frees own) fits = subst (FitsSigned w32) (sym frees) fits
@@ -291,9 +184,7 @@ created_fits k range t = by k.object range.opening t
   where
     by : (o : Object) → IsOpening o k.conditions → is_semaphore o ≡ true → FitsSigned w32 (created o)
     by (Semaphore p c) r u = r.1
-    by (Lock p) r u = absurd (cc)
-    by (ReadWrite p) r u = absurd (cc)
-    by (Latch c) r u = absurd (cc)
+    by _ r u = absurd (cc)
 
 pub free_fits : (k : Header) (h : List Entry) → IsInRange k → is_semaphore k.object ≡ true →
     IsLegal (opening k) h → FitsSigned w32 (free (opening k) h)
@@ -310,36 +201,24 @@ free_at_most k h range t legal = fits_at_most (free (opening k) h) (free_fits k 
 few_taken : (s : Start) (e : Entry) (h : List Entry) → Moves s e h → FitsSigned w32 (free s h) → (x : ℕ) →
     holds_after s.header.object e.word e.n x ≤ x + MOST_AMOUNT
 few_taken s e h (Takes shared there holds frees own) fits x =
-    let a : e.n ≤ MOST_AMOUNT = few (free s h) e.n fits there in
-    let b = holds x in
-    omega (arith, a, b)
-few_taken s e h (Drains shared all holds frees own) fits x =
-    let a : e.n ≤ MOST_AMOUNT = few_drained (free s h) e.n fits all in
-    let b = holds x in
-    omega (arith, a, b)
-few_taken s e h (Gives shared below holds frees own) fits x = let b = holds x in omega (arith, b)
-few_taken s e h (Keeps holds frees own) fits x = let b = holds x in omega (arith, b)
+    let l = ⊎_elim (few (free s h) e.n fits) (few_drained (free s h) e.n fits) there in
+    omega (arith, l, holds x)
+few_taken s e h (Gives shared below holds frees own) fits x = omega (arith, holds x)
+few_taken s e h (Keeps holds frees own) fits x = omega (arith, holds x)
 
 pub held_grows : (s : Start) (h : List Entry) → is_semaphore s.header.object ≡ true → Waits s [] →
     FitsSigned w32 (free s []) → IsLegal s h → (i : ℕ) (m : Mode) →
     held s h i m ≤ held s [] i m + MOST_AMOUNT * length h
 held_grows s [] t v fits legal i m = omega arith
 held_grows s (e ∷ h) t v fits legal i m =
-    by (eqb e.seat i && same_mode e.mode m) (held s h i m) (length h) (held_grows s h t v fits legal.1 i m)
-    (few_taken s e h (moves s e h t (known s h legal.0.0 e legal.0.1) (waits_from s h v legal.1))
-    (free_fits_on s h t v fits legal.1))
-  where
-    by : (b : Bool) (x n : ℕ) → x ≤ held s [] i m + MOST_AMOUNT * n →
-        ((y : ℕ) → holds_after s.header.object e.word e.n y ≤ y + MOST_AMOUNT) →
-        cond b (holds_after s.header.object e.word e.n x) x ≤ held s [] i m + MOST_AMOUNT * suc n
-    by true x n l f = let g = f x in omega (arith, l, g)
-    by false x n l f = omega (arith, l)
+    let few = few_taken s e h (moves s e h t (known s h legal.0.0 e legal.0.1) (waits_from s h v legal.1))
+    (free_fits_on s h t v fits legal.1) (held s h i m) in
+    grind (arith, few, held_grows s h t v fits legal.1 i m)
 
 pub held_at_most : (k : Header) (h : List Entry) → IsInRange k → is_semaphore k.object ≡ true →
     IsLegal (opening k) h → (i : ℕ) (m : Mode) → held (opening k) h i m ≤ MOST_AMOUNT * length h
 held_at_most k h range t legal i m =
-    let l = held_grows (opening k) h t (opening_waits k) (created_fits k range t) legal i m in
-    omega (arith, l)
+    omega (arith, held_grows (opening k) h t (opening_waits k) (created_fits k range t) legal i m)
 
 -- nobody holds permits exclusively, and the free ones are no fewer than none or than at the start
 pub no_exclusive : (s : Start) (h : List Entry) → is_semaphore s.header.object ≡ true → Waits s [] →
@@ -350,31 +229,18 @@ no_exclusive s (e ∷ h) t v legal i =
     ∙ no_exclusive s h t v legal.1 i
   where
     shared : e.mode ≡ S → held s (e ∷ h) i X ≡ held s h i X
-    shared q =
-        ap (λ m. cond (eqb e.seat i && same_mode m X) (holds_after s.header.object e.word e.n (held s h i X))
-        (held s h i X)) q
-        ∙ never (eqb e.seat i)
-      where
-        never : (b : Bool) →
-            cond (b && false) (holds_after s.header.object e.word e.n (held s h i X)) (held s h i X)
-            ≡ held s h i X
-        never true = refl
-        never false = refl
+    shared q = grind (arith, q)
 
     by : Moves s e h → held s (e ∷ h) i X ≡ held s h i X
     by (Takes q there holds frees own) = shared q
     by (Gives q below holds frees own) = shared q
-    by (Drains q all holds frees own) = shared q
     by (Keeps holds frees own) = held_kept s e h i X holds
 
 abbrev pub IsLow : ℤ → ℤ → Type 0
 IsLow c f = (pos 0 ≤ℤ f) ⊎ (c ≤ℤ f)
 
 low_taken : (c f : ℤ) (n : ℕ) → int_le (pos 0) (f -ℤ pos n) ≡ true → IsLow c (f -ℤ pos n)
-low_taken c f n q = inl (within f n q)
-  where
-    within : (f : ℤ) (n : ℕ) → int_le (pos 0) (f -ℤ pos n) ≡ true → pos 0 ≤ℤ (f -ℤ pos n)
-    within f n q = omega (arith, ints)
+low_taken c f n q = inl (omega (arith, ints))
 
 raised : (c f : ℤ) (n : ℕ) → c ≤ℤ f → c ≤ℤ (f +ℤ pos n)
 raised c f n p = omega (arith, ints)
@@ -383,16 +249,10 @@ low_returned : (c f : ℤ) (n : ℕ) → IsLow c f → IsLow c (f +ℤ pos n)
 low_returned c f n low = ⊎_elim (λ p. inl (raised (pos 0) f n p)) (λ p. inr (raised c f n p)) low
 
 low_drained : (c f : ℤ) (n : ℕ) → IsLow c f → n ≡ at_least_none f → IsLow c (f -ℤ pos n)
-low_drained c f n low q = ⊎_elim (λ z. none low (q ∙ z)) (λ all. inl (rest (ap pos q ∙ all))) (drained_is f)
-  where
-    same : n ≡ 0 → f -ℤ pos n ≡ f
-    same z = omega (arith, ints, z)
-
-    none : IsLow c f → n ≡ 0 → IsLow c (f -ℤ pos n)
-    none l z = subst (IsLow c) (sym (same z)) l
-
-    rest : pos n ≡ f → pos 0 ≤ℤ (f -ℤ pos n)
-    rest z = omega (arith, ints, z)
+low_drained c f n low q =
+    ⊎_elim
+    (λ z. ⊎_elim (λ p. inl (omega (arith, ints, q, z, p))) (λ p. inr (omega (arith, ints, q, z, p))) low)
+    (λ all. inl (omega (arith, ints, ap pos q ∙ all))) (drained_is f)
 
 pub low_on : (s : Start) (c : ℤ) (h : List Entry) → is_semaphore s.header.object ≡ true → Waits s [] →
     IsLow c (free s []) → IsLegal s h → IsLow c (free s h)
@@ -402,9 +262,9 @@ low_on s c (e ∷ h) t v low legal =
     (low_on s c h t v low legal.1)
   where
     by : Moves s e h → IsLow c (free s h) → IsLow c (free s (e ∷ h))
-    by (Takes q there holds frees own) l = subst (IsLow c) (sym frees) (low_taken c (free s h) e.n there)
+    by (Takes q there holds frees own) l = subst (IsLow c) (sym frees)
+        (⊎_elim (low_taken c (free s h) e.n) (low_drained c (free s h) e.n l) there)
     by (Gives q below holds frees own) l = subst (IsLow c) (sym frees) (low_returned c (free s h) e.n l)
-    by (Drains q all holds frees own) l = subst (IsLow c) (sym frees) (low_drained c (free s h) e.n l all)
     by (Keeps holds frees own) l = subst (IsLow c) (sym frees) l
 
 -- what is released unheld is no more than was asked for; only a semaphore counts it
@@ -413,26 +273,16 @@ few_beyond : (s : Start) (e : Entry) (h : List Entry) (had : ℕ) → Known s h 
 few_beyond s e h had k = by e.word k
   where
     by : (w : Word) → KnownBy s h e w → beyond w e.n had ≤ MOST_AMOUNT
-    by word.Gave k = let l = asked_few s.header.object e.n k.0.amount in omega (arith, l)
+    by word.Gave k = omega (arith, asked_few s.header.object e.n k.0.amount)
     by _ k = omega arith
 
 pub unheld_grows : (s : Start) (h : List Entry) → IsLegal s h → unheld s h ≤ s.unheld + MOST_AMOUNT * length h
 unheld_grows s [] legal = omega arith
 unheld_grows s (e ∷ h) legal =
-    by (is_semaphore s.header.object)
-    (few_beyond s e h (held s h e.seat e.mode) (known s h legal.0.0 e legal.0.1)) (unheld_grows s h legal.1)
-  where
-    by : (b : Bool) → beyond e.word e.n (held s h e.seat e.mode) ≤ MOST_AMOUNT →
-        unheld s h ≤ s.unheld + MOST_AMOUNT * length h →
-        unheld s h + cond b (beyond e.word e.n (held s h e.seat e.mode)) 0
-        ≤ s.unheld + MOST_AMOUNT * suc (length h)
-    by true l m = omega (arith, l, m)
-    by false l m = omega (arith, m)
+    let x = unheld_grows s h legal.1 in
+    grind (arith, few_beyond s e h (held s h e.seat e.mode) (known s h legal.0.0 e legal.0.1))
 
 pub unheld_none : (s : Start) (h : List Entry) → is_semaphore s.header.object ≡ false → unheld s h ≡ s.unheld
 unheld_none s [] f = refl
 unheld_none s (e ∷ h) f =
-    let z = unheld_none s h f in
-    let n : cond (is_semaphore s.header.object) (beyond e.word e.n (held s h e.seat e.mode)) 0 ≡ 0 =
-    ap (λ b. cond b (beyond e.word e.n (held s h e.seat e.mode)) 0) f in
-    omega (arith, z, n)
+    grind (arith, f, unheld_none s h f)

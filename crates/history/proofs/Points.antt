@@ -1,9 +1,10 @@
 -- The order of what is seen of a history.
-use Rattle.std.proofs.Common.{◌≡◌, ◌≢◌, inl, inr, ⊎_elim, ℕ, ◌+◌, ◌<◌, ◌≤◌, Bool, true, false, ◌&&◌, ◌==◌, cond, eqb, List, [], ◌∷◌, ◌++◌, refl, ap, ◌∙◌, sym, subst, arith, eq-eqb, ne_eqb, append_assoc}
+use Rattle.std.proofs.Common.{◌≡◌, ◌≢◌, inl, inr, ⊎_elim, ℕ, ◌+◌, ◌≤◌, true, ◌==◌, List, [], ◌∷◌, ◌++◌, refl, ap, ◌∙◌, sym, subst, arith, append_assoc}
 use Rattle.std.specs.List.{AllByRecursion}
 use Rattle.std.proofs.lemmas.List.Elements.{filter-append}
 use Rattle.std.proofs.lemmas.List.{get_or_past}
-use Rattle.history.specs.Prelude.{SeatBase, Entry, Mode, Header, Point, Base, based, calls_of, each_below, folded, nothing, opening_base, seat_after, seat_of, held, holds_after, ended_calls, ends_call, same_mode, AreSeated, IsLegal, is_away, phase, Agrees, CanFold, ComesBefore, FollowsBy, Grows, IsFolded, entries_of, last_sleep, Start, opening}
+use Rattle.std.proofs.lemmas.Bool.Decides.{nat_tests}
+use Rattle.history.specs.Prelude.{SeatBase, Entry, Mode, Header, Point, Base, based, calls_of, each_below, folded, nothing, opening_base, seat_after, seat_of, held, ended_calls, AreSeated, IsLegal, is_away, phase, Agrees, CanFold, ComesBefore, FollowsBy, Grows, IsFolded, entries_of, last_sleep, Start, opening}
 use Rattle.history.proofs.Alike.{Alike, away_alike, phase_alike}
 use Rattle.history.proofs.Away.{sleep_more}
 use Rattle.history.proofs.Folding.{fold_alike, folds_on, legal_goes_on, length-each, seat_folded}
@@ -97,29 +98,18 @@ follows_before p q added can (inr folds) = inr (record { more = []; can = can; b
 pub calls_by_seat : (b : Base) (g : List Entry) (i : ℕ) →
     calls_of b g i ≡ (seat_of b i).calls + ended_calls (entries_of i g)
 calls_by_seat b [] i = omega arith
-calls_by_seat b (e ∷ g) i = by (eqb e.seat i) (calls_by_seat b g i)
-  where
-    by : (t : Bool) → calls_of b g i ≡ (seat_of b i).calls + ended_calls (entries_of i g) →
-        calls_of b g i + cond (t && ends_call e.word) 1 0
-        ≡ (seat_of b i).calls + ended_calls (cond t (e ∷ entries_of i g) (entries_of i g))
-    by true q = omega (arith, q)
-    by false q = omega (arith, q)
+calls_by_seat b (e ∷ g) i = grind (arith, calls_by_seat b g i)
 
 none_of : (s : Start) (g : List Entry) (i : ℕ) → AreSeated s g → s.header.seats ≤ i → entries_of i g ≡ []
 none_of s [] i a l = refl
-none_of s (e ∷ g) i a l =
-    ap (λ t. cond t (e ∷ entries_of i g) (entries_of i g))
-    (ne_eqb e.seat i (λ same. (let f = a.0 in omega (arith, f, l, same))))
-    ∙ none_of s g i a.1 l
+none_of s (e ∷ g) i a l = grind (arith, nat_tests, a.0, none_of s g i a.1 l)
 
 pub calls_folded : (b : Base) (g : List Entry) (i : ℕ) → CanFold b g →
     (seat_of (folded b g) i).calls ≡ (seat_of b i).calls + ended_calls (entries_of i g)
-calls_folded b g i can = ⊎_elim within beyond (cases_below i b.header.seats)
+calls_folded b g i can =
+    ⊎_elim (λ l. ap (λ (x : SeatBase). x.calls) (seat_folded b g i l) ∙ calls_by_seat b g i) beyond
+    (cases_below i b.header.seats)
   where
-    within : i < b.header.seats →
-        (seat_of (folded b g) i).calls ≡ (seat_of b i).calls + ended_calls (entries_of i g)
-    within l = ap (λ (x : SeatBase). x.calls) (seat_folded b g i l) ∙ calls_by_seat b g i
-
     beyond : b.header.seats ≤ i →
         (seat_of (folded b g) i).calls ≡ (seat_of b i).calls + ended_calls (entries_of i g)
     beyond l =
@@ -128,26 +118,15 @@ calls_folded b g i can = ⊎_elim within beyond (cases_below i b.header.seats)
         (get_or_past (each_below b.header.seats (seat_after b g)) i nothing (omega (arith, e, l))) in
         let f = can.good.seats in
         let old = ap (λ (x : SeatBase). x.calls) (get_or_past b.seats i nothing (omega (arith, f, l))) in
-        let none = ap ended_calls (none_of (based b) g i can.seated l) in
-        omega (arith, new, old, none)
+        omega (arith, new, old, ap ended_calls (none_of (based b) g i can.seated l))
 
 -- Entries in front change what a seat holds by its own entries alone.
 holds_more : (s t : Start) → s.header.object ≡ t.header.object → (g h all : List Entry) (i : ℕ) (m : Mode) →
     held s h i m ≡ held t all i m → held s (g ++ h) i m ≡ held t (entries_of i g ++ all) i m
 holds_more s t object [] h all i m same = same
-holds_more s t object (e ∷ g) h all i m same = by (eqb e.seat i) refl (holds_more s t object g h all i m same)
-  where
-    by : (own : Bool) → eqb e.seat i ≡ own →
-        held s (g ++ h) i m ≡ held t (entries_of i g ++ all) i m →
-        cond (own && same_mode e.mode m) (holds_after s.header.object e.word e.n (held s (g ++ h) i m))
-        (held s (g ++ h) i m)
-        ≡ held t (cond own (e ∷ entries_of i g) (entries_of i g) ++ all) i m
-    by true is before =
-        (λ d. cond (same_mode e.mode m) (holds_after (object d) e.word e.n (before d)) (before d))
-        ∙ sym (ap (λ own. cond (own && same_mode e.mode m)
-        (holds_after t.header.object e.word e.n (held t (entries_of i g ++ all) i m))
-        (held t (entries_of i g ++ all) i m)) is)
-    by false is before = before
+holds_more s t object (e ∷ g) h all i m same =
+    let ih = holds_more s t object g h all i m same in
+    grind (arith, nat_tests, ih)
 
 holds_opened : (k : Header) (p : Point) (i : ℕ) → p.base ≡ opening_base k → p.entries ≡ [] → (m : Mode) →
     held (based p.base) p.entries i m ≡ held (opening p.base.header) [] i m
@@ -298,17 +277,12 @@ agrees_more p q i added mine all can (inr folds) own a =
 pub all_of : (i : ℕ) (added : List Entry) → AllByRecursion (λ e. e.seat ≡ i) added →
     entries_of i added ≡ added
 all_of i [] all = refl
-all_of i (e ∷ added) all =
-    ap (λ t. cond t (e ∷ entries_of i added) (entries_of i added)) (eq-eqb e.seat i all.0)
-    ∙ ap (λ l. e ∷ l) (all_of i added all.1)
+all_of i (e ∷ added) all = grind (arith, nat_tests, all_of i added all.1)
 
 pub none_of_other : (i j : ℕ) (added : List Entry) → i ≢ j → AllByRecursion (λ e. e.seat ≡ i) added →
     entries_of j added ≡ []
 none_of_other i j [] ne all = refl
-none_of_other i j (e ∷ added) ne all =
-    ap (λ t. cond t (e ∷ entries_of j added) (entries_of j added))
-    (ne_eqb e.seat j (λ same. ne (sym all.0 ∙ same)))
-    ∙ none_of_other i j added ne all.1
+none_of_other i j (e ∷ added) ne all = grind (arith, nat_tests, none_of_other i j added ne all.1)
 
 pub follows_own : (p q : Point) (i : ℕ) (added all : List Entry) → CanFold p.base p.entries →
     FollowsBy p q added → AllByRecursion (λ e. e.seat ≡ i) added → Agrees p i all → Agrees q i (added ++ all)

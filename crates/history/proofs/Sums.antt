@@ -1,6 +1,7 @@
 -- What an entry makes of the numbers.
-use Rattle.std.proofs.Common.{◌≡◌, ◌≢◌, ⊎_elim, ℕ, zero, suc, ◌+◌, ◌<◌, true, ltb, Some, None, refl, ap, arith, lt-ltb}
+use Rattle.std.proofs.Common.{◌≡◌, ◌≢◌, ℕ, zero, suc, ◌+◌, ◌<◌, Some, None, refl, arith}
 use Rattle.std.proofs.lemmas.Bool.{cases_eq}
+use Rattle.std.proofs.lemmas.Bool.Decides.{nat_tests}
 use Rattle.history.specs.Counts.{total, seat_with}
 
 -- the seat that has something, where one has or none
@@ -12,57 +13,33 @@ pub seat_with_one : (n : ℕ) (f : ℕ → ℕ) (j : ℕ) → j < n → 0 < f j 
     seat_with n f ≡ Some j
 seat_with_one zero f j l p h = absurd (omega arith)
 seat_with_one (suc n) f j l p h =
-    ⊎_elim same (λ ne. other ne (λ l'. seat_with_one n f j l' p h)) (cases_eq n j)
-  where
-    same : n ≡ j → seat_with (suc n) f ≡ Some j
-    same e =
-        let t : ltb 0 (f n) ≡ true = rw e (lt-ltb _ _ p) in
-        rw t (ap Some e)
-
-    other : (n ≡ j → ⊥) → (j < n → seat_with n f ≡ Some j) → seat_with (suc n) f ≡ Some j
-    other ne ih =
-        let z : f n ≡ 0 = h n ne in
-        let l' : j < n = omega (arith, ne, l) in
-        rw z (ih l')
+    let ih : j < n → seat_with n f ≡ Some j = λ m. seat_with_one n f j m p h in
+    grind (arith, nat_tests, h n)
 
 -- the sum over the seats
 pub total_nothing : (n : ℕ) → total n (λ i. 0) ≡ 0
 total_nothing zero = refl
-total_nothing (suc n) = let e = total_nothing n in omega (arith, e)
+total_nothing (suc n) = omega (arith, total_nothing n)
 
 pub total_same : (n : ℕ) (f g : ℕ → ℕ) → ((i : ℕ) → f i ≡ g i) → total n f ≡ total n g
 total_same zero f g h = refl
-total_same (suc n) f g h = let e = total_same n f g h in let d = h n in omega (arith, e, d)
+total_same (suc n) f g h = omega (arith, total_same n f g h, h n)
 
 -- totals of functions that agree below
 pub total_agree : (n : ℕ) (f g : ℕ → ℕ) → ((i : ℕ) → i < n → f i ≡ g i) → total n f ≡ total n g
 total_agree zero f g same = refl
 total_agree (suc n) f g same =
-    let ih : total n f ≡ total n g = total_agree n f g (λ i l. same i (omega (arith, l))) in
-    let e : f n ≡ g n = same n (omega arith) in
-    omega (arith, ih, e)
+    omega (arith, total_agree n f g (λ i l. same i (omega (arith, l))), same n (omega arith))
 
 pub total_change_below : (n : ℕ) (f g : ℕ → ℕ) (j : ℕ) → j < n → ((i : ℕ) → i < n → i ≢ j → f i ≡ g i) →
     total n f + g j ≡ total n g + f j
 total_change_below zero f g j l same = absurd (omega arith)
 total_change_below (suc n) f g j l same =
-    ⊎_elim last (λ ne. other ne (λ l'. total_change_below n f g j l' (λ i b. same i (omega (arith, b)))))
-    (cases_eq n j)
-  where
-    last : n ≡ j → total (suc n) f + g j ≡ total (suc n) g + f j
-    last e =
-        let b : total n f ≡ total n g =
-        total_agree n f g (λ i b. same i (omega (arith, b)) (λ q. absurd (omega (arith, b, q, e)))) in
-        let x : f n ≡ f j = ap f e in
-        let y : g n ≡ g j = ap g e in
-        omega (arith, b, x, y)
-
-    other : (n ≡ j → ⊥) → (j < n → total n f + g j ≡ total n g + f j) →
-        total (suc n) f + g j ≡ total (suc n) g + f j
-    other ne ih =
-        let r : total n f + g j ≡ total n g + f j = ih (omega (arith, ne, l)) in
-        let d : f n ≡ g n = same n (omega arith) ne in
-        omega (arith, r, d)
+    let ih : j < n → total n f + g j ≡ total n g + f j =
+    λ m. total_change_below n f g j m (λ i b. same i (omega (arith, b))) in
+    let agree : n ≡ j → total n f ≡ total n g =
+    λ e. total_agree n f g (λ i b. same i (omega (arith, b)) (λ q. absurd (omega (arith, b, q, e)))) in
+    grind (arith, cases_eq n j, same n (omega arith))
 
 pub total_change : (n : ℕ) (f g : ℕ → ℕ) (j : ℕ) → j < n → ((i : ℕ) → i ≢ j → f i ≡ g i) →
     total n f + g j ≡ total n g + f j

@@ -1,26 +1,25 @@
 -- What one wait says of the line, of the sleepers, and of their number.
-use Rattle.std.proofs.Common.{◌≡◌, ℕ, zero, suc, ◌+◌, ◌<◌, ◌≤◌, Bool, true, false, ◌||◌, eqb, List, [], ◌∷◌, map, take, length, Option, Some, None, refl, ap, ◌∙◌, sym, subst, arith, eq-eqb, length-append}
+use Rattle.std.proofs.Common.{◌≡◌, ℕ, zero, suc, ◌+◌, ◌<◌, ◌≤◌, Bool, true, false, ◌||◌, eqb, List, [], ◌∷◌, take, length, Some, None, refl, ap, ◌∙◌, sym, subst, arith, eq-eqb, length-append}
 use Rattle.std.specs.List.{AllByRecursion}
 use Rattle.std.proofs.lemmas.Bool.{or_right}
 use Rattle.std.proofs.lemmas.List.{length-map}
-use Rattle.history.specs.Prelude.{Arrival, Entry, Word, Header, IsLegal, AreSeated, line, arrivals_by, place_of, coming_back, Idle, phase, sleepers, sleeps_below, last_sleep, has, Start, opening, times, seats_of, asleep, waiting, IsOneWait, StandOnce}
+use Rattle.history.specs.Prelude.{Arrival, Entry, Word, Header, IsLegal, AreSeated, line, arrivals_by, place_of, Idle, phase, sleepers, sleeps_below, last_sleep, has, Start, opening, times, seats_of, asleep, waiting, IsOneWait, StandOnce}
 use Rattle.history.specs.declared.entry.Word.TheVariants as word
 use Rattle.history.proofs.Entering.{Known, KnownBy, known}
 use Rattle.history.proofs.LineLemmas.{line_after, stays}
-use Rattle.history.proofs.OneWait.{ComesBack, SavedIfBack, Waits, waits, placed, idle_waits_nowhere}
+use Rattle.history.proofs.OneWait.{all_come, ComesBack, SavedIfBack, Waits, waits, placed, idle_waits_nowhere, take_has}
 use Rattle.history.proofs.SleepLemmas.{sleeps_at, times-waiting}
-use Rattle.history.proofs.Times.{each-append, each-filter, once_same, times-take_drop, has_once, once_has, place_once, never_placed, total_part, pigeonhole, pigeonhole_less}
+use Rattle.history.proofs.Times.{each-append, each-filter, once_same, has_once, place_once, never_placed, total_part, pigeonhole, pigeonhole_less}
 
 once_line : (q : List Arrival) → ((i : ℕ) → times i (seats_of q) ≤ 1) → StandOnce q
 once_line [] one = tt
-once_line (a ∷ q) one = (never_placed a.seat q rest, once_line q (λ i. let o = one i in omega (arith, o)))
-  where
-    rest : times a.seat (seats_of q) ≡ 0
-    rest = let o = one a.seat in let s = once_same a.seat a.seat refl in omega (arith, o, s)
+once_line (a ∷ q) one = (
+  never_placed a.seat q (omega (arith, one a.seat, once_same a.seat a.seat refl)),
+  once_line q (λ i. omega (arith, one i)),
+)
 
 pub stand_once : (s : Start) (h : List Entry) → IsOneWait s h → StandOnce (line s h)
-stand_once s h one =
-    once_line (line s h) (λ i. let o = one i in let w = times-waiting s h i in omega (arith, o, w))
+stand_once s h one = once_line (line s h) (λ i. omega (arith, one i, times-waiting s h i))
 
 -- a seat in line sleeps nowhere, and a sleeper stands in no line
 pub in_line_awake : (s : Start) (h : List Entry) (i : ℕ) (a : Arrival) → IsOneWait s h →
@@ -31,20 +30,15 @@ in_line_awake s h i a one p = by (sleeps_below s.header.conditions s h i) refl
     by false t = refl
     by true t =
         let r = sleeps_at s.header.conditions s h i t in
-        let l = (place_once i (line s h) a p).1 in
-        let k = has_once i (sleepers s h r.0) r.2 in
-        let m = total_part s.header.conditions (λ d. times i (sleepers s h d)) r.0 r.1 in
-        let w = times-waiting s h i in
-        let o = one i in
-        absurd (omega (arith, l, k, m, w, o))
+        let x = total_part s.header.conditions (λ d. times i (sleepers s h d)) r.0 r.1 in
+        let y = times-waiting s h i in
+        absurd (omega (arith, (place_once i (line s h) a p).1, has_once i (sleepers s h r.0) r.2, one i))
 
 pub asleep_out_of_line : (s : Start) (h : List Entry) (i : ℕ) → IsOneWait s h →
     sleeps_below s.header.conditions s h i ≡ true → place_of i (line s h) ≡ None
-asleep_out_of_line s h i one t = by (place_of i (line s h)) refl
-  where
-    by : (o : Option Arrival) → place_of i (line s h) ≡ o → o ≡ None
-    by None p = refl
-    by (Some a) p = let f = in_line_awake s h i a one p in cc (t, f)
+asleep_out_of_line s h i one t =
+    let awake = λ (a : Arrival) (p : place_of i (line s h) ≡ Some a). in_line_awake s h i a one p in
+    grind (arith, t, awake)
 
 -- a sleeper sleeps on the condition of its last sleep alone, and on none that the object lacks
 pub sleeper_condition : (s : Start) (h : List Entry) → Waits s h → (i : ℕ) →
@@ -69,9 +63,7 @@ no_sleepers_above s h v c above = by (sleepers s h c) refl
     by (x ∷ xs) q =
         let t : has x (sleepers s h c) ≡ true = ap (has x) q ∙ ap (λ b. b || has x xs) (eq-eqb x x refl) in
         let u = v.sleepers c x t in
-        let l = u.saved.condition in
-        let d = u.condition in
-        absurd (omega (arith, l, d, above))
+        absurd (omega (arith, u.saved.condition, u.condition, above))
 
 -- one in line that comes back asks for X and 1 of a lock, and saved its holds
 pub comes_back : (s : Start) (h : List Entry) → Waits s h → (i : ℕ) (a : Arrival) →
@@ -91,10 +83,6 @@ each_has n (x ∷ xs) each = (
 abbrev pub LineSeated : ℕ → List Arrival → Type 0
 LineSeated n q = AllByRecursion (λ a. a.seat < n) q
 
-seated_back : (n : ℕ) (xs : List ℕ) → AllByRecursion (λ x. x < n) xs → LineSeated n (map coming_back xs)
-seated_back n [] all = tt
-seated_back n (x ∷ xs) all = (all.0, seated_back n xs all.1)
-
 seated_seats : (n : ℕ) (q : List Arrival) → LineSeated n q → AllByRecursion (λ x. x < n) (seats_of q)
 seated_seats n [] all = tt
 seated_seats n (a ∷ q) all = (all.0, seated_seats n q all.1)
@@ -112,27 +100,14 @@ line_seated_next s h e v k l all =
     sleeper i t = (v.sleepers e.at i t).saved.seat
 
     moved : (i : ℕ) → has i (take e.n (sleepers s h e.at)) ≡ true → i < s.header.seats
-    moved i t =
-        let o = has_once i (take e.n (sleepers s h e.at)) t in
-        let p = times-take_drop i e.n (sleepers s h e.at) in
-        sleeper i (once_has i (sleepers s h e.at) (omega (arith, o, p)))
+    moved i t = sleeper i (take_has e.n i (sleepers s h e.at) t)
 
     by : (w : Word) → KnownBy s h e w → LineSeated s.header.seats (arrivals_by s w e h)
     by word.Queued k = (l, tt)
     by word.Lapse k = (l, tt)
-    by word.Signal k = seated_back s.header.seats _ (each_has s.header.seats _ moved)
-    by word.SignalAll k = seated_back s.header.seats _ (each_has s.header.seats _ sleeper)
-    by word.Got k = tt
-    by word.TryGot k = tt
-    by word.Granted k = tt
-    by word.Missed k = tt
-    by word.Left k = tt
-    by word.Gave k = tt
-    by (word.Refused f) k = tt
-    by word.Await k = tt
-    by word.Back k = tt
-    by word.Counted k = tt
-    by word.Drained k = tt
+    by word.Signal k = all_come (λ a. a.seat < s.header.seats) _ moved
+    by word.SignalAll k = all_come (λ a. a.seat < s.header.seats) _ sleeper
+    by _ k = tt
 
 pub line_seated : (k : Header) (h : List Entry) → IsLegal (opening k) h → AreSeated (opening k) h →
     LineSeated k.seats (line (opening k) h)
@@ -164,18 +139,15 @@ length_waiting s h =
 pub few_wait : (s : Start) (h : List Entry) → Waits s h → LineSeated s.header.seats (line s h) →
     length (line s h) + length (asleep s.header.conditions s h) ≤ s.header.seats
 few_wait s h v l =
-    let p = pigeonhole s.header.seats (waiting s h) (waiting_seated s h v l) v.once in
-    let e = length_waiting s h in
-    omega (arith, p, e)
+    omega (arith, length_waiting s h, pigeonhole s.header.seats (waiting s h) (waiting_seated s h v l) v.once)
 
 pub idle_leaves_a_place : (s : Start) (h : List Entry) (i : ℕ) → Waits s h →
     LineSeated s.header.seats (line s h) → i < s.header.seats → phase s h i ≡ Idle →
     length (line s h) + length (asleep s.header.conditions s h) < s.header.seats
 idle_leaves_a_place s h i v l seat idle =
-    let p = pigeonhole_less s.header.seats (waiting s h) i (waiting_seated s h v l) v.once seat
+    let few = pigeonhole_less s.header.seats (waiting s h) i (waiting_seated s h v l) v.once seat
     (idle_waits_nowhere s h i idle) in
-    let e = length_waiting s h in
-    omega (arith, p, e)
+    omega (arith, few, length_waiting s h)
 
 pub all_fit : (k : Header) (h : List Entry) → IsLegal (opening k) h → AreSeated (opening k) h →
     length (line (opening k) h) + length (asleep k.conditions (opening k) h) ≤ k.seats

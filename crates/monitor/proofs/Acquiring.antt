@@ -148,7 +148,7 @@ made_later did old mid new step e up same x =
 
 -- the first step of an acquire that was recorded
 module _ (did : Deed → Type 0) (old mid : Shown) (how : How) (m : Mode) (n : ℕ) (e : Entry) (name : Option ℕ)
-    (s : IsStep old (first_step how m n) (Ok (Recorded e name)) mid) (woken : IsUnparked did name)
+    (s : IsStep old (first_step how m n) (Ok (Recorded e name)) mid) (woken : IsUnparked did name mid.seen)
     (none : WasNotInterrupted did old.seat how) where
   rec : entry_for (start_at s.found) s.found.entries old.seat (first_step how m n) ≡ Ok (Some e)
   rec = (records (view_of s.found s.beside) (view_of mid.seen s.beside_left) old.seat (first_step how m n) e

@@ -64,7 +64,7 @@ may_for did how l _ for m = absurd m
 
 -- the first step of an await that was recorded
 module _ (did : Deed → Type 0) (old mid : Shown) (c : ℕ) (how : How) (e : Entry) (name : Option ℕ)
-    (s : IsStep old (Await c) (Ok (Recorded e name)) mid) (woken : IsUnparked did name)
+    (s : IsStep old (Await c) (Ok (Recorded e name)) mid) (woken : IsUnparked did name mid.seen)
     (none : WasNotInterrupted did old.seat how) where
   rec : entry_for (start_at s.found) s.found.entries old.seat (Await c) ≡ Ok (Some e)
   rec = (records (view_of s.found s.beside) (view_of mid.seen s.beside_left) old.seat (Await c) e name

@@ -157,7 +157,7 @@ not_await c w q is = let z = ap (begins_wait (AwaitOn c)) is in cc
 -- the first turn ended the call
 module _ (did : Deed → Type 0) (old new : Shown) (how : How) (none : WasNotInterrupted did old.seat how) where
   recorded_ends : (q : Request) (e : Entry) (name : Option ℕ) →
-      IsStep old (step_by q how false) (Ok (Recorded e name)) new → IsUnparked did name →
+      IsStep old (step_by q how false) (Ok (Recorded e name)) new → IsUnparked did name new.seen →
       begins_wait q e.word ≡ false → IsCall did old q how (Ok e) new
   recorded_ends (Acquire m n) e name s woken b =
       ends_at_once did old new how m n e name s woken none (not_queued m n e.word b)
@@ -171,7 +171,7 @@ module _ (did : Deed → Type 0) (old new : Shown) (how : How) (none : WasNotInt
   fault_ends (AwaitOn c) f s = record { step = step.Await c; first = inl (refl, none); stepped = s }
 
   ends_by : (q : Request) (moment : ℕ) (r : Result Answer Fault) (reply : Result Entry Fault) (again : Bool) →
-      IsStep old (step_by q how false) r new → IsUnparked did (named_in r) →
+      IsStep old (step_by q how false) r new → IsUnparked did (named_in r) new.seen →
       (first_turn q how moment false r).next ≡ Ends reply again → IsCall did old q how reply new
   ends_by q moment (Ok (Recorded e name)) reply again s woken is = by (begins_wait q e.word) refl is
     where
@@ -188,11 +188,12 @@ module _ (did : Deed → Type 0) (old new : Shown) (how : How) (none : WasNotInt
       subst (λ (z : Result Entry Fault). IsCall did old q how z new) same (fault_ends q f s)
 
   pub begun_ends : (q : Request) (moment : ℕ) (t : Turn) (reply : Result Entry Fault) (again : Bool) →
-      IsBegun old q how moment false t new → IsUnparked did t.named → t.next ≡ Ends reply again →
+      IsBegun old q how moment false t new → IsUnparked did t.named new.seen → t.next ≡ Ends reply again →
       IsCall did old q how reply new
   begun_ends q moment t reply again (r, s, is) woken ends =
       ends_by q moment r reply again s
-      (subst (IsUnparked did) (ap (λ (z : Turn). z.named) is ∙ named_first q how moment false r) woken)
+      (subst (λ (z : Option ℕ). IsUnparked did z new.seen)
+      (ap (λ (z : Turn). z.named) is ∙ named_first q how moment false r) woken)
       (ap (λ (z : Turn). z.next) (sym is) ∙ ends)
 
 -- the first turn began to wait
@@ -200,7 +201,7 @@ pub record Begins (did : Deed → Type 0) (old new : Shown) (q : Request) (how :
   pub entry : Entry
   pub name : Option ℕ
   pub step : IsStep old (step_by q how false) (Ok (Recorded entry name)) new
-  pub woken : IsUnparked did name
+  pub woken : IsUnparked did name new.seen
   pub begins : begins_wait q entry.word ≡ true
 
 -- the entry by which it began to wait took nothing
@@ -249,7 +250,7 @@ waits_by old new q how moment was (Ok Sleep) w s is = cc
 waits_by old new q how moment was (Err f) w s is = cc
 
 pub begun_waits : (did : Deed → Type 0) (old new : Shown) (q : Request) (how : How) (moment : ℕ) (t : Turn)
-    (w : Waiting) → IsBegun old q how moment false t new → IsUnparked did t.named → t.next ≡ Waits w →
+    (w : Waiting) → IsBegun old q how moment false t new → IsUnparked did t.named new.seen → t.next ≡ Waits w →
     Begins did old new q how × (w ≡ begun q how moment)
 begun_waits did old new q how moment t w (r, s, is) woken next =
     let x = waits_by old new q how moment false r w s (ap (λ (z : Turn). z.next) (sym is) ∙ next) in (
@@ -257,8 +258,8 @@ begun_waits did old new q how moment t w (r, s, is) woken next =
         entry = x.0;
         name = x.1;
         step = subst (λ (z : Result Answer Fault). IsStep old (step_by q how false) z new) x.2 s;
-        woken = subst (IsUnparked did) (ap (λ (z : Turn). z.named) is ∙ (named_first q how moment false r
-            ∙ ap named_in x.2)) woken;
+        woken = subst (λ (z : Option ℕ). IsUnparked did z new.seen)
+            (ap (λ (z : Turn). z.named) is ∙ (named_first q how moment false r ∙ ap named_in x.2)) woken;
         begins = x.3;
       },
       x.4,
@@ -307,7 +308,7 @@ refused_waits (AwaitOn c) w is = ap (begins_wait (AwaitOn c)) is
 
 module _ (did : Deed → Type 0) (old new : Shown) (how : How) (was : WasInterrupted did old.seat how) where
   recorded_refused : (q : Request) (e : Entry) (name : Option ℕ) →
-      IsStep old (step_by q how true) (Ok (Recorded e name)) new → IsUnparked did name →
+      IsStep old (step_by q how true) (Ok (Recorded e name)) new → IsUnparked did name new.seen →
       IsCall did old q how (Ok e) new
   recorded_refused (Acquire m n) e name s woken = refused did old new how m n (Ok e) was (name, s, woken) tt
   recorded_refused (AwaitOn c) e name s woken = await.refused did old new c how (Ok e) was (name, s, woken) tt
@@ -318,7 +319,7 @@ module _ (did : Deed → Type 0) (old new : Shown) (how : How) (was : WasInterru
   fault_refused (AwaitOn c) f s again = await.refused did old new c how (Err f) was s again
 
   refused_by : (q : Request) (moment : ℕ) (r : Result Answer Fault) (reply : Result Entry Fault) (again : Bool) →
-      IsStep old (step_by q how true) r new → IsUnparked did (named_in r) →
+      IsStep old (step_by q how true) r new → IsUnparked did (named_in r) new.seen →
       (tells_interrupt reply ≡ false → did (interrupted old.seat)) →
       (first_turn q how moment true r).next ≡ Ends reply again → IsCall did old q how reply new
   refused_by q moment (Ok (Recorded e name)) reply again s woken settled is = by (begins_wait q e.word) is
@@ -337,12 +338,13 @@ module _ (did : Deed → Type 0) (old new : Shown) (how : How) (was : WasInterru
       (fault_refused q f s (settled (ap tells_interrupt (sym same))))
 
   pub begun_refused : (q : Request) (moment : ℕ) (t : Turn) (reply : Result Entry Fault) (again : Bool) →
-      IsBegun old q how moment true t new → IsUnparked did t.named →
+      IsBegun old q how moment true t new → IsUnparked did t.named new.seen →
       (tells_interrupt reply ≡ false → did (interrupted old.seat)) → t.next ≡ Ends reply again →
       IsCall did old q how reply new
   begun_refused q moment t reply again (r, s, is) woken settled ends =
       refused_by q moment r reply again s
-      (subst (IsUnparked did) (ap (λ (z : Turn). z.named) is ∙ named_first q how moment true r) woken) settled
+      (subst (λ (z : Option ℕ). IsUnparked did z new.seen)
+      (ap (λ (z : Turn). z.named) is ∙ named_first q how moment true r) woken) settled
       (ap (λ (z : Turn). z.next) (sym is) ∙ ends)
 
 pub never_waits : (old new : Shown) (q : Request) (how : How) (moment : ℕ) (t : Turn) (w : Waiting) →
@@ -395,13 +397,13 @@ module _ (did : Deed → Type 0) (first now new : Shown) (s : Stage) (l : Limits
     (still : AllStillWait did first s l kept now w.stage) (limits : w.limits ≡ l)
     (comes : ComesOf did first.seat w.limits w.stage (step_of_waiting w woke))
     (noted : step_of_waiting w woke ≡ step.Interrupt → kept) (same : IsSame now new)
-    (gone : IsGoneOn now w woke t new) (woken : IsUnparked did t.named) where
+    (gone : IsGoneOn now w woke t new) (woken : IsUnparked did t.named new.seen) where
   its : ComesOf did first.seat l w.stage (step_of_waiting w woke)
   its = subst (λ (z : Limits). ComesOf did first.seat z w.stage (step_of_waiting w woke)) limits comes
 
-  named : IsUnparked did (named_in gone.0)
+  named : IsUnparked did (named_in gone.0) new.seen
   named =
-      subst (IsUnparked did)
+      subst (λ (z : Option ℕ). IsUnparked did z new.seen)
       (ap (λ (z : Turn). z.named) gone.2 ∙ named_later w (step_of_waiting w woke) gone.0) woken
 
   ok : IsOk gone.0

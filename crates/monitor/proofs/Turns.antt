@@ -413,7 +413,7 @@ module _ (did : Deed → Type 0) (first now new : Shown) (was : Cause) (s : Stag
 
   -- after its lapse a sleeper is on its way back
   has_lapsed : (e : Entry) (name : Option ℕ) → IsStep now step (Ok (answer.Recorded e name)) new →
-      IsUnparked did name → (w : Sleep) (how : End) → LapsesBy step how →
+      IsUnparked did name new.seen → (w : Sleep) (how : End) → LapsesBy step how →
       EndComesOf did first.seat l s (on_condition w) kept step → e ≡ lapse_from first.seat w how →
       HasLapsed did first w s l how new.seen
   has_lapsed e name t woken w how ends began is = record {
@@ -428,7 +428,7 @@ module _ (did : Deed → Type 0) (first now new : Shown) (was : Cause) (s : Stag
   Lapsed e = (k : Cause) × WaitsAs new.seen first.seat k × SoFar did first was s l kept new k Looks
 
   after_lapse : (e : Entry) (name : Option ℕ) → IsStep now step (Ok (answer.Recorded e name)) new →
-      IsUnparked did name → is_lapse e.word ≡ true → Lapsed e
+      IsUnparked did name new.seen → is_lapse e.word ≡ true → Lapsed e
   unfolding Lapsed
   after_lapse e name t woken lapse = by stays.cause stays.so_far (makes e name t)
     where
@@ -456,7 +456,7 @@ module _ (did : Deed → Type 0) (first now new : Shown) (was : Cause) (s : Stag
       by (on_condition w) (inr f) (inr m) = let z = f.3 in cc
 
   lapses_on : (e : Entry) (name : Option ℕ) → IsSame now new →
-      IsStep now step (Ok (answer.Recorded e name)) new → IsUnparked did name →
+      IsStep now step (Ok (answer.Recorded e name)) new → IsUnparked did name new.seen →
       is_lapse e.word ≡ true → IsSound new → StillWaits did first was s l kept new Looks
   unfolding Lapsed
   lapses_on e name same t woken lapse shows =
@@ -531,7 +531,7 @@ module _ (did : Deed → Type 0) (first now new : Shown) (was : Cause) (s : Stag
   never_fault (Err f) t = absurd (no_fault f t)
 
   pub still_after : (r : Result Answer Fault) → IsSame now new → IsStep now step r new →
-      IsUnparked did (named_in r) → IsSound new → ending_of r ≡ None →
+      IsUnparked did (named_in r) new.seen → IsSound new → ending_of r ≡ None →
       StillWaits did first was s l kept new (stage_behind stage step r)
   still_after (Ok answer.Sleep) same t woken shows q = goes_on same t shows
   still_after (Err f) same t woken shows q = absurd (no_fault f t)
@@ -542,7 +542,7 @@ module _ (did : Deed → Type 0) (first now new : Shown) (was : Cause) (s : Stag
       by false u q = cc
 
   pub waited : (r : Result Answer Fault) (last : Entry) → IsStep now step r new →
-      IsUnparked did (named_in r) → ending_of r ≡ Some last → (kept → IsNotLost did first.seat (Ok last)) →
+      IsUnparked did (named_in r) new.seen → ending_of r ≡ Some last → (kept → IsNotLost did first.seat (Ok last)) →
       IsWait did first was s l last new
   unfolding Ends
   waited (Ok answer.Sleep) last t woken q settled = cc

@@ -40,15 +40,16 @@ IsStepNow old step (Err fault) new = IsStep old step (Err fault) new
 -- Here and in what follows, `did deed` says that this was done at the place where the seats park, or shown by
 -- its clock.
 
--- the seat that a step named, if it named one, was unparked
-abbrev pub IsUnparked : (Deed → Type 0) → Option ℕ → Type 0
-IsUnparked did None = Unit {0}
-IsUnparked did (Some j) = did (unparked j)
+-- The seat that a step named, if it named one, was unparked by one who had seen just so much. Nobody has seen
+-- an entry before the step that makes it.
+abbrev pub IsUnparked : (Deed → Type 0) → Option ℕ → Point → Type 0
+IsUnparked did None seen = Unit {0}
+IsUnparked did (Some j) seen = did (unparked j seen)
 
--- a step that recorded its entry, and the seat that it named was unparked; or a step that was refused
+-- a step that recorded its entry, and the seat that it named was unparked after it; or a step that was refused
 abbrev pub IsEntered : (Deed → Type 0) → Shown → Step → Result Entry Fault → Shown → Type 0
 IsEntered did old step (Ok e) new =
-    (named : Option ℕ) × IsStep old step (Ok (Recorded e named)) new × IsUnparked did named
+    (named : Option ℕ) × IsStep old step (Ok (Recorded e named)) new × IsUnparked did named new.seen
 IsEntered did old step (Err f) new = IsStep old step (Err f) new
 
 -- A trim found such a history, and folded it, or there were too many entries. It has added nothing.

@@ -137,12 +137,12 @@ impl<H: Hooks + Drop, L: Load> Monitor<H, L> {
         let step = request.step(how, false);
         match self.step_first(rt, pass, load, step, when_full) {
             First::Done(named) => {
-                unpark(parking, named);
+                unpark(parking, named, pass);
                 Ok(entry_at_once(pass.seat(), step))
             }
             First::Otherwise(answer) => {
                 let turn = first_turn(request, how, moment, false, answer);
-                unpark(parking, turn.named);
+                unpark(parking, turn.named, pass);
                 match turn.next {
                     Next::Ends { reply, again: _ } => reply,
                     Next::Waits(waiting) => self.wait(rt, parking, pass, load, waiting),
@@ -177,7 +177,7 @@ impl<H: Hooks + Drop, L: Load> Monitor<H, L> {
     {
         pass.is_true();
         let refusal = self.begin(rt, pass, load, request, how, 0, true, when_full);
-        unpark(parking, refusal.named);
+        unpark(parking, refusal.named, pass);
         match refusal.next {
             Next::Ends { reply, again: _ } => {
                 interrupts.settle(parking, reply);

@@ -1,12 +1,9 @@
 //! Passes that meet, and the end of a monitor.
-ghost use Rattle.std.specs.Prelude.{◌≡◌, ◌<◌, ◌*◌, ◌^◌, length, All, IfOk, IfErr};
-ghost use Rattle.history.specs.Entries.{IsBasedWell, start_on};
-ghost use Rattle.history.specs.Legal.{AreSeated, calls};
-ghost use Rattle.deciding.specs.Balance.{balance};
+ghost use Rattle.std.specs.Prelude.{◌≡◌, All, IfOk, IfErr};
+ghost use Rattle.history.specs.Entries.{start_on};
 ghost use Rattle.monitor.specs.Calling.{Called};
-ghost use Rattle.monitor.specs.Closing.{IsBased, IsWithin, left_by, shares, passes_of, IsMissing};
+ghost use Rattle.monitor.specs.Closing.{Closes, IsMissing, shares};
 ghost use Rattle.history.specs.Counts.{counts};
-ghost use Rattle.monitor.specs.Lawful.{IsLawful};
 ghost use Rattle.monitor.specs.Shown.{IsSound};
 ghost use Rattle.monitor.specs.declared.closing.CloseFault.TheVariants.{MissingPass};
 
@@ -77,22 +74,7 @@ impl<H: Hooks + Drop, L: Load> Monitor<H, L> {
         passes: Vec<Pass>,
     ) -> Result<(Closed, L), (Monitor<H, L>, Vec<Pass>, CloseFault)>
         requires is_of { All (λ p. p.lock ≡ self) passes.items }
-        ensures lawful { IfOk result (λ r. IsLawful (left_by self r.0.history)) }
-        ensures within { IfOk result (λ r. All (λ p. IsWithin (left_by self r.0.history) p) passes.items) }
-        ensures base { IfOk result (λ r. IsBased self r.0.history) }
-        ensures good { IfOk result (λ r. IsBasedWell self.header r.0.history.base) }
-        ensures seated { IfOk result (λ r.
-            AreSeated (start_on self.header r.0.history) r.0.history.entries) }
-        ensures cap { IfOk result (λ r. r.0.history.cap ≡ self.header.cap) }
-        ensures each { IfOk result (λ _. (seat : _)
-            → seat < self.header.seats → passes_of seat passes.items ≡ 1) }
-        ensures share { IfOk result (λ r. r.0.share ≡ shares passes.items) }
-        ensures calls { IfOk result (λ r.
-            r.0.share ≡ calls (start_on self.header r.0.history) r.0.history.entries) }
-        ensures balance { IfOk result (λ r.
-            r.0.balance ≡ balance (start_on self.header r.0.history) r.0.history.entries) }
-        ensures exclusive { IfOk result (λ r. r.0.balance.exclusive < 2 ^ 126) }
-        ensures shared { IfOk result (λ r. r.0.balance.shared < 2 ^ 126) }
+        ensures closes { IfOk result (λ r. Closes self passes.items r.0) }
         ensures rests { IfOk result (λ r.
             L.rests r.1 (counts (start_on self.header r.0.history) r.0.history.entries)) }
         ensures missing { IfErr result (λ r. (r.2 ≡ MissingPass) × IsMissing self.header.seats passes.items) }
@@ -137,22 +119,7 @@ impl<H: Hooks + Drop> Monitor<H> {
         passes: Vec<Pass>,
     ) -> Result<Closed, (Monitor<H>, Vec<Pass>, CloseFault)>
         requires is_of { All (λ p. p.lock ≡ self) passes.items }
-        ensures lawful { IfOk result (λ c. IsLawful (left_by self c.history)) }
-        ensures within { IfOk result (λ c. All (λ p. IsWithin (left_by self c.history) p) passes.items) }
-        ensures base { IfOk result (λ c. IsBased self c.history) }
-        ensures good { IfOk result (λ c. IsBasedWell self.header c.history.base) }
-        ensures seated { IfOk result (λ c.
-            AreSeated (start_on self.header c.history) c.history.entries) }
-        ensures cap { IfOk result (λ c. c.history.cap ≡ self.header.cap) }
-        ensures each { IfOk result (λ _. (seat : _)
-            → seat < self.header.seats → passes_of seat passes.items ≡ 1) }
-        ensures share { IfOk result (λ c. c.share ≡ shares passes.items) }
-        ensures calls { IfOk result (λ c.
-            c.share ≡ calls (start_on self.header c.history) c.history.entries) }
-        ensures balance { IfOk result (λ c.
-            c.balance ≡ balance (start_on self.header c.history) c.history.entries) }
-        ensures exclusive { IfOk result (λ c. c.balance.exclusive < 2 ^ 126) }
-        ensures shared { IfOk result (λ c. c.balance.shared < 2 ^ 126) }
+        ensures closes { IfOk result (λ c. Closes self passes.items c) }
         ensures missing { IfErr result (λ r. (r.2 ≡ MissingPass) × IsMissing self.header.seats passes.items) }
         ensures back { IfErr result (λ r. (r.0 ≡ self) × (r.1 ≡ passes)) }
     {

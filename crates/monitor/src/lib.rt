@@ -42,7 +42,7 @@
 //! was.
 //!
 //! Proved too of each call that has a parking, by the deeds that the parking's methods leave:
-//! - The seat that a step of the call named was unparked.
+//! - The seat that a step of the call named was unparked after that step.
 //! - The deadline of a timed call is counted from a moment that the clock showed.
 //! - A call that heeds interrupts asked for a pending one first. It is refused only if it took one, which is
 //!   set again if the refusal couldn't be recorded.

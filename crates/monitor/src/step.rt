@@ -126,10 +126,10 @@ impl<H: Hooks + Drop, L: Load> Monitor<H, L> {
     {
         match self.step_first(rt, pass, load, step, when_full) {
             First::Done(named) => {
-                unpark(parking, named);
+                unpark(parking, named, pass);
                 Ok(entry_at_once(pass.seat(), step))
             }
-            First::Otherwise(answer) => entered(parking, answer),
+            First::Otherwise(answer) => entered(parking, pass, answer),
         }
     }
 
@@ -146,11 +146,11 @@ impl<H: Hooks + Drop, L: Load> Monitor<H, L> {
         requires signals { is_signal step ≡ true }
         ensures called { Called pass.old pass.new }
         ensures stepped { IsStepIn when_full pass.old step result pass.new }
-        ensures unparked { IsUnparked (P.did parking.now) (named_in result) }
+        ensures unparked { IsUnparked (P.did parking.now) (named_in result) pass.new.seen }
         ensures woken { WasWoken self.now }
     {
         let told = self.signal_step(rt, pass, step, when_full);
-        unpark(parking, named_in(told));
+        unpark(parking, named_in(told), pass);
         told
     }
 
@@ -180,13 +180,17 @@ impl<H: Hooks + Drop, L: Load> Monitor<H, L> {
 // The entry of a step of an idle seat, or a fault. It unparks the seat that the step named.
 #[cold]
 #[inline(never)]
-fn entered<P: Parking>(parking: &P, answer: Result<Answer, Fault>) -> Result<Entry, Fault>
+fn entered<P: Parking>(
+    parking: &P,
+    pass: &Pass,
+    answer: Result<Answer, Fault>,
+) -> Result<Entry, Fault>
     requires places { IfSome (named_in answer) (λ j. j < P.seats parking.now) }
     requires awake { answer ≢ Ok Sleep }
     ensures entry { result ≡ entry_in answer }
-    ensures unparked { IsUnparked (P.did parking.now) (named_in answer) }
+    ensures unparked { IsUnparked (P.did parking.now) (named_in answer) pass.now.seen }
 {
-    unpark(parking, named_in(answer));
+    unpark(parking, named_in(answer), pass);
     match answer {
         Ok(Answer::Recorded(entry, _)) => Ok(entry),
         Ok(Answer::Sleep) => unreachable!(),
@@ -205,12 +209,13 @@ fn named_in(answer: Result<Answer, Fault>) -> Option<u16>
     }
 }
 
-pub(crate) fn unpark<P: Parking>(parking: &P, named: Option<u16>)
+// The seat that a step named is unparked by the pass that made the step: after it, and before its next one.
+pub(crate) fn unpark<P: Parking>(parking: &P, named: Option<u16>, pass: &Pass)
     requires { IfSome named (λ j. j < P.seats parking.now) }
-    ensures { IsUnparked (P.did parking.now) named }
+    ensures { IsUnparked (P.did parking.now) named pass.now.seen }
 {
     if let Some(seat) = named {
-        parking.unpark(seat);
+        parking.unpark(seat, &pass.token);
     }
 }
 

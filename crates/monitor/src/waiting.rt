@@ -77,7 +77,7 @@ impl<H: Hooks + Drop, L: Load> Monitor<H, L> {
         for _ in rt.forever() {
             let woke = interrupts.next_woke(rt, parking, waiting);
             let turn = self.go_on(rt, pass, load, waiting, woke);
-            unpark(parking, turn.named);
+            unpark(parking, turn.named, pass);
             match turn.next {
                 Next::Ends { reply, again: _ } => {
                     interrupts.settle(parking, reply);

@@ -62,7 +62,7 @@ pub enum Ask {
     Count,
     /// The seat is interrupted.
     Interrupt,
-    /// Seat 1 is interrupted, whosever pass it is.
+    /// Seat 1 is interrupted, by whichever seat's pass.
     InterruptSecond,
     /// Seat 1 is interrupted when the clock is read next.
     InterruptLate,

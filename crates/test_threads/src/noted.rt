@@ -8,6 +8,7 @@ use std::sync::Wait;
 use std::sync::atomic::{AtomicBool, AtomicU64, Ordering};
 use std::thread;
 use std::time::{Clock, Duration};
+use word_lock::Token;
 
 /// How many calls are recorded.
 const PLACES: u32 = 16;
@@ -116,8 +117,8 @@ impl Parking for NotedParking {
         answer
     }
 
-    fn unpark(&self, seat: u16) {
-        self.notes.unpark(seat);
+    fn unpark(&self, seat: u16, by: &Token) {
+        self.notes.unpark(seat, by);
     }
 
     fn interrupt(&self, seat: u16) {

@@ -7,6 +7,7 @@ use permit::{Parking, ThreadParking, Woke};
 use std::marker::Model;
 use std::sync::{Arc, Wait};
 use std::time::Clock;
+use word_lock::Token;
 
 /// A parking, and the notes that the threads make, if somebody looks at them. Contracts see how many seats
 /// there are.
@@ -72,8 +73,8 @@ impl Parking for Post {
         woke
     }
 
-    fn unpark(&self, seat: u16) {
-        self.parking.unpark(seat);
+    fn unpark(&self, seat: u16, by: &Token) {
+        self.parking.unpark(seat, by);
     }
 
     fn interrupt(&self, seat: u16) {

@@ -59,3 +59,6 @@ impl Start {
         unreachable!()
     }
 }
+
+#[cfg(test)]
+mod tests;

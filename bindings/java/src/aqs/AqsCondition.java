@@ -75,8 +75,8 @@ final class AqsCondition implements Condition {
     public boolean awaitUntil(Date deadline) throws InterruptedException {
         long end = deadline.getTime();
         for (;;) {
-            long left = end - System.currentTimeMillis();
-            if (awaitOnce(TimeUnit.MILLISECONDS.toNanos(left))) {
+            long now = System.currentTimeMillis();
+            if (awaitOnce(TimeUnit.MILLISECONDS.toNanos(end > now ? end - now : 0))) {
                 return true;
             }
             if (System.currentTimeMillis() >= end) {

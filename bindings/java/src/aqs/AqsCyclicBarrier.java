@@ -218,6 +218,7 @@ public class AqsCyclicBarrier implements AutoCloseable {
 
     /**
      * Waits once, and returns the time that is left. An interrupt that comes after the round ended stays set.
+     * A thread that could not wait has not come.
      */
     private long waitIn(Round mine, boolean timed, long left) throws InterruptedException {
         try {
@@ -232,6 +233,11 @@ public class AqsCyclicBarrier implements AutoCloseable {
                 throw interrupt;
             }
             Thread.currentThread().interrupt();
+        } catch (AqsException | OutOfMemoryError refused) {
+            if (mine == round && !mine.broken) {
+                missing++;
+            }
+            throw refused;
         }
         return left;
     }

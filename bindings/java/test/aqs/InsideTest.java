@@ -36,9 +36,23 @@ final class InsideTest {
         check(fact.holds());
     }
 
-    /** What nobody closes and nobody can reach is freed. */
+    /** The thread that frees what nobody can reach. */
+    static Thread cleaner() {
+        for (Thread thread : Thread.getAllStackTraces().keySet()) {
+            if (thread.getName().equals("aqs-cleaner")) {
+                return thread;
+            }
+        }
+        throw new AssertionError("no aqs-cleaner");
+    }
+
+    /** What nobody closes and nobody can reach is freed, also after somebody has interrupted who frees it. */
     static void unreachable() throws InterruptedException {
         int before = Memory.live();
+        check(cleaner().isDaemon() && cleaner().getContextClassLoader() == null);
+        cleaner().interrupt();
+        Thread.sleep(20);
+        check(cleaner().isAlive());
         for (int i = 0; i < 50; i++) {
             new AqsLock(new AqsOptions().threads(8)).newCondition();
             new AqsReadWriteLock(new AqsOptions().threads(8)).readLock();

@@ -9,7 +9,7 @@ use std::sync::mpsc::channel;
 use std::sync::Arc;
 use std::time::{Duration, Instant};
 use std::{panic, thread};
-use support::{keep, until, LONG, SHORT};
+use support::{keep, refusal, until, LONG, SHORT};
 
 /// Whether it is so while nobody else has the mutex: a thread that counted itself under it then waits.
 fn is_so_under<T>(mutex: &Mutex<T>, is_so: impl Fn() -> bool) -> bool {
@@ -52,25 +52,63 @@ fn it_says_how_many_it_woke() {
 
 #[test]
 fn those_who_waited_longest_go_first() {
-    let (woken, condvar) = (Mutex::new(Vec::new()), Condvar::new());
-    let waiting = AtomicUsize::new(0);
-    thread::scope(|scope| {
-        for number in 0..5 {
-            let (woken, condvar, waiting) = (&woken, &condvar, &waiting);
-            scope.spawn(move || {
-                let mut guard = woken.lock();
-                waiting.fetch_add(1, Ordering::SeqCst);
-                condvar.wait(&mut guard);
-                guard.push(number);
-            });
-            until(|| is_so_under(woken, || waiting.load(Ordering::SeqCst) == number + 1));
+    for beside_an_owner in [false, true] {
+        let (woken, condvar) = (Mutex::new(Vec::new()), Condvar::new());
+        let waiting = AtomicUsize::new(0);
+        thread::scope(|scope| {
+            for number in 0..5 {
+                let (woken, condvar, waiting) = (&woken, &condvar, &waiting);
+                scope.spawn(move || {
+                    let mut guard = woken.lock();
+                    waiting.fetch_add(1, Ordering::SeqCst);
+                    condvar.wait(&mut guard);
+                    guard.push(number);
+                });
+                until(|| is_so_under(woken, || waiting.load(Ordering::SeqCst) == number + 1));
+            }
+            for number in 0..5 {
+                let guard = beside_an_owner.then(|| woken.lock());
+                scope.spawn(|| assert!(condvar.notify_one())).join().unwrap();
+                drop(guard);
+                until(|| woken.lock().len() == number + 1);
+            }
+        });
+        assert_eq!(woken.into_inner(), [0, 1, 2, 3, 4]);
+    }
+}
+
+#[test]
+fn a_notify_moves_no_more_than_it_says() {
+    for mutex in [Mutex::new(0), Mutex::with(0, Options::new().conditions(2)).unwrap()] {
+        let (one, two) = (Condvar::new(), Condvar::new());
+        // The numbers that these waits take are free again afterwards.
+        for _ in 0..3 {
+            assert!(Condvar::new().wait_for(&mut mutex.lock(), Duration::ZERO).timed_out());
         }
-        for number in 0..5 {
-            assert!(condvar.notify_one());
-            until(|| woken.lock().len() == number + 1);
-        }
-    });
-    assert_eq!(woken.into_inner(), [0, 1, 2, 3, 4]);
+        thread::scope(|scope| {
+            scope.spawn(|| one.wait(&mut mutex.lock()));
+            until(|| mutex.waiters() == 1);
+            let mut guard = mutex.lock();
+            assert!(one.notify_one());
+            // The other is on its way back, so the condvar has a number.
+            assert!(one.wait_for(&mut guard, Duration::ZERO).timed_out());
+        });
+        let moved = thread::scope(|scope| {
+            for condvar in [&one, &one, &two, &two] {
+                scope.spawn(|| condvar.wait_for(&mut mutex.lock(), LONG));
+            }
+            until(|| mutex.waiters() == 4);
+            let _guard = mutex.lock();
+            let calls: [&dyn Fn() -> usize; 4] = [
+                &|| one.notify_one().into(),
+                &|| two.notify_one().into(),
+                &|| one.notify_all(),
+                &|| two.notify_all(),
+            ];
+            calls.map(|call| (call(), mutex.queue_length()))
+        });
+        assert_eq!(moved, [(1, 1), (1, 2), (1, 3), (1, 4)]);
+    }
 }
 
 #[test]
@@ -93,28 +131,31 @@ fn a_notify_never_waits_for_the_mutex() {
 
 #[test]
 fn each_notify_beside_an_owner_counts() {
-    let (counts, condvar) = (Mutex::new([0, 0]), Condvar::new());
-    thread::scope(|scope| {
-        for _ in 0..3 {
-            scope.spawn(|| {
-                let mut counts = counts.lock();
-                counts[0] += 1;
-                condvar.wait(&mut counts);
-                counts[1] += 1;
-            });
-        }
-        until(|| counts.lock()[0] == 3);
-        let guard = counts.lock();
-        scope.spawn(|| assert!(condvar.notify_one() && condvar.notify_one())).join().unwrap();
-        drop(guard);
-        let late = Instant::now() + LONG;
-        while counts.lock()[1] < 2 && Instant::now() < late {
-            thread::yield_now();
-        }
-        let woken = counts.lock()[1];
-        condvar.notify_all();
-        assert_eq!(woken, 2);
-    });
+    // The last of three means all who wait.
+    for notifies in [2, 3] {
+        let (counts, condvar) = (Mutex::new([0, 0]), Condvar::new());
+        thread::scope(|scope| {
+            for _ in 0..3 {
+                scope.spawn(|| {
+                    let mut counts = counts.lock();
+                    counts[0] += 1;
+                    let _time = condvar.wait_for(&mut counts, LONG);
+                    counts[1] += 1;
+                });
+            }
+            until(|| counts.lock()[0] == 3);
+            let guard = counts.lock();
+            scope.spawn(|| (0..notifies).for_each(|_| assert!(condvar.notify_one()))).join().unwrap();
+            drop(guard);
+            let late = Instant::now() + LONG / 3;
+            while counts.lock()[1] < notifies && Instant::now() < late {
+                thread::yield_now();
+            }
+            let woken = counts.lock()[1];
+            condvar.notify_all();
+            assert_eq!(woken, notifies);
+        });
+    }
 }
 
 #[test]
@@ -143,6 +184,31 @@ fn more_condvars_than_numbers() {
         assert_eq!(*woken.lock(), (0..20).rev().collect::<Vec<_>>());
         keep(&format!("condvars-{conditions}"), woken.history().unwrap());
     }
+}
+
+#[test]
+fn one_of_two_is_notified_beside_another_of_its_number() {
+    let woken = Mutex::with(Vec::new(), Options::new().conditions(1)).unwrap();
+    let (own, other) = (Condvar::new(), Condvar::new());
+    thread::scope(|scope| {
+        for (condvar, number) in [(&other, 1), (&own, 2), (&own, 3)] {
+            let woken = &woken;
+            scope.spawn(move || {
+                let mut guard = woken.lock();
+                condvar.wait(&mut guard);
+                guard.push(number);
+            });
+            until(|| woken.waiters() == number);
+        }
+        assert!(own.notify_one());
+        let late = Instant::now() + LONG;
+        while woken.lock().is_empty() && Instant::now() < late {
+            thread::yield_now();
+        }
+        let first = woken.lock().clone();
+        assert_eq!((own.notify_all(), other.notify_all()), (1, 1));
+        assert_eq!(first, [2]);
+    });
 }
 
 #[test]
@@ -273,6 +339,95 @@ fn an_interrupt_after_a_notify_is_kept() {
 }
 
 #[test]
+fn a_notify_before_the_time_is_up_counts() {
+    let (mutex, condvar) = (Mutex::new(()), Condvar::new());
+    thread::scope(|scope| {
+        let waiter = scope.spawn(|| condvar.wait_for(&mut mutex.lock(), 20 * SHORT));
+        until(|| mutex.waiters() == 1);
+        // The notify is due when this thread gives the mutex up. The time is up before.
+        let guard = mutex.lock();
+        let was_there = scope.spawn(|| condvar.notify_one()).join().unwrap();
+        until(|| mutex.queue_length() == 1);
+        drop(guard);
+        assert_eq!((was_there, waiter.join().unwrap().timed_out()), (true, false));
+    });
+}
+
+#[test]
+fn an_interrupt_costs_a_plain_wait_no_place() {
+    let (woken, condvar) = (Mutex::new(Vec::new()), Condvar::new());
+    let (send, receive) = channel();
+    thread::scope(|scope| {
+        for number in 0..2 {
+            let (woken, condvar, sender) = (&woken, &condvar, send.clone());
+            scope.spawn(move || {
+                let mut guard = woken.lock();
+                sender.send(Thread::current()).unwrap();
+                condvar.wait(&mut guard);
+                guard.push((number, interrupted()));
+            });
+            until(|| woken.waiters() == number + 1);
+        }
+        receive.recv().unwrap().interrupt().unwrap();
+        thread::sleep(SHORT);
+        for number in 0..2 {
+            assert!(condvar.notify_one());
+            until(|| woken.lock().len() == number + 1);
+        }
+    });
+    assert_eq!(woken.into_inner(), [(0, true), (1, false)]);
+}
+
+/// Fills the history of a mutex that the calling thread has, by tries in vain.
+fn fill<T: Send>(mutex: &Mutex<T>) {
+    let said = thread::scope(|scope| {
+        scope.spawn(|| refusal(|| while mutex.try_lock().is_none() {})).join().unwrap()
+    });
+    assert_eq!(said, "aqs: the history is full (AQS_HISTORY_FULL)");
+}
+
+#[test]
+fn a_wait_that_is_refused_changes_nothing() {
+    let options = Options::new().keep_history().most_entries(64);
+    let (mutex, condvar) = (Mutex::with((), options).unwrap(), Condvar::new());
+    let mut guard = mutex.lock();
+    fill(&mutex);
+    assert_eq!(condvar.wait_interruptibly(&mut guard), Err(Error::HistoryFull));
+    assert!(refusal(|| condvar.wait(&mut guard)).ends_with("(AQS_HISTORY_FULL)"));
+    let timed = || assert!(!condvar.wait_for(&mut guard, SHORT).timed_out());
+    assert!(refusal(timed).ends_with("(AQS_HISTORY_FULL)"));
+    assert!(mutex.is_mine() && !condvar.notify_one());
+    assert!(condvar.wait_for(&mut Mutex::new(()).lock(), SHORT).timed_out());
+}
+
+#[test]
+fn a_notify_that_is_refused_changes_nothing() {
+    for again in [true, false] {
+        let options = Options::new().keep_history().most_entries(64);
+        let (mutex, condvar) = (Mutex::with(None, options).unwrap(), Condvar::new());
+        let ended = thread::scope(|scope| {
+            let waiter = scope.spawn(|| {
+                let mut guard = mutex.lock();
+                *guard = Some(Thread::current());
+                condvar.wait_interruptibly(&mut guard)
+            });
+            until(|| mutex.waiters() == 1);
+            // The waiter is interrupted, but not back, so the signal moves nobody and needs room.
+            let guard = mutex.lock();
+            guard.unwrap().interrupt().unwrap();
+            until(|| mutex.queue_length() == 1);
+            fill(&mutex);
+            assert!(refusal(|| assert!(condvar.notify_one())).ends_with("(AQS_HISTORY_FULL)"));
+            mutex.trim().unwrap();
+            assert!(!again || condvar.notify_one());
+            drop(guard);
+            waiter.join().unwrap()
+        });
+        assert_eq!(ended, if again { Ok(()) } else { Err(Error::Interrupted) });
+    }
+}
+
+#[test]
 fn a_waiter_gets_the_mutex_in_between() {
     let (waits, condvar) = (Mutex::new(false), Condvar::new());
     thread::scope(|scope| {
@@ -369,9 +524,13 @@ fn a_mutex_may_go_as_soon_as_its_waiter_is_back() {
         thread::scope(|scope| {
             scope.spawn(|| {
                 let mutex = Mutex::new(());
-                let _timeout = condvar.wait_for(&mut mutex.lock(), Duration::from_micros(200));
+                let mut guard = mutex.lock();
+                let _timeout = condvar.wait_for(&mut guard, Duration::from_micros(200));
+                let owns = mutex.is_mine();
+                drop(guard);
                 drop(mutex);
                 done.store(true, Ordering::SeqCst);
+                assert!(owns);
             });
             scope.spawn(|| {
                 while !done.load(Ordering::SeqCst) {

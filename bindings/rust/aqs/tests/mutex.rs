@@ -7,7 +7,7 @@ use std::sync::atomic::{AtomicU32, Ordering};
 use std::sync::Arc;
 use std::time::{Duration, Instant};
 use std::{mem, panic, thread};
-use support::{until, LONG, SHORT};
+use support::{refusal, until, LONG, SHORT};
 
 #[derive(Debug, PartialEq, Eq)]
 struct Only(i32);
@@ -124,6 +124,67 @@ fn the_owner_tries_in_vain() {
     *mutex.try_lock_for(SHORT).unwrap() += 1;
     *mutex.try_lock_until(Instant::now()).unwrap() += 1;
     assert_eq!(mutex.into_inner(), 3);
+}
+
+#[test]
+fn one_that_waits_or_tries_in_vain_is_not_the_owner() {
+    let mutex = Mutex::new(());
+    let guard = mutex.lock();
+    let tries: [&(dyn Fn() -> bool + Sync); 3] = [
+        &|| mutex.try_lock().is_some(),
+        &|| mutex.try_lock_for(SHORT).is_some(),
+        &|| mutex.lock_interruptibly_for(SHORT).is_ok(),
+    ];
+    for attempt in tries {
+        let other = thread::scope(|scope| scope.spawn(|| (attempt(), mutex.is_mine())).join().unwrap());
+        assert_eq!((other, mutex.is_mine()), ((false, false), true));
+    }
+    thread::scope(|scope| {
+        scope.spawn(|| drop(mutex.lock()));
+        until(|| mutex.queue_length() == 1);
+        let owns = mutex.is_mine();
+        drop(guard);
+        assert!(owns);
+    });
+}
+
+#[test]
+fn one_that_gives_it_up_leaves_the_next_owner_as_it_is() {
+    let (mutex, late) = (Mutex::new(()), Instant::now() + 30 * SHORT);
+    thread::scope(|scope| {
+        for _ in 0..4 {
+            scope.spawn(|| {
+                while Instant::now() < late {
+                    let _guard = mutex.lock();
+                    // One that has woken this thread may go on.
+                    thread::yield_now();
+                    assert!(mutex.is_mine());
+                }
+            });
+        }
+    });
+}
+
+#[test]
+fn one_for_whom_there_is_no_seat_is_told() {
+    let mutex = Mutex::with(0, Options::new().threads(1)).unwrap();
+    let guard = mutex.lock();
+    let calls: [&(dyn Fn() + Sync); 4] = [
+        &|| drop(mutex.lock()),
+        &|| drop(mutex.enter()),
+        &|| drop(mutex.try_lock()),
+        &|| drop(mutex.try_lock_for(SHORT)),
+    ];
+    for call in calls {
+        let said = thread::scope(|scope| scope.spawn(|| refusal(call)).join().unwrap());
+        let why = "as many threads as the object was opened for hold it or wait for it";
+        assert_eq!(said, format!("aqs: {why} (AQS_TOO_MANY_THREADS)"));
+    }
+    // None of them has entered.
+    assert!(refusal(|| drop(mutex.enter())).contains("has locked this mutex"));
+    drop(guard);
+    *mutex.lock() += 1;
+    assert_eq!(mutex.into_inner(), 1);
 }
 
 #[test]
@@ -273,10 +334,12 @@ fn it_is_unlocked_in_between() {
     let mutex = Mutex::new(0);
     let mut guard = mutex.lock();
     let seen = MutexGuard::unlocked(&mut guard, || {
+        let seen = (mutex.is_locked(), mutex.is_mine());
         thread::scope(|scope| scope.spawn(|| *mutex.try_lock().unwrap() += 5).join().unwrap());
-        mutex.is_locked()
+        *mutex.lock() += 1;
+        seen
     });
-    assert_eq!((*guard, seen), (5, false));
+    assert_eq!((*guard, seen, mutex.is_mine()), (6, (false, false), true));
     let failed = panic::catch_unwind(panic::AssertUnwindSafe(|| {
         MutexGuard::unlocked(&mut guard, || panic!("on purpose"));
     }));
@@ -297,9 +360,11 @@ fn parts_of_the_value_are_locked_as_a_whole() {
     };
     assert!(mutex.is_mine());
     let Ok(list) = MutexGuard::try_map(guard, |value| Some(&mut value.1)) else { panic!("it is there") };
+    assert!(mutex.is_mine());
     let Err(list) = MappedMutexGuard::try_map(list, |list| list.get_mut(7)) else { panic!("no such item") };
+    assert!(mutex.is_mine());
     let Ok(first) = MappedMutexGuard::try_map(list, |list| list.get_mut(0)) else { panic!("it is there") };
-    assert_eq!(*first, 1);
+    assert_eq!((*first, mutex.is_mine()), (1, true));
     drop(first);
     assert!(!mutex.is_locked());
     let failed = panic::catch_unwind(panic::AssertUnwindSafe(|| {
@@ -338,25 +403,27 @@ fn faults_have_names() {
 
 #[test]
 fn errors_have_the_names_of_their_statuses() {
-    assert_eq!(Error::Other(99).name(), "no status");
-    for (error, name) in [
-        (Error::TimedOut, "AQS_TIMED_OUT"),
-        (Error::Interrupted, "AQS_INTERRUPTED"),
-        (Error::WouldBlock, "AQS_WOULD_BLOCK"),
-        (Error::NotOwner, "AQS_NOT_OWNER"),
-        (Error::TooManyHolds, "AQS_TOO_MANY_HOLDS"),
-        (Error::TooManyPermits, "AQS_TOO_MANY_PERMITS"),
-        (Error::HoldsRead, "AQS_HOLDS_READ"),
-        (Error::NoSuchCondition, "AQS_NO_SUCH_CONDITION"),
-        (Error::BadAmount, "AQS_BAD_AMOUNT"),
-        (Error::HistoryFull, "AQS_HISTORY_FULL"),
-        (Error::OutOfMemory, "AQS_OUT_OF_MEMORY"),
-        (Error::OutOfRange, "AQS_OUT_OF_RANGE"),
-        (Error::TooManyThreads, "AQS_TOO_MANY_THREADS"),
-        (Error::NoSpace, "AQS_NO_SPACE"),
-        (Error::IoError, "AQS_IO_ERROR"),
-        (Error::Misuse, "AQS_MISUSE"),
+    let unknown = Error::Other(99);
+    assert_eq!((unknown.name(), &*unknown.to_string()), ("no status", "status 99 of aqs.h"));
+    for (error, name, part) in [
+        (Error::TimedOut, "AQS_TIMED_OUT", "time was up"),
+        (Error::Interrupted, "AQS_INTERRUPTED", "was interrupted"),
+        (Error::WouldBlock, "AQS_WOULD_BLOCK", "had to wait"),
+        (Error::NotOwner, "AQS_NOT_OWNER", "doesn't own"),
+        (Error::TooManyHolds, "AQS_TOO_MANY_HOLDS", "held as often"),
+        (Error::TooManyPermits, "AQS_TOO_MANY_PERMITS", "too many permits"),
+        (Error::HoldsRead, "AQS_HOLDS_READ", "while it reads"),
+        (Error::NoSuchCondition, "AQS_NO_SUCH_CONDITION", "fewer conditions"),
+        (Error::BadAmount, "AQS_BAD_AMOUNT", "in one call"),
+        (Error::HistoryFull, "AQS_HISTORY_FULL", "history is full"),
+        (Error::OutOfMemory, "AQS_OUT_OF_MEMORY", "no memory"),
+        (Error::OutOfRange, "AQS_OUT_OF_RANGE", "can't be opened"),
+        (Error::TooManyThreads, "AQS_TOO_MANY_THREADS", "as many threads"),
+        (Error::NoSpace, "AQS_NO_SPACE", "buffer was too small"),
+        (Error::IoError, "AQS_IO_ERROR", "couldn't be written"),
+        (Error::Misuse, "AQS_MISUSE", "already in a call"),
     ] {
         assert_eq!(error.name(), name);
+        assert!(error.to_string().contains(part), "{error}");
     }
 }

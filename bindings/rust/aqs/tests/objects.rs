@@ -2,11 +2,17 @@
 
 mod support;
 
-use aqs::{interrupted, Condvar, Error, Latch, Mutex, MutexGuard, Options, Policy, RwLock, Semaphore, Thread};
-use std::sync::mpsc::channel;
+use aqs::{
+    interrupted, Condvar, Entry, Error, Latch, MappedMutexGuard, MappedReadGuard, MappedWriteGuard, Mutex,
+    MutexGuard, Options, Permits, Policy, ReadGuard, RwLock, Semaphore, Thread, WriteGuard,
+};
+use std::cell::Cell;
+use std::marker::PhantomData;
+use std::rc::Rc;
+use std::sync::{mpsc::channel, Barrier};
 use std::time::{Duration, Instant};
 use std::{panic, thread};
-use support::{keep, until, LONG, SHORT};
+use support::{keep, refusal, until, LONG, SHORT};
 
 fn kept() -> Options {
     Options::new().keep_history().fair()
@@ -135,11 +141,21 @@ fn holds_of_a_reader_are_counted() {
 fn two_guards_never_alias() {
     let mutex = Mutex::new(1);
     let guard = mutex.lock();
-    assert!(panic::catch_unwind(panic::AssertUnwindSafe(|| drop(mutex.lock()))).is_err());
-    assert!(panic::catch_unwind(panic::AssertUnwindSafe(|| drop(mutex.enter()))).is_err());
+    let locks: [&dyn Fn(); 4] = [
+        &|| drop(mutex.lock()),
+        &|| drop(mutex.lock_interruptibly()),
+        &|| drop(mutex.lock_interruptibly_for(SHORT)),
+        &|| drop(mutex.enter()),
+    ];
+    for lock in locks {
+        assert!(refusal(lock).contains("this mutex"));
+    }
     drop(guard);
     let entry = mutex.enter();
-    assert!(panic::catch_unwind(panic::AssertUnwindSafe(|| drop(mutex.lock()))).is_err());
+    for lock in &locks[..3] {
+        assert!(refusal(lock).contains("has this mutex already"));
+    }
+    assert_eq!(mutex.holds(), 1);
     drop(entry);
     let lock = RwLock::new(1);
     let writer = lock.write();
@@ -245,6 +261,71 @@ fn semaphore_counts_permits() {
 }
 
 #[test]
+fn each_acquire_takes_as_many_as_it_says() {
+    let permits = Semaphore::new(15);
+    permits.acquire(2);
+    assert_eq!((permits.acquire_interruptibly(3), permits.available()), (Ok(()), 10));
+    assert_eq!((permits.acquire_interruptibly_for(4, SHORT), permits.available()), (Ok(()), 6));
+    assert!(permits.try_acquire_for(2, SHORT) && permits.try_acquire_until(3, Instant::now()));
+    assert_eq!(permits.available(), 1);
+    assert_eq!(permits.acquire_interruptibly_for(2, SHORT), Err(Error::TimedOut));
+    drop((permits.permits(0), permits.try_permits(0)));
+    assert!(permits.try_permits(2).is_none() && permits.try_permits_for(2, SHORT).is_none());
+    assert_eq!(permits.available(), 1);
+}
+
+#[test]
+fn permits_may_be_owed_but_never_too_many() {
+    let permits = Semaphore::new(-2);
+    assert_eq!(permits.available(), -2);
+    assert_eq!(format!("{permits:?}"), "Semaphore { available: -2 }");
+    permits.release(2);
+    assert!(!permits.try_acquire(1) && permits.try_acquire(0));
+    permits.release(1);
+    assert_eq!((permits.available(), permits.drain(), permits.drain()), (1, 1, 0));
+    permits.release(2_147_483_647);
+    let said = refusal(|| permits.release(1));
+    assert_eq!(said, "aqs: a semaphore would have too many permits (AQS_TOO_MANY_PERMITS)");
+    assert_eq!(permits.acquire_interruptibly(2_147_483_648), Err(Error::BadAmount));
+    let said = refusal(|| assert!(permits.try_acquire(2_147_483_648)));
+    assert_eq!(said, "aqs: more than 2147483647 permits in one call (AQS_BAD_AMOUNT)");
+    assert_eq!(permits.available(), 2_147_483_647);
+}
+
+#[test]
+fn one_without_a_seat_is_shown_without_a_number() {
+    let (permits, latch) = (
+        Semaphore::with(0, Options::new().threads(1)).unwrap(),
+        Latch::with(1, Options::new().threads(1)).unwrap(),
+    );
+    let waits: [&(dyn Fn() -> Result<(), Error> + Sync); 2] =
+        [&|| permits.acquire_interruptibly(1), &|| latch.wait_interruptibly()];
+    let expected = "Semaphore { .. } Latch { .. }";
+    let shown = thread::scope(|scope| {
+        let (send, receive) = channel();
+        for wait in waits {
+            let sender = send.clone();
+            scope.spawn(move || {
+                sender.send(Thread::current()).unwrap();
+                assert_eq!(wait(), Err(Error::Interrupted));
+            });
+        }
+        let show = || panic::catch_unwind(|| format!("{permits:?} {latch:?}"));
+        let late = Instant::now() + LONG;
+        let mut shown = show();
+        while shown.as_ref().is_ok_and(|it| it != expected) && Instant::now() < late {
+            shown = show();
+        }
+        for waiter in receive.iter().take(2) {
+            waiter.interrupt().unwrap();
+        }
+        shown.ok()
+    });
+    assert_eq!(shown.as_deref(), Some(expected));
+    assert_eq!(format!("{permits:?} {latch:?}"), "Semaphore { available: 0 } Latch { count: 1 }");
+}
+
+#[test]
 fn latch_opens_once() {
     let latch = Latch::with(2, Options::new().keep_history()).unwrap();
     assert!(!latch.wait_for(SHORT));
@@ -277,6 +358,40 @@ fn an_interrupt_ends_no_wait_that_does_not_mind_it() {
         Thread::current().interrupt().unwrap();
         assert!(!wait() && interrupted());
     }
+}
+
+/// Whether an interrupt before a call that waits is pending after it. None: the call panicked.
+fn is_left(call: impl Fn() + Sync, waiting: impl Fn() -> u32, give: impl FnOnce()) -> Option<bool> {
+    thread::scope(|scope| {
+        let waiter = scope.spawn(|| {
+            Thread::current().interrupt().unwrap();
+            call();
+            interrupted()
+        });
+        until(|| waiting() == 1 || waiter.is_finished());
+        give();
+        waiter.join().ok()
+    })
+}
+
+#[test]
+fn a_plain_call_leaves_an_interrupt_pending() {
+    let (mutex, lock, permits, latch) = (Mutex::new(()), RwLock::new(()), Semaphore::new(0), Latch::new(1));
+    for call in [&(|| drop(mutex.lock())) as &(dyn Fn() + Sync), &|| drop(mutex.enter())] {
+        let guard = mutex.lock();
+        assert_eq!(is_left(call, || mutex.queue_length(), || drop(guard)), Some(true));
+    }
+    for call in [&(|| drop(lock.read())) as &(dyn Fn() + Sync), &|| drop(lock.write())] {
+        let guard = lock.write();
+        assert_eq!(is_left(call, || lock.queue_length(), || drop(guard)), Some(true));
+    }
+    for call in [&(|| permits.acquire(1)) as &(dyn Fn() + Sync), &|| permits.permit().forget()] {
+        assert_eq!(is_left(call, || permits.queue_length(), || permits.release(1)), Some(true));
+    }
+    assert_eq!(is_left(|| latch.wait(), || latch.queue_length(), || latch.count_down()), Some(true));
+    let latch = Latch::new(1);
+    let ended = || assert_eq!(latch.wait_interruptibly(), Err(Error::Interrupted));
+    assert_eq!(is_left(ended, || latch.queue_length(), || latch.count_down()), Some(false));
 }
 
 #[test]
@@ -313,6 +428,174 @@ fn options_that_no_object_has_are_refused() {
     assert_eq!(Latch::with(2_147_483_648, Options::new()).err(), Some(error));
     assert_eq!(Semaphore::with(1, Options::new().conditions(1)).err(), Some(error));
     assert!(panic::catch_unwind(|| Latch::new(2_147_483_648)).is_err());
+    assert_eq!(Latch::new(2_147_483_647).count(), 2_147_483_647);
+}
+
+#[test]
+fn a_history_begins_with_how_its_object_was_opened() {
+    let options = Options::new().strict().threads(5).most_entries(99);
+    let histories = [
+        (Mutex::with(0, options.conditions(3)).unwrap().history(), "lock strict seats 5 conditions 3 cap 99"),
+        (RwLock::with(0, options.conditions(2)).unwrap().history(), "rw strict seats 5 conditions 2 cap 99"),
+        (Semaphore::with(-4, options).unwrap().history(), "semaphore strict seats 5 permits -4 cap 99"),
+        (Latch::with(7, options).unwrap().history(), "latch seats 5 count 7 cap 99"),
+        (Mutex::new(0).history(), "lock nonfair seats 256 conditions 16 cap 1024"),
+        (RwLock::new(0).history(), "rw nonfair seats 256 conditions 1 cap 1024"),
+    ];
+    for (history, opened) in histories {
+        assert_eq!(history.unwrap(), format!("aqs-history 1 {opened}\nend 0 0\n"));
+    }
+}
+
+#[test]
+fn a_wait_with_a_time_is_one_call() {
+    let (mutex, condvar) = (Mutex::with((), kept()).unwrap(), Condvar::new());
+    let time = Duration::from_millis(1);
+    assert!(condvar.wait_for(&mut mutex.lock(), time).timed_out());
+    // It got the mutex, began and ended the wait, had the mutex again, and gave it up.
+    assert!(mutex.trim().unwrap() <= 5);
+    let _guard = mutex.lock();
+    thread::scope(|scope| {
+        scope.spawn(|| assert!(mutex.try_lock_for(time).is_none()));
+    });
+    assert!(mutex.trim().unwrap() <= 3);
+}
+
+#[test]
+fn a_history_is_whole_while_others_lock() {
+    let mutex = Mutex::with(0, Options::new().keep_history()).unwrap();
+    let histories: Vec<_> = thread::scope(|scope| {
+        scope.spawn(|| (0..20_000).for_each(|_| *mutex.lock() += 1));
+        until(|| *mutex.lock() > 5000);
+        (0..5).map(|_| mutex.history()).collect()
+    });
+    for history in histories {
+        let text = history.unwrap();
+        assert!(text.starts_with("aqs-history ") && text.lines().last().unwrap().starts_with("end "));
+    }
+}
+
+#[test]
+fn threads_that_come_first_together_open_one() {
+    let begin = Barrier::new(4);
+    let mutexes: Vec<Mutex<u32>> = (0..300).map(|_| Mutex::new(0)).collect();
+    thread::scope(|scope| {
+        for _ in 0..4 {
+            scope.spawn(|| {
+                for mutex in &mutexes {
+                    begin.wait();
+                    *mutex.lock() += 1;
+                }
+            });
+        }
+    });
+    for mutex in mutexes {
+        assert_eq!(mutex.history().unwrap().matches(" gave ").count(), 4);
+        assert_eq!(mutex.into_inner(), 4);
+    }
+}
+
+#[test]
+fn each_call_tells_that_the_history_is_full() {
+    let options = Options::new().keep_history().most_entries(16);
+    let (permits, latch) = (Semaphore::with(1, options).unwrap(), Latch::with(1, options).unwrap());
+    let (lock, mutex) = (RwLock::with(0, options).unwrap(), Mutex::with(0, options).unwrap());
+    let fills: [&dyn Fn(); 4] = [
+        &|| while !permits.try_acquire(2) {},
+        &|| while !latch.wait_for(Duration::ZERO) {},
+        &|| while lock.try_write().is_some() {},
+        &|| while mutex.try_lock().is_some() {},
+    ];
+    let calls: [&dyn Fn(); 16] = [
+        &|| permits.acquire(1),
+        &|| permits.release(1),
+        &|| assert_eq!(permits.drain(), 1),
+        &|| drop(permits.try_permits_for(1, SHORT)),
+        &|| permits.acquire_interruptibly(1).unwrap(),
+        &|| latch.count_down(),
+        &|| latch.wait(),
+        &|| assert!(!latch.wait_until(Instant::now())),
+        &|| drop(lock.read()),
+        &|| drop(lock.write()),
+        &|| drop(lock.try_read()),
+        &|| drop(lock.try_read_for(SHORT)),
+        &|| drop(lock.try_write_until(Instant::now())),
+        &|| drop(mutex.lock()),
+        &|| drop(mutex.enter()),
+        &|| drop(mutex.try_lock_until(Instant::now())),
+    ];
+    for call in fills.iter().chain(&calls) {
+        assert!(refusal(call).contains("HistoryFull") || refusal(call).ends_with("(AQS_HISTORY_FULL)"));
+    }
+    assert_eq!((permits.available(), latch.count(), latch.trim().is_ok()), (1, 1, true));
+    assert!(!lock.is_locked() && !lock.is_mine() && !mutex.is_locked() && !mutex.is_mine());
+}
+
+/// Says whether a type is Send and Sync. A method of its own goes before that of a trait.
+struct Crosses<T: ?Sized>(PhantomData<T>);
+
+trait Stays {
+    fn is_send(&self) -> bool {
+        false
+    }
+
+    fn is_sync(&self) -> bool {
+        false
+    }
+}
+
+impl<T: ?Sized> Stays for Crosses<T> {}
+
+impl<T: ?Sized + Send> Crosses<T> {
+    fn is_send(&self) -> bool {
+        true
+    }
+}
+
+impl<T: ?Sized + Sync> Crosses<T> {
+    fn is_sync(&self) -> bool {
+        true
+    }
+}
+
+macro_rules! crosses {
+    ($($type:ty),*) => {
+        [$({
+            let crosses = Crosses::<$type>(PhantomData);
+            (crosses.is_send(), crosses.is_sync())
+        }),*]
+    };
+}
+
+#[test]
+fn types_cross_threads_as_their_values_may() {
+    // A number may be sent and shared, a cell only sent, and a counted pointer neither.
+    let locks = crosses![Mutex<u8>, Mutex<Cell<u8>>, Mutex<Rc<u8>>];
+    assert_eq!(locks, [(true, true), (true, true), (false, false)]);
+    let locks = crosses![RwLock<u8>, RwLock<Cell<u8>>, RwLock<Rc<u8>>];
+    assert_eq!(locks, [(true, true), (true, false), (false, false)]);
+    // A guard stays in the thread that has the lock.
+    let guards = crosses![
+        MutexGuard<'static, u8>,
+        MappedMutexGuard<'static, u8>,
+        Entry<'static, u8>,
+        ReadGuard<'static, u8>,
+        MappedReadGuard<'static, u8>,
+        WriteGuard<'static, u8>,
+        MappedWriteGuard<'static, u8>
+    ];
+    assert_eq!(guards, [(false, true); 7]);
+    let guards = crosses![
+        MutexGuard<'static, Cell<u8>>,
+        MappedMutexGuard<'static, Cell<u8>>,
+        Entry<'static, Cell<u8>>,
+        ReadGuard<'static, Cell<u8>>,
+        MappedReadGuard<'static, Cell<u8>>,
+        WriteGuard<'static, Cell<u8>>,
+        MappedWriteGuard<'static, Cell<u8>>
+    ];
+    assert_eq!(guards, [(false, false); 7]);
+    assert_eq!(crosses![Condvar, Semaphore, Latch, Permits<'static>, Thread, Error], [(true, true); 6]);
 }
 
 #[test]

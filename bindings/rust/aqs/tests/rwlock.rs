@@ -3,14 +3,14 @@
 mod support;
 
 use aqs::{
-    Error, MappedRwLockReadGuard, MappedRwLockWriteGuard, Options, RwLock, RwLockReadGuard, RwLockWriteGuard,
-    Thread,
+    interrupted, Error, MappedRwLockReadGuard, MappedRwLockWriteGuard, Options, RwLock, RwLockReadGuard,
+    RwLockWriteGuard, Thread,
 };
 use std::sync::mpsc::channel;
 use std::sync::Arc;
 use std::time::Instant;
 use std::{panic, thread};
-use support::{until, LONG, SHORT};
+use support::{refusal, until, LONG, SHORT};
 
 #[test]
 fn writers_are_alone_and_readers_are_not() {
@@ -87,6 +87,34 @@ fn a_read_that_failed_is_not_counted() {
 }
 
 #[test]
+fn one_that_stops_writing_leaves_the_next_writer_as_it_is() {
+    let (lock, late) = (RwLock::new(()), Instant::now() + 30 * SHORT);
+    thread::scope(|scope| {
+        for _ in 0..4 {
+            scope.spawn(|| {
+                while Instant::now() < late {
+                    let _guard = lock.write();
+                    // One that has woken this thread may go on.
+                    thread::yield_now();
+                    assert!(lock.is_mine());
+                }
+            });
+        }
+    });
+}
+
+#[test]
+fn a_read_beyond_the_most_is_told() {
+    let lock = RwLock::with((), Options::new().most_entries(200_000)).unwrap();
+    let readers: Vec<_> = (0..65_535).map(|_| lock.read()).collect();
+    assert_eq!(lock.read_interruptibly().err(), Some(Error::TooManyHolds));
+    let said = "aqs: the lock is held as often as it may be (AQS_TOO_MANY_HOLDS)";
+    assert_eq!((refusal(|| drop(lock.read())), refusal(|| drop(lock.try_read()))), (said.into(), said.into()));
+    drop(readers);
+    assert_eq!((lock.read_holds(), lock.is_locked()), (0, false));
+}
+
+#[test]
 fn the_writer_that_comes_again_is_told() {
     let lock = RwLock::new(0);
     let _writer = lock.write();
@@ -95,6 +123,8 @@ fn the_writer_that_comes_again_is_told() {
         &|| drop(lock.write()),
         &|| drop(lock.read_recursive()),
         &|| drop(lock.read_interruptibly()),
+        &|| drop(lock.read_interruptibly_for(SHORT)),
+        &|| drop(lock.write_interruptibly()),
         &|| drop(lock.write_interruptibly_for(SHORT)),
     ] {
         assert!(panic::catch_unwind(panic::AssertUnwindSafe(call)).is_err());
@@ -165,6 +195,26 @@ fn a_downgrade_comes_before_a_waiting_writer() {
 }
 
 #[test]
+fn an_interrupt_waits_beside_a_downgrade() {
+    let lock = RwLock::new(1);
+    let writer = lock.write();
+    Thread::current().interrupt().unwrap();
+    let reader = writer.downgrade();
+    assert_eq!((*reader, interrupted(), lock.is_mine()), (1, true, false));
+}
+
+#[test]
+fn a_downgrade_that_is_refused_gives_the_lock_up() {
+    let lock = RwLock::with(0, Options::new().keep_history().most_entries(64)).unwrap();
+    let writer = lock.write();
+    let fill = || refusal(|| while lock.try_read().is_none() {});
+    let said = thread::scope(|scope| scope.spawn(fill).join().unwrap());
+    assert_eq!(refusal(|| drop(writer.downgrade())), said);
+    assert_eq!(said, "aqs: the history is full (AQS_HISTORY_FULL)");
+    assert!(!lock.is_mine() && !lock.is_locked());
+}
+
+#[test]
 fn values_go_in_and_come_out() {
     assert_eq!(RwLock::new(String::from("it")).into_inner(), "it");
     let mut lock = RwLock::from(3);
@@ -211,14 +261,22 @@ fn parts_of_the_value_are_locked_as_a_whole() {
     assert_eq!((*last, lock.is_locked(), lock.try_write().is_none()), (3, true, true));
     drop(last);
     assert!(RwLockReadGuard::try_map(lock.read(), |value| value.1.get(7)).is_err());
-    assert!(RwLockReadGuard::try_map(lock.read(), |value| value.1.get(1)).is_ok_and(|it| *it == 2));
+    let Ok(item) = RwLockReadGuard::try_map(lock.read(), |value| value.1.get(1)) else {
+        panic!("it is there")
+    };
+    assert_eq!((*item, lock.read_holds(), lock.is_locked()), (2, 1, true));
+    drop(item);
     let list = RwLockWriteGuard::map(lock.write(), |value| &mut value.1);
     let mut last = MappedRwLockWriteGuard::map(list, |list| &mut list[2]);
     *last = 9;
     assert!(lock.is_locked_exclusive());
     drop(last);
     assert!(RwLockWriteGuard::try_map(lock.write(), |value| value.1.get_mut(7)).is_err());
-    assert!(RwLockWriteGuard::try_map(lock.write(), |value| value.1.get_mut(2)).is_ok_and(|it| *it == 9));
+    let Ok(item) = RwLockWriteGuard::try_map(lock.write(), |value| value.1.get_mut(2)) else {
+        panic!("it is there")
+    };
+    assert_eq!((*item, lock.is_mine(), lock.is_locked_exclusive()), (9, true, true));
+    drop(item);
     assert!(!lock.is_locked());
 }
 

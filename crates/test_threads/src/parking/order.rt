@@ -1,11 +1,14 @@
 //! Parks, unparks and interrupts as data, and which result takes precedence.
 ghost use Rattle.std.specs.Prelude.{◌≡◌, ◌≤◌, ◌<◌};
 
+use crate::parking::lone_token;
 use permit::{Call, Parking, ScriptedParking, ThreadParking, Woke};
+use std::alloc::AllocGlobal;
 use std::io;
 use std::process::Abort;
 use std::sync::Wait;
 use std::time::{Clock, Duration};
+use word_lock::Token;
 
 /// What is done at a seat.
 #[derive(Clone, Copy)]
@@ -61,12 +64,12 @@ fn park<P: Parking, R: Wait + Clock>(
     }
 }
 
-fn answer<P: Parking, R: Wait + Clock>(rt: &R, parking: &P, deed: Deed) -> u8
+fn answer<P: Parking, R: Wait + Clock>(rt: &R, parking: &P, token: &Token, deed: Deed) -> u8
     requires { 256 ≤ P.seats parking.now }
 {
     match deed {
         Deed::Unpark(seat) => {
-            parking.unpark(u16::from(seat));
+            parking.unpark(u16::from(seat), token);
             NONE
         }
         Deed::Interrupt(seat) => {
@@ -86,12 +89,13 @@ fn answer<P: Parking, R: Wait + Clock>(rt: &R, parking: &P, deed: Deed) -> u8
     }
 }
 
-fn answer_all<P: Parking, R: Abort + Wait + Clock>(rt: &R, parking: &P, rows: &[Row])
+fn answer_all<P: Parking, R: Abort + Wait + Clock + AllocGlobal>(rt: &R, parking: &P, rows: &[Row])
     requires { 256 ≤ P.seats parking.now }
 {
+    let token = lone_token(rt);
     let mut number = 0u32;
     for (deed, told) in rows {
-        let answer = answer(rt, parking, *deed);
+        let answer = answer(rt, parking, &token, *deed);
         assert_eq!(rt; answer, *told, "row {number}");
         number = number.saturating_add(1);
     }

@@ -1,12 +1,15 @@
 //! Signals that are sent in the moment in which a thread falls asleep, or wakes. Each is taken, and once.
 ghost use Rattle.std.specs.Prelude.{◌≡◌, ◌<◌};
 
+use crate::parking::lone_token;
 use crate::rounds::{Aim, OVER, Rounds, nanoseconds, turn};
 use permit::{Parking, ThreadParking, Woke};
+use std::alloc::AllocGlobal;
 use std::process::Abort;
 use std::sync::Wait;
 use std::thread::{Threads, join};
 use std::time::Clock;
+use word_lock::Token;
 
 /// How long the rounds are played, in nanoseconds.
 const TIME: u64 = 1_500_000_000;
@@ -56,18 +59,18 @@ fn take_all<R: Abort + Wait + Clock>(rt: &R, parking: &ThreadParking, rounds: &R
     }
 }
 
-fn send(parking: &ThreadParking, is_interrupt: bool)
+fn send(parking: &ThreadParking, token: &Token, is_interrupt: bool)
     requires { 0 < parking.now }
 {
     if is_interrupt {
         parking.interrupt(0);
     } else {
-        parking.unpark(0);
+        parking.unpark(0, token);
     }
 }
 
 /// Takes a signal that was sent, and sends it again. It does nothing if the other thread has taken it.
-fn send_again<R: Wait + Clock>(rt: &R, parking: &ThreadParking, is_interrupt: bool)
+fn send_again<R: Wait + Clock>(rt: &R, parking: &ThreadParking, token: &Token, is_interrupt: bool)
     requires { 0 < parking.now }
 {
     let is_taken = if is_interrupt {
@@ -76,34 +79,41 @@ fn send_again<R: Wait + Clock>(rt: &R, parking: &ThreadParking, is_interrupt: bo
         parking.park(rt, 0, Some(0), false) == Woke::Permit
     };
     if is_taken {
-        send(parking, is_interrupt);
+        send(parking, token, is_interrupt);
     }
 }
 
 /// Sends a signal when the other thread falls asleep, and in most rounds the other signal soon after that.
-fn send_some<R: Wait + Clock>(rt: &R, parking: &ThreadParking, round: u32, aim: &mut Aim)
+fn send_some<R: Wait + Clock>(
+    rt: &R,
+    parking: &ThreadParking,
+    token: &Token,
+    round: u32,
+    aim: &mut Aim,
+)
     requires { 0 < parking.now }
 {
     let is_interrupt = round % 5 % 2 == 0;
     turn(aim.turns);
     let begun = nanoseconds(rt);
-    send(parking, is_interrupt);
+    send(parking, token, is_interrupt);
     let took = nanoseconds(rt).saturating_sub(begun);
     turn(round / 20 % 32);
     if round / 5 % 4 == 0 {
-        send_again(rt, parking, is_interrupt);
+        send_again(rt, parking, token, is_interrupt);
     }
     if !matches!(round % 5, 1 | 2) {
-        send(parking, !is_interrupt);
+        send(parking, token, !is_interrupt);
     }
     if round % 5 != 0 {
         aim.adjust(round, took);
     }
 }
 
-fn send_all<R: Abort + Wait + Clock>(rt: &R, parking: &ThreadParking, rounds: &Rounds)
+fn send_all<R: Abort + Wait + Clock + AllocGlobal>(rt: &R, parking: &ThreadParking, rounds: &Rounds)
     requires { 0 < parking.now }
 {
+    let token = lone_token(rt);
     let begun = nanoseconds(rt);
     let mut aim = Aim::new();
     for round in 1..OVER {
@@ -111,7 +121,7 @@ fn send_all<R: Abort + Wait + Clock>(rt: &R, parking: &ThreadParking, rounds: &R
             break;
         }
         rounds.begin(round);
-        send_some(rt, parking, round, &mut aim);
+        send_some(rt, parking, &token, round, &mut aim);
         assert!(rt;
             rounds.are_ended(rt, round),
             "a signal was lost in round {round}"
@@ -120,7 +130,7 @@ fn send_all<R: Abort + Wait + Clock>(rt: &R, parking: &ThreadParking, rounds: &R
     rounds.begin(OVER);
 }
 
-fn play<R: Abort + Threads + Wait + Clock + Sync>(rt: &R, parking: &ThreadParking)
+fn play<R: Abort + Threads + Wait + Clock + Sync + AllocGlobal>(rt: &R, parking: &ThreadParking)
     requires { 0 < parking.now }
 {
     let rounds = &Rounds::new();

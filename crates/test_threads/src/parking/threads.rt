@@ -1,7 +1,9 @@
 //! Threads that sleep at their seats, and are woken.
 ghost use Rattle.std.specs.Prelude.{◌≡◌, ◌<◌};
 
+use crate::parking::lone_token;
 use permit::{Parking, ThreadParking, Woke};
+use std::alloc::AllocGlobal;
 use std::process::Abort;
 use std::sync::Wait;
 use std::thread;
@@ -11,19 +13,19 @@ use std::time::{Clock, CpuClock, Duration};
 /// After this number of milliseconds a thread wakes another, which sleeps by then.
 const LATER: u64 = 30;
 
-fn send_later<R: Clock>(rt: &R, parking: &ThreadParking, is_interrupt: bool)
+fn send_later<R: Abort + Clock + AllocGlobal>(rt: &R, parking: &ThreadParking, is_interrupt: bool)
     requires { 0 < parking.now }
 {
     thread::sleep(rt, Duration::from_millis(LATER));
     if is_interrupt {
         parking.interrupt(0);
     } else {
-        parking.unpark(0);
+        parking.unpark(0, &lone_token(rt));
     }
 }
 
 /// Returns the result of a park at seat 0 that another thread unparks or interrupts.
-fn woken<R: Threads + Wait + Clock + Sync>(
+fn woken<R: Abort + Threads + Wait + Clock + Sync + AllocGlobal>(
     rt: &R,
     parking: &ThreadParking,
     is_interrupt: bool,
@@ -56,7 +58,7 @@ fn one_who_sleeps_is_woken_by_an_unpark_and_by_an_interrupt(rt: HostRuntime) {
 
 /// Returns the results of two parks at seat 0. The first takes no interrupt, and sleeps until the second has
 /// ended: by its deadline, or else by an interrupt.
-fn woken_beside<R: Threads + Wait + Clock + Sync>(
+fn woken_beside<R: Abort + Threads + Wait + Clock + Sync + AllocGlobal>(
     rt: &R,
     parking: &ThreadParking,
     until: Option<u64>,
@@ -76,7 +78,7 @@ fn woken_beside<R: Threads + Wait + Clock + Sync>(
                 Some(_) => parking.park(rt, 0, until, true),
                 None => woken(rt, parking, true, None),
             };
-            parking.unpark(0);
+            parking.unpark(0, &lone_token(rt));
             woke
         },
     )
@@ -137,9 +139,14 @@ struct Tally {
 }
 
 /// Parks at seat 0 with short timeouts until `signals` signals have come, and unparks seat 1 after each.
-fn answer_all<R: Wait + Clock>(rt: &R, parking: &ThreadParking, signals: u32) -> Tally
+fn answer_all<R: Abort + Wait + Clock + AllocGlobal>(
+    rt: &R,
+    parking: &ThreadParking,
+    signals: u32,
+) -> Tally
     requires { 1 < parking.now }
 {
+    let token = lone_token(rt);
     let mut tally = Tally {
         permits: 0,
         interrupts: 0,
@@ -159,23 +166,28 @@ fn answer_all<R: Wait + Clock>(rt: &R, parking: &ThreadParking, signals: u32) ->
             Woke::Interrupted => &mut tally.interrupts,
         };
         *count = count.saturating_add(1);
-        parking.unpark(1);
+        parking.unpark(1, &token);
     }
     tally
 }
 
 /// Sends seat 0 an unpark or, each third time, an interrupt, about when a timeout ends there. It parks at
 /// seat 1 until the signal has come. If a wake were lost it would sleep on.
-fn send_all<R: Wait + Clock>(rt: &R, parking: &ThreadParking, signals: u32) -> u32
+fn send_all<R: Abort + Wait + Clock + AllocGlobal>(
+    rt: &R,
+    parking: &ThreadParking,
+    signals: u32,
+) -> u32
     requires { 1 < parking.now }
 {
+    let token = lone_token(rt);
     let mut answered = 0u32;
     for number in 0..signals {
         thread::sleep(rt, Duration::from_micros(u64::from(number % 40) * 50));
         if number % 3 == 2 {
             parking.interrupt(0);
         } else {
-            parking.unpark(0);
+            parking.unpark(0, &token);
         }
         if parking.park(rt, 1, None, false) == Woke::Permit {
             answered = answered.saturating_add(1);
@@ -184,7 +196,7 @@ fn send_all<R: Wait + Clock>(rt: &R, parking: &ThreadParking, signals: u32) -> u
     answered
 }
 
-fn storm<R: Threads + Wait + Clock + Sync>(
+fn storm<R: Abort + Threads + Wait + Clock + Sync + AllocGlobal>(
     rt: &R,
     parking: &ThreadParking,
     signals: u32,

@@ -35,6 +35,11 @@ fn each_step_leaves_its_word(rt: HostRuntime) {
 /// How often a thread looks whether another one is awake, once a millisecond.
 const CHECKS: u32 = 5_000;
 
+/// Wakes all who sleep, so that a test ends.
+pub(crate) fn wake_all(sleepers: &Sleepers) {
+    sleepers.word.wake_all();
+}
+
 /// Returns whether a flag is set within some seconds. Then all who sleep are woken, so that the test ends.
 pub(crate) fn is_awake_soon<R: Clock>(rt: &R, sleepers: &Sleepers, flag: &AtomicBool) -> bool {
     for _ in 0..CHECKS {
@@ -43,7 +48,7 @@ pub(crate) fn is_awake_soon<R: Clock>(rt: &R, sleepers: &Sleepers, flag: &Atomic
         }
         sleep(rt, Duration::from_millis(1));
     }
-    sleepers.word.wake_all();
+    wake_all(sleepers);
     false
 }
 

@@ -14,4 +14,4 @@ pub returns-in-Ok-clause-each : goal.returns-in-Ok-clause-each
 returns-in-Ok-clause-each g c =
     let h = c.in-Ok.closed.history in
     lies_available c.in-Ok.shelf.items (start_on c.self.inside.monitor.header h) h.entries c.in-Ok.closed.balance
-    c.in-Ok.ensures.balance c.in-Ok.ensures.rests.0
+    c.in-Ok.ensures.closes.balance c.in-Ok.ensures.rests.0

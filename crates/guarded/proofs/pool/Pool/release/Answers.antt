@@ -8,7 +8,7 @@ use Rattle.guarded.proofs.pool.Pool.release.Goals as goal
 pub put_away-requires : goal.put_away-requires
 put_away-requires g c =
     let is : c.whether.result ≡ Ok true = search rules in
-    c.call-reply.ensures.has ∙ ap (has_after (asks.Release _)) (sym c.whether.ensures ∙ is)
+    c.call-reply.ensures.ends.has ∙ ap (has_after (asks.Release _)) (sym c.whether.ensures ∙ is)
 
 never : (n m : ℕ) (returned : Result Bool Fault) → n ≡ m → returned ≡ Ok false → Answers (asks.Release n) returned → ⊥
 never n m returned same is answers = subst (λ (z : Result Bool Fault). Answers (asks.Release n) z) is answers
@@ -16,12 +16,12 @@ never n m returned same is answers = subst (λ (z : Result Bool Fault). Answers 
 pub unreachable-requires : goal.unreachable-requires
 unreachable-requires g c =
     let is : c.whether.result ≡ Ok false = search rules in
-    never _ _ _ c.len-n.ensures.value (sym c.whether.ensures ∙ is) c.call-reply.ensures.answers
+    never _ _ _ c.len-n.ensures.value (sym c.whether.ensures ∙ is) c.call-reply.ensures.ends.answers
 
 pub returns-in-Err-clause-back : goal.returns-in-Err-clause-back
 returns-in-Err-clause-back g c =
     let missed = ap is_done (sym c.whether.ensures ∙ c.in-Err.is) in
-    let same = c.call-reply.ensures.keeps missed in λ d. (same d).items
+    let same = c.call-reply.ensures.ends.keeps missed in λ d. (same d).items
 
 pub returns-in-Ok-true-clause-returned : goal.returns-in-Ok-true-clause-returned
 returns-in-Ok-true-clause-returned g c =

@@ -143,28 +143,6 @@ overflow_cast-closed g c =
     let v = c.len-few.ensures.value in let f = c.len-few.ensures.few in
     let small : c.merge_shares-share.result < 2 ^ 64 = omega (arith, sum, most, v, f) in search rules
 
-pub returns-clause-lawful : goal.returns-clause-lawful
-returns-clause-lawful g c = (ends g c).lawful
-
-pub returns-clause-within : goal.returns-clause-within
-returns-clause-within g c = let e = ends g c in all_within _ _ e.seen e.agree
-
-pub returns-clause-cap : goal.returns-clause-cap
-returns-clause-cap g c =
-    let header = c.close-kept.ensures.header ∙ ap (λ (l : LockId). l.header) c.self.view_is in
-    let is : c.into_parts-core.result.0.header ≡ c.close-kept.result.laden.value.core.header =
-    ap (λ (v : CoreView). v.header) c.into_parts-core.ensures.core in
-    c.into_history-history.ensures.cap
-    ∙ ap (λ (k : Header). k.cap)
-    (is ∙ (sym c.close-kept.ensures.fact.0.header ∙ sym (header_shown (point_of c.close-kept.result.laden.value.core))
-    ∙ header))
-
-pub returns-clause-each : goal.returns-clause-each
-returns-clause-each g c = (ends g c).each
-
-pub returns-clause-calls : goal.returns-clause-calls
-returns-clause-calls g c = sum_is g c
-
 has_base : (g : _) (c : goal.After-len-few g) → IsBased c.args.self c.into_history-history.result
 has_base g c =
     let some : c.into_history-history.result.base
@@ -173,20 +151,20 @@ has_base g c =
     ∙ ap Some (sym (ap (or_opening c.args.self.header) c.into_history-history.ensures.base)) in
     (some, (ends g c).header)
 
-pub returns-clause-base : goal.returns-clause-base
-returns-clause-base g c = has_base g c
-
-pub returns-clause-good : goal.returns-clause-good
-returns-clause-good g c =
-    let is = has_base g c in
-    subst (IsBasedWell c.args.self.header) (sym is.0) (is.1, (ends g c).lawful.may_fold.can.good)
-
-pub returns-clause-seated : goal.returns-clause-seated
-returns-clause-seated g c = (ends g c).lawful.seated
+cap_is : (g : _) (c : goal.After-len-few g) → c.into_history-history.result.cap ≡ c.args.self.header.cap
+cap_is g c =
+    let header = c.close-kept.ensures.header ∙ ap (λ (l : LockId). l.header) c.self.view_is in
+    let is : c.into_parts-core.result.0.header ≡ c.close-kept.result.laden.value.core.header =
+    ap (λ (v : CoreView). v.header) c.into_parts-core.ensures.core in
+    c.into_history-history.ensures.cap
+    ∙ ap (λ (k : Header). k.cap)
+    (is ∙ (sym c.close-kept.ensures.fact.0.header ∙ sym (header_shown (point_of c.close-kept.result.laden.value.core))
+    ∙ header))
 
 -- the numbers of the core are those of the history that it leaves
-pub returns-clause-balance : goal.returns-clause-balance
-returns-clause-balance g c =
+balance_is : (g : _) (c : goal.After-len-few g) → c.balance-balance.result ≡
+    balance (start_on c.args.self.header c.into_history-history.result) c.into_history-history.result.entries
+balance_is g c =
     let k = c.args.self.header in
     let kept = c.into_history-history.result in
     let core = c.into_parts-core.result.0 in
@@ -194,6 +172,25 @@ returns-clause-balance g c =
     ∙ (ap (λ (b : Base). balance (based b) core.entries)
     (sym (ap (or_opening k) c.into_history-history.ensures.base))
     ∙ ap (balance (start_on k kept)) (sym c.into_history-history.ensures.entries))
+
+pub returns-clause-closes : goal.returns-clause-closes
+returns-clause-closes g c =
+    let e = ends g c in
+    let based = has_base g c in
+    record {
+      each = e.each;
+      cap = cap_is g c;
+      based = based;
+      good = subst (IsBasedWell c.args.self.header) (sym based.0) (based.1, e.lawful.may_fold.can.good);
+      seated = e.lawful.seated;
+      lawful = e.lawful;
+      within = all_within _ _ e.seen e.agree;
+      share = search rules;
+      calls = sum_is g c;
+      balance = balance_is g c;
+      exclusive = c.balance-balance.ensures.exclusive;
+      shared = c.balance-balance.ensures.shared;
+    }
 
 pub returns-clause-rests : goal.returns-clause-rests
 returns-clause-rests g c =

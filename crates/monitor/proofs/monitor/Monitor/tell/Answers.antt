@@ -16,7 +16,8 @@ pub returns-in-Ok-Recorded-clause-entered : goal.returns-in-Ok-Recorded-clause-e
 returns-in-Ok-Recorded-clause-entered g c =
     entered_ok c.args.when_full (g.P.Parking.did c.args.parking.now) c.args.pass.now c.signal_call.new.pass c.args.step
     c.in-Ok-Recorded.entry c.in-Ok-Recorded.field-0-1
-    (subst (λ (z : Answer). IsUnparked (g.P.Parking.did c.args.parking.now) (named_in (Ok z)))
+    (subst (λ (z : Answer). IsUnparked (g.P.Parking.did c.args.parking.now) (named_in (Ok z))
+    c.signal_call.new.pass.seen)
     c.in-Ok-Recorded.field-0-is c.in-Ok-Recorded.ensures.unparked)
     (subst (λ (z : Answer). IsStepIn c.args.when_full c.args.pass.now c.args.step (Ok z) c.signal_call.new.pass)
     c.in-Ok-Recorded.field-0-is c.in-Ok-Recorded.ensures.stepped)
