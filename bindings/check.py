@@ -76,8 +76,9 @@ CONTENT = {
 SANITIZED = ("wakes", "interrupts", "statuses", "histories", "limits", "seats")
 # What the linker puts in the place of other functions.
 WRAPPED = {
-    "thread_numbers": ["pthread_setspecific"],
+    "thread_numbers": ["pthread_setspecific", "mmap"],
     "handlers": ["syscall"],
+    "histories": ["aqs_text_now"],
     "closes": ["aqs_step_now", "aqs_begin", "aqs_go_on"],
 }
 
@@ -331,6 +332,8 @@ def check_java(tests):
     tests.run("Java: many threads", ["java", *classes, "AqsTest", kept], 240, cwd=folder)
     tests.run("Java: inside", ["java", "-Xcomp", *classes, "aqs.InsideTest"], 240, cwd=folder)
     tests.run("Java: native memory", ["java", "-Xmx32m", *classes, "MemoryTest"], 120, cwd=folder)
+    words = ["java", "-Djava.library.path=out/growing", *classes[1:], "GrowingTest"]
+    tests.run("Java: a history that grows while it is read", words, 120, cwd=folder)
     virtual = java_with_virtual_threads()
     if virtual:
         words = [virtual, "--enable-native-access=ALL-UNNAMED", *classes, "VirtualTest"]

@@ -38,6 +38,8 @@ end 4
 """
 SCRIPT = b"""{"objects":[["a","lock fair seats 1 conditions 0 cap 16"]],
  "threads":[{"repeat":1,"calls":["a acquire x 1","a give x 1"]}]}"""
+ENDLESS = b"""{"objects":[["a","latch seats 1 count 1 cap 16"]],
+ "threads":[{"repeat":1,"calls":["a acquire s 1"]}]}"""
 RUN = b"""object a
 aqs-history 1 lock fair seats 1 conditions 0 cap 16
 0 0 got x 1
@@ -100,6 +102,24 @@ def byte_by_byte(program, words, text):
     return child.wait(), taken, error
 
 
+def on_full_disk(program, scratch):
+    """An output that can't be written: of runs with options, and of what an explanation says of a file."""
+    folder = scratch / "full"
+    folder.mkdir()
+    for words, text in (
+        (["run", "--object", "a"], SCRIPT),
+        (["run", "--unrecorded"], SCRIPT),
+        (["run", "--dir", str(folder), "--object", "a"], SCRIPT),
+        (["run", "--timeout", "300"], ENDLESS),
+        (["explain", str(scratch / "none")], b""),
+        (["explain", "--json", str(scratch / "none")], b""),
+        (["manual"], b""),
+    ):
+        with open("/dev/full", "wb") as full:
+            yield f"{' '.join(words)}, a full disk", into(program, words, text, full) == WRITE_FAILED
+    yield "no history is left on a full disk", not list(folder.iterdir())
+
+
 def at_a_terminal(program, words, text, patience=10):
     """The answer to lines that somebody types at a terminal, and one Ctrl-D after them. None if the program
     still reads then. The lines wait in the terminal, which holds 4,095 bytes."""
@@ -130,6 +150,18 @@ def is_unread(words, name, answer):
         return answer == READ_FAILED
     told = answer[1].startswith(f"cannot read {name}: ".encode()) and answer[1].find(b"\n") == len(answer[1]) - 1
     return told and (answer[0], answer[2]) == (1, b"")
+
+
+def not_waited_for(program, words):
+    """The answer to an input that has nothing yet, and that tells a reader so in place of letting it wait."""
+    taken, given = os.pipe()
+    os.set_blocking(taken, False)
+    try:
+        done = subprocess.run([program, *words], stdin=taken, capture_output=True, timeout=60)
+    finally:
+        os.close(taken)
+        os.close(given)
+    return done.returncode, done.stdout, done.stderr
 
 
 def terminals(program, words, text, wanted):
@@ -274,6 +306,7 @@ def outputs(program, words, text, wanted, folder):
               "without a name": "", "with too long a name": folder / ("n" * 300), "a full disk": "/dev/full"}
     for told, file in unmade.items():
         yield told, to(file) == unwritten and holds(wanted)
+    out.write_bytes(wanted * 2)
     (folder / "link").symlink_to(out)
     yield "a link is written in its place", to(folder / "link") == fine and (folder / "link").is_symlink()
     (folder / "link").unlink()
@@ -297,6 +330,21 @@ def guarded_outputs(own, somebody, folder):
     yield "an output that may not be written", left and answers == [(4, b"", b"aqs: write failed\n")] * 2
 
 
+def guarded_folders(own, somebody, folder):
+    """A folder of histories that may not be looked into is a bad one, and one that may not be written is not.
+    Nothing is left in either."""
+    folder.mkdir()
+    words = [own, ["run", "--dir", str(folder)], SCRIPT]
+    for name, own_mode, mode, wanted in (
+        ("looked into", 0o600, 0o744, (2, b"", b"aqs: bad --dir\n")),
+        ("written", 0o500, 0o755, (4, b"", b"aqs: write failed\n")),
+    ):
+        folder.chmod(mode if somebody else own_mode)
+        answer = run(*words, **somebody)
+        folder.chmod(0o755)
+        yield f"a folder that may not be {name}", answer == wanted and not list(folder.iterdir())
+
+
 def results(program, scratch):
     hidden = scratch / "hidden"
     hidden.write_bytes(STEPS)
@@ -313,6 +361,8 @@ def results(program, scratch):
             done = subprocess.run([program, *words], stdin=only_written, capture_output=True, timeout=60)
             answer = (done.returncode, done.stdout, done.stderr)
             yield f"{name}, an input that is not read", is_unread(words, "standard input", answer)
+        answer = not_waited_for(program, words)
+        yield f"{name}, an input that has nothing yet", is_unread(words, "standard input", answer)
         with open("/dev/null", "rb") as only_read:
             answer = into(program, words, text, only_read)
             yield f"{name}, an output that is not written", answer == WRITE_FAILED
@@ -326,6 +376,8 @@ def results(program, scratch):
             yield f"{name} -o, {told}", good
         yield f"{name}, little memory", little_memory(program, words, text, wanted)
     yield from guarded_outputs(own, somebody, scratch / "guarded")
+    yield from guarded_folders(own, somebody, scratch / "unseen")
+    yield from on_full_disk(program, scratch)
     yield "run, threads that are not started", threads_not_started(program)
 
 

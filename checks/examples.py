@@ -15,14 +15,17 @@ Compared are the exit status, standard output and standard error. The last line 
 the status is 0 only if nothing failed and something passed.
 """
 
+import concurrent.futures
 import functools
 import json
+import os
 import pathlib
 import re
 import resource
 import subprocess
 import sys
 import tempfile
+import time
 
 import cases
 import common_lines
@@ -203,6 +206,33 @@ def manuals(program):
             yield f"an example of manual {name}", run(program, [name], given) == (status, told, b"")
 
 
+# The options of each command.
+OPTIONS = {
+    "replay": "--history",
+    "audit": "--json",
+    "explain": "--at K --json",
+    "summary": "--json",
+    "draw": "--page --names F --from A --to B",
+    "run": "--timeout M --object N --dir D --unrecorded",
+}
+
+
+def manual_options(program, scratch):
+    """The page of a command tells its options, and the program takes these and no others."""
+    option = re.compile(r"--\w+(?: [A-Z]\b)?")
+    every = {each for several in OPTIONS.values() for each in option.findall(several)}
+    for name, several in OPTIONS.items():
+        own = [*option.findall(several), "--output F"]
+        page = run(program, ["manual", name])[1].decode()
+        first = " ".join(["aqs", name, *(f"[{each}]" for each in own), "[FILE]\n\n"])
+        yield f"the first line of manual {name}", page.startswith(first)
+        yield f"the options of manual {name}", re.findall(rf"(?m)^  ({option.pattern})  ", page) == own
+        for each in [*sorted(every), "--output F"]:
+            words = [name, each.split()[0], *([scratch / "none" / "such"] if " " in each else [])]
+            is_usage = run(program, words) == (2, b"", b"aqs: usage\n")
+            yield f"{name} {each}", is_usage == (each not in own)
+
+
 def named_files(program, folder):
     """A file that is named is read in place of standard input."""
     steps, wrong = folder / "acquire_and_give.steps", folder / "taken_past_the_line.history"
@@ -214,6 +244,7 @@ def named_files(program, folder):
 
 ONE_THREAD = b"""{"objects": [["a", "lock fair seats 1 conditions 0 cap 16"], ["-b", "latch seats 1 count 2 cap 16"]],
  "threads": [{"repeat": 1, "calls": ["a acquire x 1", "-b give s 1", "-b trim"]}]}"""
+NOT_LEGAL = b"aqs-history 1 lock fair seats 1 conditions 0 cap 16\n0 0 gave x 1\nend 1 1\n"
 BAD_DIR = (2, b"", b"aqs: bad --dir\n")
 WRITE_FAILED = (4, b"", b"aqs: write failed\n")
 
@@ -285,6 +316,87 @@ def unleft_histories(program, scratch):
     yield "nothing is left beside it", [file.name for file in folder.iterdir()] == ["-b.history"]
 
 
+def bytes_of(file):
+    """What a file has. One that is not there has nothing."""
+    return file.read_bytes() if file.exists() else b""
+
+
+def waiting(milliseconds):
+    """A script of two objects whose run takes so long."""
+    objects = [["a", "semaphore fair seats 1 permits 0 cap 16"], ["-b", "latch seats 1 count 2 cap 16"]]
+    calls = [f"a acquire-timed s 1 {milliseconds}", "-b give s 1"]
+    return json.dumps({"objects": objects, "threads": [{"repeat": 1, "calls": calls}]}).encode()
+
+
+def other_folders(program, scratch):
+    """Folders and files of --dir beside other options, links, and files that an option names twice."""
+    folder, link, late = scratch / "named", scratch / "link", scratch / "late"
+    for each in (folder, late):
+        each.mkdir()
+    link.symlink_to(folder)
+    whole = run(program, ["run"], ONE_THREAD)
+    told = run(program, ["run", "--timeout", "60000", "--dir", link], ONE_THREAD)
+    before = held(folder)
+    yield "a run that ends in time, with a link to a folder", told == whole
+    yield "it leaves a file for each object", sorted(before) == ["-b.history", "a.history"]
+    for file in folder.iterdir():
+        file.unlink()
+    told = run(program, ["run", "--dir", folder, "-o", folder / "a.history"], ONE_THREAD)
+    yield "the output in the place of a history", told == (0, b"", b"")
+    yield "the history of the other object stays", held(folder) == {**before, "a.history": whole[1]}
+    told = run(program, ["run", "--timeout", "300", "--dir", late, "-o", scratch / "standing"], waiting(60000))
+    standing = b"not ended after 300 milliseconds; a thread may be about to go on\n"
+    is_told = bytes_of(scratch / "standing").startswith(standing)
+    yield "a late run goes to a file", told == (1, b"", b"") and is_told
+    yield "a late run leaves no history", held(late) == {}
+
+
+def verdicts(program, scratch):
+    """What is no fault goes to the file of -o, though the status is 1."""
+    out = scratch / "verdict"
+    for words, text in ((["audit"], NOT_LEGAL), (["summary", "--json"], NOT_LEGAL), (["explain"], NOT_LEGAL),
+                        (["explain"], b"aqs-steps 1 lock"), (["explain", scratch / "none"], b"")):
+        told = run(program, words, text)
+        for before in ("a new file", "a file"):
+            answer = run(program, [*words, "-o", out], text)
+            yield f"{words} into {before}", answer == (1, b"", b"") and (1, bytes_of(out), b"") == told
+            out.write_bytes(b"before")
+        out.unlink(missing_ok=True)
+
+
+def when_threads_run(program, words, text, then):
+    """The answer of a run, while whose threads run something is done."""
+    words = [program, *map(str, words)]
+    child = subprocess.Popen(words, stdin=subprocess.PIPE, stdout=subprocess.PIPE, stderr=subprocess.PIPE)
+    child.stdin.write(text)
+    child.stdin.close()
+    child.stdin = None
+    while child.poll() is None and len(os.listdir(f"/proc/{child.pid}/task")) < 2:
+        time.sleep(0.001)
+    then()
+    output, error = child.communicate(timeout=SECONDS)
+    return child.returncode, output, error
+
+
+def changed_meanwhile(program, scratch):
+    """Files that others make while the threads of a run go on: they stay, and the run leaves nothing."""
+    folder, elsewhere, out = scratch / "meanwhile", scratch / "left", scratch / "out"
+    for each in (folder, elsewhere):
+        each.mkdir()
+    mine = folder / "-b.history"
+    runs = (
+        ("a file in the place of the second history", ["run", "--dir", folder], lambda: mine.write_bytes(b"mine")),
+        ("a folder in the place of the output", ["run", "--dir", elsewhere, "-o", out], out.mkdir),
+    )
+    with concurrent.futures.ThreadPoolExecutor() as pool:
+        answers = list(pool.map(lambda each: when_threads_run(program, each[1], waiting(1200), each[2]), runs))
+    for (name, *_), answer in zip(runs, answers):
+        yield name, answer == WRITE_FAILED
+    yield "the file of somebody else stays alone", held(folder) == {"-b.history": b"mine"}
+    yield "no history is left where the output can't be put", held(elsewhere) == {} and held(out) == {}
+    yield "nor a file beside the output", not (scratch / "out.0.part").exists()
+
+
 def situations(folder):
     """The steps texts that the tests in Rattle have stand here, with their answers."""
     source = folder.parent / "crates" / "test_support" / "src" / "examples.rt"
@@ -325,9 +437,13 @@ def results(program, folder, scratch):
         yield from pictures(program, folder.parent / place)
     yield from named_files(program, folder)
     yield from manuals(program)
+    yield from manual_options(program, scratch)
     if folder.name == "examples":
         yield from left_histories(program, scratch)
         yield from unleft_histories(program, scratch)
+        yield from other_folders(program, scratch)
+        yield from verdicts(program, scratch)
+        yield from changed_meanwhile(program, scratch)
     yield from hostile(program)
     if folder.name == "examples":
         yield from situations(folder)

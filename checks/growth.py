@@ -41,6 +41,7 @@ ITSELF = 3 << 20  # bytes that the program takes with a short text
 STACKS = 16 << 20  # and with a thread
 THREAD = (8 << 20) + 60_000  # bytes of each further thread of a script, most of them for its stack
 EXPLAINED = 52  # bytes of a line of some 17 bytes of which an explanation keeps text and entry
+UNRECORDED = 500  # bytes of an answer that no history records: in two lists, and its line in a text
 START = 0.01  # seconds that a start may take, whatever it does
 CLOSES = 5_000  # locks that are opened and closed
 WIDER = 6  # as long with 256 seats as with 64 at most
@@ -156,9 +157,14 @@ def growing(program):
     yield Case("explain an entry in the middle", ["explain", "--at", "{}"], 100_000, legal, 2 * EXPLAINED)
     misspelt = lambda count: legal(count).replace(b"\nend ", b"\nedn ")
     yield Case("explain a wrong last line", ["explain"], 20_000, misspelt, 4 * EXPLAINED, status=1)
+    no_step = lambda count: pairs(count).replace(b"\nend ", b"\nedn ")
+    yield Case("explain a wrong last step", ["explain"], 20_000, no_step, 4 * EXPLAINED, status=1)
     yield Case("summary", ["summary"], 100_000, legal, 0)
     yield Case("summary on a base", ["summary"], 100_000, on_base, 0)
     yield Case("run", ["run"], 100_000, lambda count: script(call, count), 2 * ENTRY, STACKS)
+    paired, refused = (lambda count, calls=calls: script(calls, count) for calls in (call, ["a drain"]))
+    yield Case("run, the history of one object", ["run", "--object", "a"], 100_000, paired, 2 * ENTRY, STACKS)
+    yield Case("run, answers that are listed", ["run", "--unrecorded"], 100_000, refused, UNRECORDED, STACKS)
     yield Case("run by many threads", ["run"], 64, brief, THREAD, STACKS)
     yield Case("run with trims", ["run"], 100_000, lambda count: script([*call, "a trim"], count), 0, STACKS)
     locks = beside(program, LOCKS)

@@ -49,7 +49,9 @@ SCRIPT = {
         "a acquire x 1", "a await-timed 0 0", "a trim", "a give x 1", "b give s 5", "b acquire s 1", "b trim", "b drain",
         "a give x 2", "c give s 1", "c trim", "c trim", "d trim", "d drain", "d acquire s 1"]}],
 }
+LEAST_REQUESTS = 20  # of a run that leaves files
 NO_CALLS = {**SCRIPT, "threads": [{"repeat": 1, "calls": []}]}
+WITH_FILES = json.dumps(NO_CALLS).encode()
 PAIRS = b"0 acquire x 1\n1 look\n0 give x 1\n"
 LONG = 5000  # pairs, whose answers take several writes
 MANY = 100_000  # pairs, whose entries take many pages
@@ -200,8 +202,28 @@ def hungry_calls(program, library):
     return None if asked[1] <= asked[0] + MORE else f"{asked[0]} requests, and {asked[1]} if the calls are repeated"
 
 
+def files_left(program, library):
+    """What is wrong if each request of a run that leaves files is refused in turn, or None. A fault leaves none."""
+    number = 0
+    while True:
+        with tempfile.TemporaryDirectory() as folder:
+            words = ["run", "--dir", folder, "-o", f"{folder}/out"]
+            answer, counts = run(program, library, words, WITH_FILES, REFUSED=number)
+            left = sorted(os.listdir(folder))
+        if answer == (0, b"", b"") and left != sorted([*(f"{name}.history" for name, _ in SCRIPT["objects"]), "out"]):
+            return f"request {number}: no fault, and {left}"
+        if answer != (0, b"", b"") and (left or not lacks_memory(words, answer)):
+            return f"request {number}: {answer}, and {left}"
+        if number >= counts.requests:
+            return None if number > LEAST_REQUESTS else f"{number} requests"
+        number += 1
+
+
 def tries(program, library):
     """The checks by their names."""
+    for words in (["explain", "/no/such/file"], ["explain", "--json", "/no/such/file"]):
+        yield f"{' '.join(words)}, requests", refused, (words, b"")
+    yield "files of a run", files_left, ()
     for words, text in commands():
         yield f"{' '.join(words)}, requests, {text[:60]}", refused, (words, text)
         yield f"{' '.join(words)}, reads, {text[:60]}", unread, (words, text)

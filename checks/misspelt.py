@@ -7,11 +7,15 @@ bytes that are no UTF-8, a cut, JSON that is none, a name twice. `places.py` jud
 Where the spoiling tells by itself which word is wrong, the line and the column that are told must be those of that
 word.
 
+So are a few texts that have each kind of line, base, object and call (`whole_texts.py`): each word is replaced, and
+each line is ended after each word, left out or written twice.
+
 The last line is 'N passed, M failed'.
 """
 
 import collections
 import datetime
+import itertools
 import json
 import multiprocessing
 import random
@@ -22,6 +26,7 @@ import explained
 import fuzz
 import places
 import rules
+import whole_texts
 from program import Program
 
 PARTS = 16
@@ -171,23 +176,58 @@ def name_twice(chance):
     return Spoilt(json.dumps(made).encode())
 
 
+def spoilt_lines(text):
+    """A text of lines with each word replaced, and each line ended after each word, left out or written twice."""
+    lines = text.splitlines(keepends=True)
+    for number, line in enumerate(lines):
+        before, after = b"".join(lines[:number]), b"".join(lines[number + 1:])
+        words = line.rstrip().split(b" ")
+        for place, word in enumerate(words):
+            yield with_word(text, number, place, TOO_GREAT if word.lstrip(b"-").isdigit() else NO_WORD[0])
+            yield Spoilt(before + b" ".join(words[:place]) + b"\n" + after)
+        yield Spoilt(before + b" ".join(words) + b" now\n" + after)
+        yield Spoilt(before + after)
+        yield Spoilt(before + line + line + after)
+
+
+def spoilt_scripts():
+    """A script with each object, thread and call replaced by each of those that are wrong, and with each word of an
+    object or a call replaced or left out."""
+    for made, place, several in whole_texts.spoilt_members():
+        for other in several:
+            yield Spoilt(json.dumps(whole_texts.replaced(made, place, other), ensure_ascii=False).encode())
+
+
+def each_spoilt():
+    for text in whole_texts.LINES:
+        yield from spoilt_lines(text)
+    yield from spoilt_scripts()
+
+
 WAYS = (wrong_word, wrong_word, great_number, no_seat, missing_line, few_lines, carriage_returns, tab, no_utf8, cut,
         no_json, wrong_script, name_twice)
 
 
-def tried(path, texts, seed):
-    """How many texts of each kind there were, and those of which something else is told."""
-    chance = random.Random(seed)
-    program = Program(path)
-    kinds, wrong = collections.Counter(), []
+def texts_of(texts, number, seed):
+    """The texts of a part, with the name of their kind: random ones, and its share of the others."""
+    chance = random.Random(seed * PARTS + number)
     for _ in range(texts):
         way = chance.choice(WAYS)
-        spoilt = way(chance)
+        yield way.__name__, way(chance)
+    for spoilt in itertools.islice(each_spoilt(), number, None, PARTS):
+        yield "each word", spoilt
+
+
+def tried(path, *which):
+    """How many texts of each kind there were, and those of which something else is told."""
+    program = Program(path)
+    kinds, wrong = collections.Counter(), []
+    for name, spoilt in texts_of(*which):
         answer = program.answer(["explain"], spoilt.text)
         right = right_answer(spoilt.text)
-        kinds[way.__name__, "wrong" if right is None else "right"] += 1
+        kinds[name, "wrong" if right is None else "right"] += 1
         if answer != right if right else not spoilt.is_told(answer):
-            wrong.append((way.__name__, spoilt, answer))
+            wrong.append((name, spoilt, answer))
     program.close()
     return kinds, wrong
 
@@ -203,7 +243,7 @@ def right_answer(text):
 def main(words):
     texts = int(words[1]) if len(words) > 1 else 2000
     seed = int(words[2]) if len(words) > 2 else int(datetime.date.today().strftime("%Y%m%d"))
-    parts = [(words[0], -(-texts // PARTS), seed * PARTS + number) for number in range(PARTS)]
+    parts = [(words[0], -(-texts // PARTS), number, seed) for number in range(PARTS)]
     kinds, wrong = collections.Counter(), []
     with multiprocessing.Pool() as pool:
         for some, bad in pool.starmap(tried, parts, 1):

@@ -112,14 +112,21 @@ def long_history(size):
     return head + b"".join(lines) + b"end %d %d\n" % (number, number)
 
 
+def long_script(size):
+    """A script of one thread with at least so many bytes, most of them blanks."""
+    objects = b'{"objects": [["a", "latch seats 1 count 1 cap 16"]],'
+    return objects + b" " * size + b'"threads": [{"repeat": 1, "calls": ["a drain"]}]}'
+
+
 def results(program, scratch):
-    history, steps = scratch / "long.history", scratch / "long.steps"
+    history, steps, script = scratch / "long.history", scratch / "long.steps", scratch / "long.script"
+    script.write_bytes(long_script(STEP + 10_000_000))
     history.write_bytes(long_history(2 * STEP + 10_000_000))
     steps.write_bytes(long_steps(STEP + 10_000_000))
     for words, file in ((["replay"], steps), (["audit"], history), (["audit", "--json"], history),
                         (["explain"], history), (["explain"], steps), (["explain", "--json"], history),
                         (["summary"], history), (["summary", "--json"], history), (["draw", "--to", "20"], history),
-                        (["draw", "--page", "--to", "20"], history)):
+                        (["draw", "--page", "--to", "20"], history), (["run", "--unrecorded"], script)):
         yield from command(program, words, file)
     text = history.read_bytes()
     quiet, told = (answer(program, ["audit"], text, on_terminal=it) for it in (False, True))

@@ -332,8 +332,11 @@ static void after_fork(void) {
     pthread_mutex_unlock(&numbering);
 }
 
-/* The thread that forked is the only one that is left, with another id. */
+/* The thread that forked is the only one that is left, with another id. Others may have been about to look whether
+   the process forks. */
 static void after_fork_in_child(void) {
+    for (aqs_thread_t thread = 0; thread < count_of_places; thread++)
+        atomic_store(&place_of(thread)->has_turn, false);
     let_turns_begin();
     if (self.place) {
         self.place->process = getpid();
@@ -411,8 +414,10 @@ static COLD bool take_number(void) {
     return true;
 }
 
+/* A handler that interrupts its thread as that gives its number back takes none: it can't wait for it. */
 static bool has_number(void) {
     if (self.place) return true;
+    if (atomic_load_explicit(&self.is_inside, memory_order_relaxed)) return false;
     enter();
     bool has_one = self.place || take_number();
     leave();
@@ -1276,16 +1281,18 @@ aqs_status_t aqs_history_text(aqs_object_t *object, char *buffer, size_t size, s
     return long_ > size ? AQS_NO_SPACE : AQS_OK;
 }
 
+/* Other threads may lengthen the text between two tries. So each try has twice the spare room, until the room is
+   twice the text. */
 aqs_status_t aqs_history_write(aqs_object_t *object, FILE *file) {
     size_t size = 4096, length = 0;
-    for (;;) {
+    for (size_t share = 8;; share = share > 1 ? share / 2 : 1) {
         char *text = malloc(size);
         if (!text) return AQS_OUT_OF_MEMORY;
         aqs_status_t status = aqs_history_text(object, text, size, &length);
         if (status == AQS_OK && fwrite(text, 1, length, file) != length) status = AQS_IO_ERROR;
         free(text);
         if (status != AQS_NO_SPACE) return status;
-        size = length + length / 8;
+        size = length + length / share;
     }
 }
 

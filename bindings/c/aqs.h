@@ -200,7 +200,8 @@ typedef struct aqs_barrier aqs_barrier_t;
 typedef uint32_t aqs_thread_t;
 #define AQS_NO_THREAD UINT32_MAX
 
-/* Returns the calling thread's number, or AQS_NO_THREAD if memory lacks. */
+/* Returns the calling thread's number, or AQS_NO_THREAD if memory lacks, or in a signal handler that runs as its
+   thread ends. */
 aqs_thread_t aqs_thread_self(void);
 
 /* Interrupts a thread. If it waits in an interruptible or timed call, or if not, in its next such call, it

@@ -148,13 +148,15 @@ aqs_status_t until_moment(const std::chrono::time_point<Clock, Duration> &moment
     }
 }
 
-// The text of an object's history since its last trim.
+// The text of an object's history since its last trim. Other threads may lengthen it between two tries. So
+// each try has twice the spare room, until the room is twice the text.
 inline std::string history(aqs_object_t *object) {
     std::string text;
-    std::size_t length = 0;
+    std::size_t length = 0, share = 8;
     aqs_status_t status;
     while ((status = aqs_history_text(object, &text[0], text.size(), &length)) == AQS_NO_SPACE) {
-        text.resize(length + length / 8);
+        text.resize(length + length / share);
+        if (share > 1) share /= 2;
     }
     check(status);
     text.resize(length);

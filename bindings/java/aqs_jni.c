@@ -180,17 +180,20 @@ static void put_text(JNIEnv *env, jobjectArray into, const char *text, size_t le
     (*env)->SetObjectArrayElement(env, into, 0, array);
 }
 
+/* Other threads may lengthen the text between two tries. So each try has twice the spare room, until the room is
+   twice the text. */
 NATIVE(jint, history)(JNIEnv *env, jclass class, jobject keep, jint kind, jlong at, jobjectArray into) {
     (void)class, (void)keep;
     size_t size = 4096, length = 0;
-    for (;;) {
-        char *text = size <= INT32_MAX ? malloc(size) : NULL;
+    for (size_t share = 8;; share = share > 1 ? share / 2 : 1) {
+        char *text = length <= INT32_MAX ? malloc(size) : NULL;
         if (!text) return AQS_OUT_OF_MEMORY;
         aqs_status_t status = aqs_history_text(object_of(kind, at), text, size, &length);
         if (status == AQS_OK) put_text(env, into, text, length);
         free(text);
         if (status != AQS_NO_SPACE) return (jint)status;
-        size = length + length / 8;
+        size = length + length / share;
+        if (size > INT32_MAX) size = INT32_MAX;
     }
 }
 

@@ -236,6 +236,10 @@ def check_counts(tests):
     is_good = [(line.sleeps, line.slept) for line in waits] == [(0, 0.0)]
     is_good = is_good and waits[0].waits > 0 and waits[0].waited >= 20
     tests.count("a wait for a permit is no sleep", is_good, str(waits))
+    [text] = texts_of(first_process(tests.histories("answers-a_folded_history_gets_more_seats")))
+    listed = re.findall(r"(?m)^seat (\d+) ", text)
+    is_good = listed == [str(seat) for seat in range(17)] and seats_of(text)[1] == "17"
+    tests.count("a base lists the seats that came after it", is_good, str(listed))
     [text] = texts_of(first_process(tests.histories("answers-signals_beside_the_owner")))
     signals = re.findall(r"(?m)^\d+ 0 (signal|signalall) (\d+) (\d+)$", text)
     wanted = [("signal", "1", "1")] * 2 + [("signal", "0", "1")] * 2
@@ -270,22 +274,23 @@ def waiting(folder, judged):
     }
 
 
-def check_killed(tests, name, judged, asks, **environment):
-    """A program whose threads all wait is killed. What was written by then shows who waits for what."""
-    folder = tests.histories(f"record-killed-{asks}")
+def check_killed(tests, name, judged, asks, *words, **environment):
+    """A program is killed whose threads all wait, or those of its child. What was written by then shows who waits for
+    what."""
+    folder = tests.histories("-".join(["record-killed", str(asks), *words]))
     ours = {"AQS_RECORD": folder, "LD_PRELOAD": LIBRARY, **environment}
     run = subprocess.Popen(
-        [PROGRAM, "4", "5", "hang"], stdout=subprocess.PIPE, stderr=subprocess.DEVNULL, text=True,
-        env={**os.environ, **ours})
+        [PROGRAM, "4", "5", "hang", *words], stdout=subprocess.PIPE, stderr=subprocess.DEVNULL, text=True,
+        env={**os.environ, **ours}, start_new_session=True)
     while run.stdout.readline() not in ("hangs\n", ""):
         pass
     found, until = {}, time.monotonic() + SECONDS
     while not (found and all(found.values())) and time.monotonic() < until:
         if asks:
-            run.send_signal(signal.SIGUSR2)
+            os.killpg(run.pid, signal.SIGUSR2)
         time.sleep(0.2)
         found = waiting(folder, judged)
-    run.kill()
+    os.killpg(run.pid, signal.SIGKILL)
     run.wait()
     run.stdout.close()
     found = waiting(folder, judged)
@@ -396,5 +401,6 @@ def check(tests, judged):
     check_folded(tests)
     check_killed(tests, " when asked by SIGUSR2", judged, True, AQS_EVERY="0")
     check_killed(tests, " by itself", judged, False)
+    check_killed(tests, " in a child", judged, False, "child")
     check_cost(tests)
     check_stripped(tests)

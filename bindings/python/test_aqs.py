@@ -380,6 +380,41 @@ class Objects(Tests):
                 self.assertIsInstance(raised_in_other(call), aqs.TooManyThreads)
         self.assertEqual(in_other(lambda: self.counts(lock)), (False, 0, 0))
 
+    def test_a_history_that_grows_is_read(self):
+        # Three threads lengthen it without pause, as if they had lengthened it by half between two tries.
+        lock, is_over, told = aqs.RLock(keep_history=True), threading.Event(), [0]
+        once = _library.library.aqs_history_text
+
+        def grow(object_, buffer, size, length):
+            longer = told[-1] * 3 // 2
+            status = once(object_, buffer, 0 if size < longer else size, length)
+            if size < longer:
+                length._obj.value = max(length._obj.value, longer)
+            told.append(length._obj.value)
+            self.assertLess(len(told), 7)
+            return status
+
+        def work(_number):
+            while not is_over.is_set():
+                with lock:
+                    pass
+
+        threads, begin, counts = run_all(3, work), time.monotonic(), [0]
+        self.addCleanup(join_all, threads)
+        self.addCleanup(is_over.set)
+        while len(counts) <= 20 or not any(counts) or time.monotonic() < begin + 0.5:
+            told[:] = [0]
+            lock.trim()
+            with mock.patch.object(_library.library, "aqs_history_text", grow):
+                text = lock.history()
+            lines = text.splitlines()
+            numbers = {line.split()[0]: int(line.split()[1]) for line in lines if line[:3] in ("bas", "end")}
+            entries = sum(line[0].isdigit() for line in lines)
+            self.assertTrue(text.startswith("aqs-history ") and text.endswith("\n"))
+            self.assertTrue(lines[-1].startswith("end "))
+            self.assertEqual(numbers["end"], numbers.get("base", 0) + entries)
+            counts.append(entries)
+
     def test_event_and_barrier_have_histories(self):
         event = aqs.Event(keep_history=True)
         threads = run_all(3, lambda _number: event.wait())
@@ -907,6 +942,7 @@ class CtrlC(Tests):
                     time.sleep(0)
             except KeyboardInterrupt:
                 ended += 1
+                join_all([giver])
         return ended
 
     def test_a_permit_is_never_lost(self):
@@ -1092,6 +1128,56 @@ class CtrlC(Tests):
                 self.assertEqual(permits.available(), 5)
         self.assertRaises(ValueError, permits.release)
 
+    def test_a_release_is_made_or_was_not_begun(self):
+        run = _waiting.run
+        for kind, error in ((aqs.Lock, RuntimeError), (aqs.BoundedSemaphore, ValueError)):
+            for last in (1, 2):
+                permits, calls = kind(), []
+
+                def fail(*arguments):
+                    status = run(*arguments)
+                    calls.append(status)
+                    if len(calls) == last:
+                        raise KeyboardInterrupt
+                    return status
+
+                permits.acquire()
+                with mock.patch("aqs._semaphores.run", fail):
+                    self.assertRaises(KeyboardInterrupt, permits.release)
+                self.assertEqual((calls, permits.available()), ([0, 0], 1))
+                self.assertRaises(error, permits.release)
+                with permits:
+                    self.assertEqual(permits.available(), 0)
+            permits = kind(keep_history=True, most_entries=16)
+            permits.acquire()
+            with self.assertRaises(aqs.HistoryFull):
+                for _ in range(20):
+                    permits.acquire(False)
+            calls, last = [], 1
+            with mock.patch("aqs._semaphores.run", fail):
+                self.assertRaises(KeyboardInterrupt, permits.release)
+            permits.trim()
+            permits.release()
+            self.assertEqual(permits.available(), 1)
+
+    def test_an_interrupt_of_the_slice_before_it_stays_pending(self):
+        permits, condition, run = aqs.Semaphore(0), aqs.Condition(), _waiting.run
+
+        def fail(*arguments):
+            self.assertEqual(run(*arguments), _library.INTERRUPTED)
+            raise KeyboardInterrupt
+
+        with condition:
+            for call in (permits.acquire, condition.wait, lambda: condition.wait(LONG)):
+                for arguments in ({}, {"interruptible": True}):
+                    if call not in (permits.acquire, condition.wait) and arguments:
+                        continue
+                    aqs.interrupt(aqs.current_thread())
+                    with mock.patch("aqs._waiting.run", fail), self.assertRaises(KeyboardInterrupt):
+                        call(**arguments)
+                    self.assertTrue(aqs.interrupted())
+                    self.assertFalse(aqs.interrupted())
+
     def test_a_wait_beside_the_lock_ends_with_the_lock(self):
         lock, both = aqs.RLock(), aqs.RWLock()
         for condition, thing, side, other in (
@@ -1249,6 +1335,25 @@ class Refusals(Tests):
                 condition.notify()
             join_all(threads)
             self.assertEqual(woken, [True, True])
+
+    def test_a_gate_that_can_not_notify_stays_as_it_is(self):
+        event, action = aqs.Event(), mock.Mock()
+        barrier, woken = aqs.Barrier(2, action), []
+        threads = run_all(1, lambda _number: woken.append(event.wait(LONG)))
+        threads += run_all(1, lambda _number: woken.append(barrier.wait(LONG)))
+        until(lambda: event.waiters() == barrier.waiters() == 1)
+        full = _library.error_of(_library.HISTORY_FULL)
+        for gate, call in (
+            (event, event.set), (barrier, barrier.wait), (barrier, barrier.abort), (barrier, barrier.reset),
+        ):
+            with mock.patch.object(gate._lock, "_signal_all", side_effect=full):
+                self.assertRaises(aqs.HistoryFull, call)
+            self.assertFalse(event.is_set() or barrier.broken or action.called or woken)
+            self.assertEqual((barrier.n_waiting, event.waiters()), (1, 1))
+        event.set()
+        self.assertEqual((barrier.wait(), action.call_count), (1, 1))
+        join_all(threads)
+        self.assertEqual(sorted(woken), [0, 1])
 
     def test_a_wait_leaves_no_ticket(self):
         both = aqs.RWLock()

@@ -5,6 +5,10 @@
 
 #include "aqs_core.h"
 
+#include <linux/futex.h>
+#include <linux/membarrier.h>
+#include <sys/wait.h>
+
 enum { SEATS = 4, MANY = 5000 };
 enum { X = AQS_MODE_EXCLUSIVE, S = AQS_MODE_SHARED };
 
@@ -28,9 +32,16 @@ static aqs_call_t call;
 static aqs_step_t step;
 static char woke[40]; /* a digit for each aqs_go_on */
 static int begins, steps, looks, trims, drops, busy_looks;
+static uint32_t times[4]; /* of the last calls, the first at 0 */
+static atomic_bool is_slow, is_under_way;
 static size_t size_of_text;
 static uint8_t of_open, of_look, of_trim;
 static uint64_t folded;
+
+/* What the clock shows to players, in nanoseconds, or 0 for what it really shows. By so much it goes on with
+   each call. */
+static atomic_long clock_shows;
+static long clock_step;
 
 /* The answers to each seat: a list, whose last is given for good. Before the last the object is so often
  * busy. */
@@ -69,11 +80,18 @@ uint8_t aqs_open(aqs_header_t given, aqs_pass_t *places, size_t count) {
 void aqs_step_now(aqs_pass_t *pass, aqs_step_t made, aqs_answer_t *to_answer) {
     step = made;
     steps++;
+    if (atomic_exchange(&is_slow, false)) {
+        atomic_store(&is_under_way, true);
+        usleep(10000);
+        atomic_store(&is_under_way, false);
+    }
     answer(pass, to_answer);
 }
 void aqs_begin(aqs_pass_t *pass, const aqs_call_t *made, aqs_answer_t *to_answer) {
     call = *made;
+    if (begins < 4) times[begins] = made->time;
     begins++;
+    if (clock_step) atomic_fetch_add(&clock_shows, clock_step);
     answer(pass, to_answer);
 }
 void aqs_go_on(aqs_pass_t *pass, uint8_t how, aqs_answer_t *to_answer) {
@@ -129,16 +147,19 @@ void aqs_drop(aqs_pass_t *pass) {
     *pass = (aqs_pass_t)AQS_NO_PASS;
 }
 
-/* Counts the calls of aqs.c that let threads sleep and wake. */
-static atomic_int futex_calls;
+/* Counts the calls of aqs.c that let threads sleep and wake, and those that order what other threads do. Notes
+   where a thread slept last. */
+static atomic_int futex_calls, orders;
+static atomic_long slept_at;
 long __real_syscall(long number, long a, long b, long c, long d, long e, long f);
 long __wrap_syscall(long number, long a, long b, long c, long d, long e, long f) {
     if (number == SYS_futex) atomic_fetch_add(&futex_calls, 1);
+    if (number == SYS_futex && b == FUTEX_WAIT_BITSET_PRIVATE) atomic_store(&slept_at, a);
+    if (number == SYS_membarrier && a == MEMBARRIER_CMD_PRIVATE_EXPEDITED) atomic_fetch_add(&orders, 1);
     return __real_syscall(number, a, b, c, d, e, f);
 }
 
-/* What the clock shows to players, in nanoseconds, or 0 for what it really shows. No other clock is asked. */
-static atomic_long clock_shows;
+/* No other clock is asked. */
 static _Thread_local bool is_main;
 int __real_clock_gettime(clockid_t clock, struct timespec *now);
 int __wrap_clock_gettime(clockid_t clock, struct timespec *now) {
@@ -515,6 +536,12 @@ static void full_histories(void) {
 
 /* Texts and trims -------------------------------------------------------------------------------------- */
 
+/* A look gives a number, or leaves what was there. */
+static void gives(kind_t kind, const char *name, aqs_status_t wanted, int64_t number, int64_t was) {
+    is_status(kind, name, wanted, "a look");
+    CHECK(players[0].number == (wanted == AQS_OK ? number : was));
+}
+
 static void looks_at_histories(void) {
     open_all(&(aqs_options_t){.threads = SEATS});
     aqs_object_t *objects[] = {aqs_lock_object(lock), aqs_rwlock_object(rwlock), aqs_sem_object(semaphore),
@@ -530,12 +557,12 @@ static void looks_at_histories(void) {
             is_status(ANY, "text", wanted, "a look");
             CHECK(of_look != AQS_IS_ENTRY || (size_of_text == sizeof text - 1 && strcmp(text, "hello") == 0));
             CHECK(players[0].number == (of_look == AQS_IS_ENTRY ? 5 : 77));
-            is_status(SEM, "getvalue", wanted, "a look");
-            is_status(LATCH, "getcount", wanted, "a look");
-            is_status(LOCK, "is_locked", wanted, "a look");
-            is_status(RW, "is_write_locked", wanted, "a look");
-            is_status(ANY, "queue_length", wanted, "a look");
-            is_status(ANY, "waiters", wanted, "a look");
+            gives(SEM, "getvalue", wanted, -7, 0);
+            gives(LATCH, "getcount", wanted, 2147483647, 77);
+            gives(LOCK, "is_locked", wanted, true, true);
+            gives(RW, "is_write_locked", wanted, true, true);
+            gives(ANY, "queue_length", wanted, 255, 77);
+            gives(ANY, "waiters", wanted, 256, 77);
             of_trim = of_look;
             is_status(ANY, "trim", is_fault ? AQS_HISTORY_FULL : wanted, "a trim");
             CHECK(players[0].number == (of_look == AQS_IS_ENTRY ? (int64_t)folded : 77));
@@ -725,6 +752,65 @@ static void signals_are_cheap(void) {
     }
 }
 
+/* A thread that is woken without a signal waits on, whatever an earlier call left in errno. */
+static void stray_wakes(void) {
+    static const aqs_answer_t parked[] = {{PARKS, .interruptible = true}, ENTRY(GOT)};
+    play_name = "wakes without a signal";
+    open_all(&(aqs_options_t){.threads = SEATS, .heeds_handlers = true});
+    answer_with(1, 0, parked, 2);
+    play_lines(LOCK, "1 lock_interruptibly ..");
+    for (int i = 0; i < 3; i++) {
+        CHECK(__real_syscall(SYS_futex, atomic_load(&slept_at), FUTEX_WAKE_PRIVATE, 1, 0, 0, 0) == 1);
+        play_lines(LOCK, "1 waits");
+    }
+    play_lines(LOCK, "0 interrupt 1 = OK; 1 = OK");
+    close_all();
+}
+
+/* For how long a condition of its own asks its lock, which wakes the thread twice for others. The clock goes on
+   by so many nanoseconds with each call. */
+static const struct {
+    uint32_t time;
+    long shows, step;
+    uint32_t asked[3];
+} waits_of_conditions[] = {
+    {0, 7000000000, 0, {0, 0, 0}},
+    {1, 7000000001, 0, {1, 1, 1}},
+    {999, 7001000000, 0, {999, 999, 999}},
+    {999, 7000999999, 0, {999, 999, 999}},
+    {1, 7999999999, 0, {1, 1, 1}},
+    {1000, 7999000001, 0, {1000, 1000, 1000}},
+    {1001, 7999000000, 0, {1001, 1001, 1001}},
+    {1500, 7500000000, 0, {1500, 1500, 1500}},
+    {4294967295u, 7999999999, 0, {4294967295u, 4294967295u, 4294967295u}},
+    {10, 7995000000, 4000000, {10, 6, 2}},
+    {10, 7000000000, 4000001, {10, 6, 2}},
+    {10, 7991000000, 3999999, {10, 7, 3}},
+    {10, 7000000000, 10000000, {10, 0, 0}},
+    {10, 7999000000, 25000000, {10, 0, 0}},
+    {4294967295u, 7000000000, 2000000000, {4294967295u, 4294965295u, 4294963295u}},
+};
+
+static void times_of_conditions(void) {
+    static const aqs_answer_t woken[] = {ENTRY(GOT), ENTRY(GOT), ENTRY(MISSED)};
+    play_name = "times of conditions", play_line = "a row";
+    open_all(&(aqs_options_t){.threads = SEATS});
+    answer_with(0, 0, &got, 1);
+    make(LOCK, "lock", 0, 0);
+    for (size_t i = 0; i < sizeof waits_of_conditions / sizeof waits_of_conditions[0]; i++) {
+        answer_with(0, 0, woken, 3);
+        clock_step = waits_of_conditions[i].step, begins = 0;
+        atomic_store(&clock_shows, waits_of_conditions[i].shows);
+        make(LOCK, "timedawait", 3, waits_of_conditions[i].time);
+        bool is_good = begins == 3 && memcmp(times, waits_of_conditions[i].asked, 3 * sizeof times[0]) == 0;
+        if (!is_good) FAIL("%zu: it asks %d times: %u %u %u", i, begins, times[0], times[1], times[2]);
+        if (players[0].status != AQS_TIMED_OUT) FAIL("%zu: %s", i, aqs_status_name(players[0].status));
+    }
+    clock_step = 0;
+    atomic_store(&clock_shows, 0);
+    close_all();
+}
+
 /* Whether a pending interrupt is handed over, and taken, at each call, though the object is busy at first. */
 static void interrupts_at_entry(void) {
     for (size_t row = 0; row < sizeof waiting_calls / sizeof waiting_calls[0]; row++) {
@@ -736,6 +822,77 @@ static void interrupts_at_entry(void) {
         play_lines(ANY, is_plain ? "0 interrupted = 1" : "0 interrupted = 0");
         begins = 0;
     }
+}
+
+/* Forks ------------------------------------------------------------------------------------------------ */
+
+/* As many threads as there are places, at first and after the first growth. */
+enum { PLACES = 256, ALL_PLACES = 512 };
+static pthread_t owners[ALL_PLACES];
+static sem_t may_turn[ALL_PLACES], has_number;
+
+/* The thread of a number makes a turn when it is asked to. */
+static void *turn_once(void *given) {
+    size_t number = (size_t)given;
+    CHECK(aqs_thread_self() == number);
+    CHECK(sem_post(&has_number) == 0);
+    while (sem_wait(&may_turn[number]) != 0) continue;
+    IS(aqs_sem_release(semaphore, 1), AQS_OK);
+    return NULL;
+}
+
+static void start_owners(size_t from, size_t to) {
+    pthread_attr_t small;
+    CHECK(pthread_attr_init(&small) == 0 && pthread_attr_setstacksize(&small, 128 << 10) == 0);
+    for (size_t i = from; i < to; i++) {
+        CHECK(sem_init(&may_turn[i], 0, 0) == 0);
+        CHECK(pthread_create(&owners[i], &small, turn_once, (void *)i) == 0);
+        while (sem_wait(&has_number) != 0) continue;
+    }
+    CHECK(pthread_attr_destroy(&small) == 0);
+}
+
+/* A fork while a turn is under way: the child, where that thread is gone, begins after the turn. */
+static void fork_in_a_turn(void) {
+    int status, before = atomic_load(&orders);
+    while (!atomic_load(&is_under_way)) usleep(20);
+    pid_t child = fork();
+    CHECK(child >= 0);
+    if (child == 0) _Exit(atomic_load(&is_under_way));
+    CHECK(waitpid(child, &status, 0) == child);
+    if (!WIFEXITED(status) || WEXITSTATUS(status) != 0) FAIL("the process forks in a turn");
+    if (atomic_load(&orders) != before + 1) FAIL("nothing orders the turns before the fork");
+}
+
+static void fork_in_the_turn_of(size_t number) {
+    char line[40];
+    snprintf(line, sizeof line, "of thread %zu", number);
+    play_line = line;
+    atomic_store(&is_slow, true);
+    CHECK(sem_post(&may_turn[number]) == 0);
+    fork_in_a_turn();
+    CHECK(pthread_join(owners[number], NULL) == 0);
+}
+
+static void forks_in_turns(void) {
+    play_name = "a fork in a turn", play_line = "of thread 0";
+    open_all(&(aqs_options_t){.threads = SEATS});
+    for (int seat = 0; seat < SEATS; seat++) answer_with(seat, 0, &got, 1);
+    CHECK(sem_init(&has_number, 0, 0) == 0);
+    atomic_store(&is_slow, true);
+    ask(&players[0], SEM_release, 1, 0);
+    fork_in_a_turn();
+    CHECK(ends(&players[0], LIMIT));
+    start_owners(PLAYERS, PLACES);
+    fork_in_the_turn_of(PLACES - 1);
+    start_owners(PLACES - 1, ALL_PLACES);
+    static const size_t numbers_of_some[] = {PLAYERS, PLACES - 1, PLACES, ALL_PLACES - 1};
+    for (int i = 0; i < 4; i++) fork_in_the_turn_of(numbers_of_some[i]);
+    for (size_t i = PLAYERS + 1; i < ALL_PLACES - 1; i++) {
+        if (i == PLACES - 1 || i == PLACES) continue;
+        CHECK(sem_post(&may_turn[i]) == 0 && pthread_join(owners[i], NULL) == 0);
+    }
+    close_all();
 }
 
 int main(void) {
@@ -754,5 +911,8 @@ int main(void) {
     signals_are_cheap();
     interrupts_at_entry();
     close_all();
+    stray_wakes();
+    times_of_conditions();
+    forks_in_turns();
     return good("answers");
 }

@@ -79,7 +79,9 @@ static void go_on_in_the_child(bool may_wait) {
 /* A program may acquire its locks before each fork, and release them in both processes. `is_ours`: in this
    fork it does. The first to say so is before the library. */
 static _Thread_local bool is_ours, is_late;
+static void looks_for_turns(void);
 static void lock_before(void) {
+    looks_for_turns();
     if (is_ours && !is_late) lock_all();
 }
 static void unlock_after(void) {
@@ -112,6 +114,45 @@ static void fork_once(int way) {
     if (way == HOLDS) unlock_all();
     if (child == 0) go_on_in_the_child(way != HOLDS_NOTHING);
     ends_well(child);
+}
+
+/* While a process forks, nobody makes a turn, also one who has forked before. The one that forks looks: it may find
+   one of which the count is late. */
+
+static _Thread_local bool looks;
+static atomic_long turns;
+
+static void looks_for_turns(void) {
+    if (!looks) return;
+    long before = atomic_load(&turns);
+    usleep(5000);
+    CHECK(atomic_load(&turns) <= before + 1);
+}
+
+static void *fork_and_go_on(void *none) {
+    pid_t child = fork();
+    CHECK(child >= 0);
+    if (child == 0) _Exit(0);
+    ends_well(child);
+    for (; !atomic_load(&is_over); atomic_fetch_add(&turns, 1)) try_all();
+    return none;
+}
+
+static void holds_turns_back(void) {
+    pthread_t thread;
+    atomic_store(&is_over, false);
+    CHECK(pthread_create(&thread, NULL, fork_and_go_on, NULL) == 0);
+    looks = true;
+    for (int i = 1; i <= 5; i++) {
+        while (atomic_load(&turns) < 100 * i) usleep(100);
+        pid_t child = fork();
+        CHECK(child >= 0);
+        if (child == 0) _Exit(0);
+        ends_well(child);
+    }
+    looks = false;
+    atomic_store(&is_over, true);
+    CHECK(pthread_join(thread, NULL) == 0);
 }
 
 /* A call that gets no seat leaves nothing for which a fork waits. */
@@ -151,6 +192,7 @@ int main(void) {
     atomic_store(&is_over, true);
     for (int i = 0; i < THREADS; i++) CHECK(pthread_join(threads[i], NULL) == 0);
     for (int i = 0; i < FORKS / 3; i++) fork_once(BY_EARLY_HANDLERS);
+    holds_turns_back();
     aqs_lock_close(&lock), aqs_rwlock_close(&rwlock), aqs_sem_close(&semaphore);
     puts("forks: good");
     return 0;

@@ -419,6 +419,10 @@ static void codes() {
         {AQS_HANDLER_RAN, std::errc::interrupted},
     };
     for (const auto &it : of) CHECK(aqs::error(it.status).code() == it.code);
+    // The others mean nothing that std::errc has.
+    for (aqs_status_t it : {AQS_HISTORY_FULL, AQS_NO_SPACE, AQS_MISUSE}) {
+        CHECK(aqs::error(it).code().default_error_condition() == std::error_condition(it, aqs::category()));
+    }
 }
 
 static void errors() {
@@ -451,6 +455,7 @@ static void errors() {
           })
           == AQS_NO_SUCH_CONDITION);
     CHECK(status_of([] { aqs::latch latch(2147483648u); }) == AQS_OUT_OF_RANGE);
+    CHECK(status_of([] { aqs::latch latch(4294967295u, aqs::options()); }) == AQS_OUT_OF_RANGE);
     CHECK(status_of([] { aqs::semaphore permits(1); permits.acquire(3000000000u); }) == AQS_BAD_AMOUNT);
     // The standard's locks throw such errors too, and their users look at the code.
     try {

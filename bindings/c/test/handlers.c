@@ -34,8 +34,20 @@ static aqs_lock_t *lock;
 static void (*handler)(void);
 static long instruction, wanted, once_more = -1, handled;
 
+/* The same of a handler that interrupts another one, which is traced too. */
+static void (*inner_handler)(void);
+static long inner_instruction, inner_wanted, inner_handled;
+static bool is_in_handler;
+
 static void on_trap(int number, siginfo_t *info, void *context) {
     (void)number, (void)info;
+    if (is_in_handler) {
+        if (inner_instruction++ != inner_wanted) return;
+        ((ucontext_t *)context)->uc_mcontext.gregs[REG_EFL] &= ~(greg_t)TRAPS;
+        inner_handler();
+        inner_handled++;
+        return;
+    }
     long here = instruction++;
     if (here != wanted && here != once_more) return;
     if (here >= once_more) /* it comes to no further */
@@ -72,6 +84,7 @@ static void pair(void) {
     IS(aqs_lock_unlock(lock), AQS_OK);
 }
 static void time_up(void) { IS(aqs_sem_timedacquire(other, 1000000, 0), AQS_TIMED_OUT); }
+static void wait_a_little(void) { IS(aqs_sem_timedacquire(other, 1000000, 1), AQS_TIMED_OUT); }
 static void take_the_only_one(void) {
     int64_t before = permits_of(semaphore);
     if (before > 0) IS(aqs_sem_acquire(semaphore, (uint32_t)before), AQS_OK);
@@ -90,6 +103,7 @@ static const struct {
 } calls[] = {
     {take_one, -1, 3}, {give_one, 1, 3}, {pair, 0, 12},    {take_none, 0, 12},      {take_in_time, -1, 12},
     {look, 0, 12},     {fold, 0, 12},    {time_up, 0, 12}, {count_and_wait, 0, 12},
+    {wait_a_little, 0, 200},
 };
 
 /* Makes a call three times, each time with another handler, at one of three instructions. Returns whether it
@@ -175,6 +189,85 @@ static void interrupt_twice(void (*call)(void), int change) {
         if (handled < 2) break;
     }
     once_more = -1;
+}
+
+/* A handler is interrupted at each instruction of its release, and the other one releases another number. Each
+   release is made once. The two take turns, so that a post has the number of the other from the time before. */
+
+static uint32_t outer_n, inner_n;
+
+static void release_inner(void) { IS(aqs_sem_release(semaphore, inner_n), AQS_OK); }
+
+static void release_under_traps(void) {
+    is_in_handler = true, inner_instruction = inner_handled = 0;
+    trace();
+    aqs_status_t status = aqs_sem_release(semaphore, outer_n);
+    trace_no_more();
+    is_in_handler = false;
+    IS(status, AQS_OK);
+}
+
+static void handler_in_handler(void) {
+    handler = release_under_traps, inner_handler = release_inner, wanted = 60;
+    for (inner_wanted = 0;; inner_wanted++) {
+        int64_t before = permits_of(semaphore);
+        outer_n = 1 + inner_wanted % 2, inner_n = 3 - outer_n;
+        instruction = handled = 0;
+        trace();
+        give_one();
+        trace_no_more();
+        CHECK(handled == 1);
+        CHECK(permits_of(semaphore) == before + 1 + outer_n + inner_n * inner_handled);
+        if (inner_handled == 0) break;
+    }
+    CHECK(inner_wanted > 20);
+}
+
+/* A handler interrupts a thread at the instructions with which it ends: between the destructors of two keys, of which
+   the library's comes between. Its release is made, and its thread's number is the next thread's. */
+
+static pthread_key_t first_key, last_key;
+
+static void begin_to_end(void *none) {
+    (void)none;
+    instruction = handled = 0;
+    trace();
+}
+
+static void has_ended(void *none) {
+    trace_no_more();
+    (void)none;
+}
+
+static void *end(void *none) {
+    CHECK(aqs_thread_self() == 1);
+    CHECK(pthread_setspecific(first_key, &first_key) == 0 && pthread_setspecific(last_key, &last_key) == 0);
+    return none;
+}
+
+/* As it ends it may have no number any more. */
+static void interrupt_self_if_numbered(void) {
+    aqs_thread_t me = aqs_thread_self();
+    IS(aqs_thread_interrupt(me), me == AQS_NO_THREAD ? AQS_OUT_OF_RANGE : AQS_OK);
+}
+
+static void handlers_as_threads_end(void) {
+    static void (*const handlers[])(void) = {release_one, count_down, interrupt_self_if_numbered};
+    long at = 1;
+    for (int misses = 0; misses < 3; at++) {
+        pthread_t thread;
+        uint32_t count_before, count_after;
+        int64_t before = permits_of(semaphore);
+        IS(aqs_latch_getcount(latch, &count_before), AQS_OK);
+        handler = handlers[at % 3], wanted = at;
+        CHECK(pthread_create(&thread, NULL, end, NULL) == 0);
+        CHECK(pthread_join(thread, NULL) == 0);
+        IS(aqs_latch_getcount(latch, &count_after), AQS_OK);
+        CHECK(permits_of(semaphore) == before + (handler == release_one ? handled : 0));
+        CHECK(count_before - count_after == (handler == count_down ? handled : 0));
+        misses = handled > 0 ? 0 : misses + 1;
+    }
+    CHECK(at > 60);
 }
 
 /* A thread waits, and the handler that interrupts it releases what it waits for. */
@@ -422,12 +515,14 @@ static void without_memory(void) {
 }
 
 int main(void) {
-    struct sigaction traps = {.sa_sigaction = on_trap, .sa_flags = SA_SIGINFO};
+    struct sigaction traps = {.sa_sigaction = on_trap, .sa_flags = SA_SIGINFO | SA_NODEFER};
     struct sigaction storms = {.sa_handler = on_storm};
     const aqs_options_t options = {.threads = THREADS + 2, .history = 16};
     alarm(100);
     CHECK(sigaction(SIGTRAP, &traps, NULL) == 0 && sigaction(SIGUSR2, &storms, NULL) == 0);
+    CHECK(pthread_key_create(&first_key, begin_to_end) == 0);
     IS(aqs_sem_open(&semaphore, 1000000, &options), AQS_OK);
+    CHECK(pthread_key_create(&last_key, has_ended) == 0);
     IS(aqs_sem_open(&other, 0, &options), AQS_OK);
     IS(aqs_latch_open(&latch, 2000000000, &options), AQS_OK);
     IS(aqs_lock_open(&lock, &options), AQS_OK);
@@ -438,6 +533,8 @@ int main(void) {
     interrupt_itself(wait_in_vain, AQS_TIMED_OUT, 29);
     interrupt_itself(wait_for_one, AQS_OK, 1);
     interrupt_twice(give_one, 1);
+    handler_in_handler();
+    handlers_as_threads_end();
     signalled_while_another_is_stopped();
     many_posts(release_each_kind, KINDS - MOST_KINDS);
     many_posts(release_often, 0);

@@ -1,6 +1,10 @@
 /* histories.c: what the texts of histories say, and what the calls that write them return and leave. */
 #include "play.h"
 
+#include "aqs_core.h"
+
+#include <stdatomic.h>
+
 static const play_t plays[] = {
     {"a new lock", "lock nonfair seats 3 conditions 2 cap 77", "", ""},
     {"a new read-write lock", "rw strict seats 3 conditions 16 cap 16", "", ""},
@@ -100,6 +104,73 @@ static void files(void) {
     aqs_sem_close(semaphore);
 }
 
+/* A text that three threads lengthen without pause, as if each try found it half as long again. */
+enum { STORMS = 3, READS = 20, MOST_TRIES = 6, LEAST = 500 /* milliseconds */ };
+static atomic_bool is_over;
+static _Thread_local unsigned tries_left; /* of a thread that reads such a text */
+static _Thread_local uint64_t told;       /* the length at its last try */
+
+uint8_t __real_aqs_text_now(aqs_pass_t *pass, uint8_t *out, size_t size, uint64_t *length);
+uint8_t __wrap_aqs_text_now(aqs_pass_t *pass, uint8_t *out, size_t size, uint64_t *length) {
+    const uint64_t longer = told + told / 2;
+    uint8_t kind = __real_aqs_text_now(pass, out, size < longer ? 1 : size, length);
+    if (!tries_left || kind != AQS_IS_ENTRY) return kind;
+    CHECK(--tries_left > 0);
+    if (size < longer && *length < longer) *length = longer;
+    told = *length;
+    return kind;
+}
+
+static void *lock_without_pause(void *none) {
+    while (!is_over) {
+        IS(aqs_lock_lock(lock), AQS_OK);
+        IS(aqs_lock_unlock(lock), AQS_OK);
+    }
+    return none;
+}
+
+/* How many entries it has. Its last line says as many. */
+static unsigned long entries_of(const char *read) {
+    unsigned long first = 0, entries = 0, end = 0, calls = 0;
+    const char *base = strstr(read, "\nbase "), *last = strstr(read, "\nend ");
+    int taken = 0;
+    CHECK(strncmp(read, "aqs-history ", 12) == 0 && last);
+    if (base) first = strtoul(base + strlen("\nbase "), NULL, 10);
+    for (const char *line = read; line != last + 1; line = strchr(line, '\n') + 1) entries += *line <= '9';
+    CHECK(sscanf(last, "\nend %lu %lu%n", &end, &calls, &taken) == 2 && strcmp(last + taken, "\n") == 0);
+    CHECK(end == first + entries);
+    return entries;
+}
+
+static unsigned long read_now(void) {
+    FILE *file = tmpfile();
+    CHECK(file && aqs_history_trim(object, NULL) == AQS_OK);
+    tries_left = MOST_TRIES;
+    IS(aqs_history_write(object, file), AQS_OK);
+    tries_left = 0, told = 0;
+    long length = ftell(file);
+    char *read = calloc(1, (size_t)length + 1);
+    rewind(file);
+    CHECK(read && fread(read, 1, (size_t)length, file) == (size_t)length && fclose(file) == 0);
+    unsigned long entries = entries_of(read);
+    free(read);
+    return entries;
+}
+
+static void growing(void) {
+    const aqs_options_t options = {.when_full = AQS_REFUSE};
+    pthread_t storms[STORMS];
+    unsigned long entries = 0;
+    IS(aqs_lock_open(&lock, &options), AQS_OK);
+    object = aqs_lock_object(lock);
+    for (int i = 0; i < STORMS; i++) CHECK(pthread_create(&storms[i], NULL, lock_without_pause, NULL) == 0);
+    const int64_t until = nanoseconds(CLOCK_MONOTONIC) + LEAST * INT64_C(1000000);
+    for (int i = 0; i < READS || !entries || nanoseconds(CLOCK_MONOTONIC) < until; i++) entries += read_now();
+    is_over = true;
+    for (int i = 0; i < STORMS; i++) CHECK(pthread_join(storms[i], NULL) == 0);
+    aqs_lock_close(lock);
+}
+
 static void trims(void) {
     uint64_t count = 99;
     IS(aqs_latch_open(&latch, 9, NULL), AQS_OK);
@@ -119,6 +190,7 @@ static void trims(void) {
 static void *look(void *none) {
     buffers();
     files();
+    growing();
     trims();
     return none;
 }

@@ -112,13 +112,18 @@ PUTS(aqs_sem_getvalue, aqs_sem_t, int64_t, -10)
 PUTS(aqs_latch_getcount, aqs_latch_t, uint32_t, 11)
 PUTS(aqs_barrier_wait, aqs_barrier_t, aqs_bool_t, true)
 
-// A text for which more room is asked than it takes.
-static const std::string the_text = "a text of 20 letters";
+// A text for which more room is asked than it takes, and which others lengthen by half after each try.
+static std::string the_text = "a text of 20 letters";
+static int tries_left;
 extern "C" aqs_status_t aqs_history_text(aqs_object_t *it, char *buffer, size_t size, size_t *length) {
     note("aqs_history_text", it, {});
     *length = the_text.size();
     if (answer != AQS_OK) return answer;
-    if (size < the_text.size()) return AQS_NO_SPACE;
+    if (size < the_text.size()) {
+        CHECK(--tries_left > 0);
+        the_text += the_text.substr(the_text.size() / 2);
+        return AQS_NO_SPACE;
+    }
     the_text.copy(buffer, the_text.size());
     return AQS_OK;
 }
@@ -202,6 +207,37 @@ static void refuses(const std::function<void()> &member) {
 
 static const auto past = std::chrono::steady_clock::now();
 
+// A wait with a predicate makes its call again until the predicate holds, and none if it holds at once. `call` is that
+// of a wait, and `timed` that of one with a time, without the time.
+template <class Condition, class Guard>
+static void
+waits_for_predicates(Condition &condition, Guard &guard, const std::string &call, const std::string &timed) {
+    int looks = 0;
+    auto third = [&] { return ++looks == 3; };
+    auto makes_two = [&](const std::string &one, const std::function<bool()> &member) {
+        looks = 0, made.clear();
+        CHECK(member() && looks == 3 && made == one + "; " + one);
+        looks = 2, made.clear();
+        CHECK(member() && looks == 3 && made.empty());
+    };
+    makes_two(call, [&] { condition.wait(guard, third); return true; });
+    makes_two(timed + " 4294967295", [&] { return condition.wait_for(guard, 2000h, third); });
+    makes_two(timed + " 0", [&] { return condition.wait_until(guard, past, third); });
+}
+
+// None of the waits is made by a guard that doesn't own the lock of the condition.
+template <class Condition, class Guard>
+static void refuses_all(Condition &condition, Guard &guard) {
+    auto no = [] { return false; };
+    refuses([&] { condition.wait(guard); });
+    refuses([&] { condition.wait(guard, no); });
+    refuses([&] { condition.wait_interruptibly(guard); });
+    refuses([&] { condition.wait_for(guard, 5ms); });
+    refuses([&] { condition.wait_for(guard, 5ms, no); });
+    refuses([&] { condition.wait_until(guard, past); });
+    refuses([&] { condition.wait_until(guard, past, no); });
+}
+
 // The members that each lock has to lock it, or one side of it.
 template <class Lock>
 static void locks(Lock &lock, const std::string &kind, const std::string &side) {
@@ -234,9 +270,12 @@ static void conditions(Lock &lock, const std::string &kind) {
     CHECK(!condition.wait_for(guard, 0ms, no) && made == call + "timedwait 2 0");
     answer = AQS_OK;
     does(call + "signal 0", it, [&] { lock.condition().notify_one(); });
-    std::unique_lock<Lock> without(lock, std::defer_lock);
-    refuses([&] { condition.wait(without); });
-    refuses([&] { condition.wait_for(without, 5ms); });
+    waits_for_predicates(condition, guard, call + "wait 2", call + "timedwait 2");
+    Lock another;
+    std::unique_lock<Lock> without(lock, std::defer_lock), none, of_another(another);
+    refuses_all(condition, without);
+    refuses_all(condition, none);
+    refuses_all(condition, of_another);
 }
 
 // Those of each object.
@@ -245,7 +284,9 @@ static void histories(Object &object) {
     const void *it = object.native_handle();
     tells("aqs_history_trim", it, 8, [&] { return (long)object.trim(); });
     made.clear();
-    CHECK(object.history() == the_text && made == "aqs_history_text; aqs_history_text" && of.back() == it);
+    the_text = "a text of 20 letters";
+    tries_left = 6;
+    CHECK(object.history() == the_text && made.find("aqs_history_text; aqs_history_text") == 0 && of.back() == it);
 }
 template <class Object>
 static void questions(Object &object) {
@@ -306,9 +347,10 @@ static void condition_objects() {
     tries("aqs_cond_timedwait 0", it, [&] { return condition.wait_until(guard, past); });
     does("aqs_cond_signal", it, [&] { condition.notify_one(); });
     does("aqs_cond_signal_all", it, [&] { condition.notify_all(); });
-    std::unique_lock<Lock> without(lock, std::defer_lock);
-    refuses([&] { condition.wait(without); });
-    refuses([&] { condition.wait_for(without, 5ms); });
+    waits_for_predicates(condition, guard, "aqs_cond_wait", "aqs_cond_timedwait");
+    std::unique_lock<Lock> without(lock, std::defer_lock), none;
+    refuses_all(condition, without);
+    refuses_all(condition, none);
 }
 
 static void semaphores() {
@@ -347,9 +389,13 @@ static void latches() {
     made.clear();
     latch.arrive_and_wait(2);
     CHECK(made == "aqs_latch_count_down; aqs_latch_count_down; aqs_latch_await");
+    made.clear();
+    latch.arrive_and_wait();
+    CHECK(made == "aqs_latch_count_down; aqs_latch_await");
 }
 
 static void barriers() {
+    CHECK(aqs::barrier::max() == 256 && aqs::latch::max() == 2147483647 && aqs::semaphore::max() == 2147483647);
     aqs::barrier barrier(4);
     tells("aqs_barrier_wait", the_barrier, 1, [&] { return barrier.arrive_and_wait(); });
     histories(barrier);

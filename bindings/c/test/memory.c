@@ -18,10 +18,18 @@ static aqs_status_t open_semaphore(void **object, const aqs_options_t *options) 
 static aqs_status_t open_latch(void **object, const aqs_options_t *options) {
     return aqs_latch_open((aqs_latch_t **)object, 2, options);
 }
+static aqs_status_t open_mutex(void **object, const aqs_options_t *options) {
+    return aqs_mutex_open((aqs_mutex_t **)object, options);
+}
+static aqs_status_t open_barrier(void **object, const aqs_options_t *options) {
+    return aqs_barrier_open((aqs_barrier_t **)object, 2, options);
+}
 static void close_lock(void *object) { aqs_lock_close(object); }
 static void close_rwlock(void *object) { aqs_rwlock_close(object); }
 static void close_semaphore(void *object) { aqs_sem_close(object); }
 static void close_latch(void *object) { aqs_latch_close(object); }
+static void close_mutex(void *object) { aqs_mutex_close(object); }
+static void close_barrier(void *object) { aqs_barrier_close(object); }
 
 /* Opens with room for no allocation, for one, and so on until that is enough. Each time before, nothing
    stays. A close asks for no memory. */
@@ -139,6 +147,8 @@ int main(void) {
     opens(open_rwlock, close_rwlock);
     opens(open_semaphore, close_semaphore);
     opens(open_latch, close_latch);
+    opens(open_mutex, close_mutex);
+    opens(open_barrier, close_barrier);
     unlocks();
     folds();
     default_options();

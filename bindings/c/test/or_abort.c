@@ -21,6 +21,15 @@ static void wrunlock(void) { aqs_rwlock_wrunlock_or_abort(rwlock); }
 static void rwlock_wait(void) { aqs_rwlock_wait_or_abort(rwlock, 0); }
 static void rwlock_signal(void) { aqs_rwlock_signal_or_abort(rwlock, 0); }
 static void rwlock_signal_all(void) { aqs_rwlock_signal_all_or_abort(rwlock, 0); }
+/* The owner of a lock names a condition that the lock hasn't. */
+static void wait_at_9(void) { aqs_lock_lock_or_abort(lock), aqs_lock_wait_or_abort(lock, 9); }
+static void signal_9(void) { aqs_lock_lock_or_abort(lock), aqs_lock_signal_or_abort(lock, 9); }
+static void signal_all_9(void) { aqs_lock_lock_or_abort(lock), aqs_lock_signal_all_or_abort(lock, 9); }
+static void rwlock_wait_at_9(void) { aqs_rwlock_wrlock_or_abort(rwlock), aqs_rwlock_wait_or_abort(rwlock, 9); }
+static void rwlock_signal_9(void) { aqs_rwlock_wrlock_or_abort(rwlock), aqs_rwlock_signal_or_abort(rwlock, 9); }
+static void rwlock_signal_all_9(void) {
+    aqs_rwlock_wrlock_or_abort(rwlock), aqs_rwlock_signal_all_or_abort(rwlock, 9);
+}
 static void acquire_too_many(void) { aqs_sem_acquire_or_abort(semaphore, 3000000000u); }
 static void release_too_many(void) { aqs_sem_release_or_abort(semaphore, 3000000000u); }
 static void lock_too_often(void) {
@@ -47,6 +56,12 @@ static const struct {
     {rwlock_wait, "aqs_rwlock_wait: AQS_NOT_OWNER\n"},
     {rwlock_signal, "aqs_rwlock_signal: AQS_NOT_OWNER\n"},
     {rwlock_signal_all, "aqs_rwlock_signal_all: AQS_NOT_OWNER\n"},
+    {wait_at_9, "aqs_lock_wait: AQS_NO_SUCH_CONDITION\n"},
+    {signal_9, "aqs_lock_signal: AQS_NO_SUCH_CONDITION\n"},
+    {signal_all_9, "aqs_lock_signal_all: AQS_NO_SUCH_CONDITION\n"},
+    {rwlock_wait_at_9, "aqs_rwlock_wait: AQS_NO_SUCH_CONDITION\n"},
+    {rwlock_signal_9, "aqs_rwlock_signal: AQS_NO_SUCH_CONDITION\n"},
+    {rwlock_signal_all_9, "aqs_rwlock_signal_all: AQS_NO_SUCH_CONDITION\n"},
     {acquire_too_many, "aqs_sem_acquire: AQS_BAD_AMOUNT\n"},
     {release_too_many, "aqs_sem_release: AQS_BAD_AMOUNT\n"},
     {lock_too_often, "aqs_lock_lock: AQS_HISTORY_FULL\n"},
@@ -63,6 +78,7 @@ static void aborts(void (*call)(void), const char *says) {
     if (child == 0) {
         CHECK(dup2(ends[1], 2) == 2);
         signal(SIGABRT, SIG_DFL);
+        alarm(20);
         call();
         _Exit(0);
     }

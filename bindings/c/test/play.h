@@ -19,6 +19,7 @@
 
 #include "check.h"
 
+#include <errno.h>
 #include <fcntl.h>
 #include <pthread.h>
 #include <semaphore.h>
@@ -71,19 +72,19 @@ static aqs_status_t waiters(int64_t *n) {
     return status;
 }
 static aqs_status_t is_locked(int64_t *n) {
-    aqs_bool_t is_so = false;
+    aqs_bool_t is_so = true;
     aqs_status_t status = aqs_lock_is_locked(lock, &is_so);
     *n = is_so;
     return status;
 }
 static aqs_status_t is_write_locked(int64_t *n) {
-    aqs_bool_t is_so = false;
+    aqs_bool_t is_so = true;
     aqs_status_t status = aqs_rwlock_is_write_locked(rwlock, &is_so);
     *n = is_so;
     return status;
 }
 static aqs_status_t mutex_is_locked(int64_t *n) {
-    aqs_bool_t is_so = false;
+    aqs_bool_t is_so = true;
     aqs_status_t status = aqs_mutex_is_locked(mutex, &is_so);
     *n = is_so;
     return status;
@@ -257,6 +258,7 @@ static void *run_player(void *given) {
         me->number = 0;
         atomic_store(&me->has_begun, true);
         int64_t used = nanoseconds(CLOCK_THREAD_CPUTIME_ID), begun = nanoseconds(CLOCK_MONOTONIC);
+        errno = EINTR; /* of a call of the program's own */
         me->status = made(me->call, me->a, me->b, &me->number);
         me->took = nanoseconds(CLOCK_MONOTONIC) - begun;
         me->used = nanoseconds(CLOCK_THREAD_CPUTIME_ID) - used;

@@ -51,6 +51,10 @@ static const play_t plays[] = {
      "5 text = OK; [8: 0 unlock = OK]; 3 trim = 16; 5 lock = OK; 6 trylock = WOULD_BLOCK; "
      "5 unlock = OK", NULL},
 
+    {"a call that gets none leaves nothing behind", "semaphore fair seats 1 permits 0 cap 64",
+     "0 acquire_interruptibly 5 ..; 1 release 1 = TOO_MANY_THREADS; 1 interrupt 0 = OK; 0 = INTERRUPTED; "
+     "1 release 1 = OK; 0 getvalue = 1", "0 queued s 5; 0 left s 5 interrupt; 0 gave s 1"},
+
     /* A thread takes the seat that it had last. */
     {"the seat of a thread", "lock nonfair seats 2 conditions 1 cap 64",
      "0 lock = OK; 2 lock ..; 0 unlock = OK; 2 = OK; 2 unlock = OK; 2 lock = OK; 2 unlock = OK; 4 lock = OK; "
@@ -156,6 +160,10 @@ static const play_t plays[] = {
      "1 lock = OK; 1 await_interruptibly 0 ..; 0 lock = OK; 0 interrupt 1 = OK; 1 waits; 3 lock ..; "
      "2 notify 0 ..; 0 unlock = OK; 1 = INTERRUPTED; 1 unlock = OK; 3 = OK; 3 await 1 ..; 2 = OK; 3 waits; "
      "0 notify 1 = OK; 3 = OK; 3 unlock = OK", NULL},
+    {"a signal that gets no seat", "lock fair seats 1 conditions 1 cap 64",
+     "1 lock = OK; 1 await_interruptibly 0 ..; 0 notify 0 = TOO_MANY_THREADS; "
+     "0 notify_all 0 = TOO_MANY_THREADS; 1 waits; 0 interrupt 1 = OK; 1 = INTERRUPTED; 1 is_mine = 1; "
+     "1 unlock = OK; 0 notify 0 = OK", "0 got x 1; 0 await 0 1; 0 lapse 0 interrupt; 0 back 0 1 interrupt; 0 gave x 1"},
     {"it is free once it was left", "lock nonfair seats 3 conditions 16 cap 400",
      "[20: 1 lock = OK; 1 timedawait 0 0 = TIMED_OUT; 1 timedawait 1 0 = TIMED_OUT; 1 unlock = OK]", NULL},
     {"two that share a number", "lock fair seats 6 conditions 1 cap 64",
@@ -232,14 +240,17 @@ static void two_locks(void) {
     aqs_lock_t other = AQS_LOCK_INIT;
     play_name = "a condition with two locks";
     kind_t kind = open_part("lock fair seats 3 conditions 2 cap 64");
+    IS(aqs_cond_timedwait(&conds[0], &other, 1), AQS_NOT_OWNER);
     play_lines(kind, "1 lock = OK; 1 await 0 ..");
     IS(aqs_lock_lock(&other), AQS_OK);
     IS(aqs_cond_wait(&conds[0], &other), AQS_MISUSE);
     IS(aqs_cond_timedwait(&conds[0], &other, 5), AQS_MISUSE);
     CHECK(aqs_lock_holds(&other) == 1);
-    play_lines(kind, "0 notify 0 = OK; 1 = OK; 1 unlock = OK");
+    play_lines(kind, "0 await 0 = NOT_OWNER; 0 notify 0 = OK; 1 = OK; 1 unlock = OK");
     IS(aqs_cond_timedwait(&conds[0], &other, 1), AQS_TIMED_OUT);
     IS(aqs_lock_unlock(&other), AQS_OK);
+    for (int number = 0; number < CONDITIONS; number++)
+        CHECK(lock->object_.users_[number] == 0 && other.object_.users_[number] == 0);
     aqs_lock_close(&other);
     close_it(kind);
 }
@@ -400,6 +411,7 @@ static void at_one_address(void) {
         pair(NULL);
         if (i % 4 == 0) IS(aqs_lock_lock(&one), AQS_OK); /* and it is closed while it is held */
         aqs_lock_close(&one);
+        CHECK(!aqs_lock_is_mine(&one) && aqs_lock_holds(&one) == 0);
     }
 }
 

@@ -12,10 +12,20 @@
 #include <sched.h>
 #include <signal.h>
 #include <sys/mman.h>
+#include <sys/wait.h>
 #include <ucontext.h>
 
-enum { PLACES = 20000, OTHERS = 5, SOON = 400, CORE = 40 };
+enum { PLACES = 20000, OTHERS = 5, SOON = 400, CORE = 40, BEGINNING = 150 };
 enum { TRAPS = 0x100, BREAKPOINT = 0xcc };
+
+/* The library lets others run when it waits for another's turn. The linker puts this in the place of sched_yield. */
+static _Thread_local bool is_forker;
+static atomic_bool forker_waits, another_waits;
+int __real_sched_yield(void);
+int __wrap_sched_yield(void) {
+    atomic_store(is_forker ? &forker_waits : &another_waits, true);
+    return __real_sched_yield();
+}
 
 /* Traps ------------------------------------------------------------------------------------------------ */
 
@@ -37,7 +47,7 @@ static void note_place(uint8_t *at) {
 
 static void stay(void) {
     atomic_store(&is_stopped, true);
-    while (!atomic_load(&goes_on)) sched_yield();
+    while (!atomic_load(&goes_on)) __real_sched_yield();
 }
 
 static void on_trap(int number, siginfo_t *info, void *context) {
@@ -315,6 +325,197 @@ static void seats_everywhere(void) {
     }
 }
 
+/* Forks ------------------------------------------------------------------------------------------------ */
+
+/* Whether a fork waits for no turn any more. */
+static atomic_bool forks_now;
+
+/* Where a release is stopped that begins when the fork waits no more, or NULL. */
+static uint8_t *begins_at;
+
+/* At most for some milliseconds: a thread may also wait for the numbers. */
+static void wait_for_either(const atomic_bool *one, const atomic_bool *other) {
+    for (int looks = 0; looks < 100 && !atomic_load(one) && !atomic_load(other); looks++) usleep(20);
+}
+
+static void fork_now(void) {
+    atomic_store(&forks_now, true);
+    if (!begins_at) return;
+    set(begins_at, false);
+    atomic_store(&another_waits, false);
+    ask(&players[0], SEM_release, 1, 0);
+    wait_for_either(&is_stopped, &another_waits);
+}
+static __attribute__((constructor(101))) void before_the_library(void) {
+    CHECK(pthread_atfork(fork_now, NULL, NULL) == 0);
+}
+
+/* In the child, which has this thread alone, the semaphore is between two turns: a look ends, and a close finds
+   nobody inside. Nor does a fork of the child wait for anybody. */
+static void *fork_and_close(void *none) {
+    int64_t permits;
+    int status;
+    is_forker = true;
+    pid_t child = fork();
+    CHECK(child >= 0);
+    if (child == 0) {
+        alarm(10);
+        atomic_store(&is_set, true), unset(); /* also where a thread that isn't here was about to */
+        IS(aqs_sem_getvalue(semaphore, &permits), AQS_OK);
+        aqs_sem_close(semaphore);
+        begins_at = NULL;
+        child = fork();
+        if (child == 0) _Exit(0);
+        CHECK(child > 0 && waitpid(child, &status, 0) == child && status == 0);
+        _Exit(permits != 0 && permits != 1);
+    }
+    CHECK(waitpid(child, &status, 0) == child);
+    if (!WIFEXITED(status) || WEXITSTATUS(status) != 0) FAIL("a child ends with status %d", status);
+    return none;
+}
+
+/* A semaphore of which a thread remembers its seat, or one that is new to it. */
+static void open_semaphore(bool is_new) {
+    static aqs_sem_t remembered, others[PLACES];
+    static int count_of_others;
+    semaphore = is_new ? &others[count_of_others++] : &remembered;
+    IS(aqs_sem_init(semaphore, 0, &(aqs_options_t){.threads = 3, .history = 64}), AQS_OK);
+}
+
+static void close_semaphore(void) {
+    if (!ends(&players[0], LIMIT)) FAIL("it doesn't end");
+    play_lines(SEM, "0 getvalue = 1");
+    aqs_sem_close(semaphore);
+}
+
+/* A thread is stopped at this place of a release, and another forks. */
+static void fork_beside(void) {
+    pthread_t thread;
+    atomic_store(&forker_waits, false), atomic_store(&forks_now, false);
+    CHECK(pthread_create(&thread, NULL, fork_and_close, NULL) == 0);
+    wait_for_either(&forker_waits, &forks_now);
+    unset();
+    CHECK(pthread_join(thread, NULL) == 0);
+}
+
+static void fork_at(uint8_t *at, bool is_new) {
+    open_semaphore(is_new);
+    set(at, false);
+    ask(&players[0], SEM_release, 1, 0);
+    ends_soon(&players[0], &is_stopped, LIMIT * 1000);
+    fork_beside();
+    close_semaphore();
+}
+
+/* The same beside a thread that is stopped at this place while it takes its number. */
+static void fork_beside_number(uint8_t *at) {
+    pthread_t thread;
+    open_semaphore(false);
+    play_lines(SEM, "0 release 1 = OK");
+    atomic_store(&alive, 1), atomic_store(&numbers[0], -1);
+    set(at, false);
+    CHECK(pthread_create(&thread, NULL, take_number, &numbers[0]) == 0);
+    while (atomic_load(&numbers[0]) < 0 && !atomic_load(&is_stopped)) usleep(20);
+    fork_beside();
+    while (atomic_load(&numbers[0]) < 0) usleep(20);
+    atomic_store(&alive, 0);
+    CHECK(pthread_join(thread, NULL) == 0);
+    close_semaphore();
+}
+
+/* A process forks, and a release that another thread begins then is stopped at this place. */
+static void begin_in_a_fork(uint8_t *at, bool is_new) {
+    pthread_t thread;
+    open_semaphore(is_new);
+    begins_at = at;
+    CHECK(pthread_create(&thread, NULL, fork_and_close, NULL) == 0);
+    CHECK(pthread_join(thread, NULL) == 0);
+    begins_at = NULL;
+    unset();
+    close_semaphore();
+}
+
+static void trace_release(bool is_new) {
+    open_semaphore(is_new);
+    set((uint8_t *)aqs_sem_release, true);
+    ask(&players[0], SEM_release, 1, 0);
+    CHECK(ends(&players[0], LIMIT));
+    unset();
+    close_semaphore();
+}
+
+static void forks_everywhere(void) {
+    char shown[60];
+    play_name = "a fork beside a release", play_line = shown;
+    count_of_places = 0;
+    trace_release(true);
+    int first_of_remembered = count_of_places;
+    trace_release(false), trace_release(false);
+    for (int i = 0; i < count_of_places; i++) {
+        bool is_new = i < first_of_remembered;
+        if (!is_own(places[i])) continue;
+        snprintf(shown, sizeof shown, "stopped at %p", (void *)places[i]);
+        play_line = shown;
+        fork_at(places[i], is_new);
+        play_line = shown;
+        if (!is_new || i < BEGINNING) begin_in_a_fork(places[i], is_new);
+    }
+    play_name = "a fork beside a number", play_line = "at each place";
+    count_of_places = 0;
+    take_two((uint8_t *)aqs_thread_self, true);
+    for (int i = 0; i < count_of_places; i++) {
+        if (is_own(places[i])) fork_beside_number(places[i]);
+    }
+}
+
+/* Conditions ------------------------------------------------------------------------------------------- */
+
+/* Whether a place is in aqs_over.c, which the linker puts behind aqs.c. */
+static bool is_over(const uint8_t *at) {
+    return at >= (uint8_t *)aqs_history_trim && at < (uint8_t *)aqs_barrier_wait;
+}
+
+static aqs_lock_t many, one; /* many conditions, and one */
+
+/* A wait on a condition is stopped at this place, and another thread waits on it with another lock, of which it
+   gets another number. Afterwards no number of either is in use. */
+static void wait_with_two(uint8_t *at, bool is_trace) {
+    lock = &many;
+    play_lines(LOCK, "0 lock = OK");
+    set(at, is_trace);
+    ask(&players[0], LOCK_timedawait, 0, 0);
+    ends_soon(&players[0], is_trace ? NULL : &is_stopped, LIMIT * 1000);
+    lock = &one;
+    play_lines(LOCK, "1 lock = OK");
+    ask(&players[1], LOCK_timedawait, 0, 0);
+    if (atomic_load(&is_stopped)) CHECK(ends(&players[1], LIMIT));
+    unset();
+    for (int i = 0; i < 2; i++) {
+        if (!ends(&players[i], LIMIT)) FAIL("thread %d doesn't end", i);
+        if (players[i].status != AQS_TIMED_OUT && players[i].status != AQS_MISUSE)
+            FAIL("thread %d gets %s", i, aqs_status_name(players[i].status));
+    }
+    play_lines(LOCK, "1 unlock = OK");
+    lock = &many;
+    play_lines(LOCK, "0 unlock = OK");
+    CHECK(!conds[0].lock_ && !conds[0].first_ && conds[0].waiters_ == 0 && one.object_.users_[0] == 0);
+    for (int number = 0; number < AQS_CONDITIONS; number++) CHECK(many.object_.users_[number] == 0);
+}
+
+static void conditions_everywhere(void) {
+    play_name = "aqs_cond_timedwait";
+    count_of_places = 0;
+    int count = 0;
+    IS(aqs_lock_init(&many, &(aqs_options_t){.threads = 4, .conditions = AQS_CONDITIONS}), AQS_OK);
+    IS(aqs_lock_init(&one, &(aqs_options_t){.threads = 4, .conditions = 1}), AQS_OK);
+    wait_with_two((uint8_t *)aqs_cond_timedwait, true);
+    for (int i = 0; i < count_of_places; i++) {
+        if (is_over(places[i])) wait_with_two(places[i], false), count++;
+    }
+    CHECK(count > 100);
+    aqs_lock_close(&many), aqs_lock_close(&one);
+}
+
 int main(void) {
     alarm(100);
     has_own_pages = true;
@@ -322,6 +523,8 @@ int main(void) {
     prepare();
     numbers_everywhere();
     seats_everywhere();
+    forks_everywhere();
+    conditions_everywhere();
     for (size_t i = 0; i < sizeof rows / sizeof rows[0]; i++) stop_everywhere(&rows[i]);
     return good("stops");
 }

@@ -8,15 +8,26 @@
 #include <pthread.h>
 #include <stdatomic.h>
 #include <string.h>
+#include <sys/mman.h>
 #include <sys/wait.h>
 
 int __real_pthread_setspecific(pthread_key_t key, const void *value);
+void *__real_mmap(void *at, size_t size, int protection, int flags, int file, off_t offset);
 
 /* Whether a key can be given a value. */
 static atomic_bool lacks_values;
 
 int __wrap_pthread_setspecific(pthread_key_t key, const void *value) {
     return atomic_load(&lacks_values) ? ENOMEM : __real_pthread_setspecific(key, value);
+}
+
+/* Whether more places can be had. */
+static atomic_bool lacks_places;
+
+void *__wrap_mmap(void *at, size_t size, int protection, int flags, int file, off_t offset) {
+    if (!atomic_load(&lacks_places)) return __real_mmap(at, size, protection, flags, file, offset);
+    errno = ENOMEM;
+    return MAP_FAILED;
 }
 
 /* More threads, one after the other, than there are places at first. None has a greater number than that. */
@@ -204,6 +215,43 @@ static void as_many_as_there_are(void) {
     aqs_lock_close(lock);
 }
 
+/* One more, where no memory for places is to be had: its calls say so, and change nothing. When there is memory
+   again, it gets the next number. */
+static void *come_without_memory(void *none) {
+    aqs_sem_t semaphore = AQS_SEM_INIT(0);
+    int64_t permits = 77;
+    CHECK(aqs_thread_self() == AQS_NO_THREAD && !aqs_thread_interrupted());
+    IS(aqs_lock_lock(lock), AQS_OUT_OF_MEMORY);
+    IS(aqs_lock_timedlock(lock, 1), AQS_OUT_OF_MEMORY);
+    IS(aqs_lock_trylock(lock), AQS_OUT_OF_MEMORY);
+    IS(aqs_lock_unlock(lock), AQS_OUT_OF_MEMORY);
+    IS(aqs_sem_release(&semaphore, 1), AQS_OUT_OF_MEMORY);
+    IS(aqs_sem_getvalue(&semaphore, &permits), AQS_OUT_OF_MEMORY);
+    CHECK(!aqs_lock_is_mine(lock) && permits == 77);
+    IS(aqs_thread_interrupt(PLACES), AQS_OUT_OF_RANGE);
+    atomic_store(&lacks_places, false);
+    IS(aqs_lock_lock(lock), AQS_OK);
+    CHECK(aqs_thread_self() == PLACES);
+    IS(aqs_thread_interrupt(PLACES), AQS_OK);
+    CHECK(aqs_thread_interrupted());
+    IS(aqs_lock_unlock(lock), AQS_OK);
+    return none;
+}
+
+static void without_memory_for_more(void) {
+    pthread_t staying[PLACES];
+    open_lock();
+    CHECK(pthread_barrier_init(&are_there, NULL, PLACES + 1) == 0);
+    CHECK(pthread_barrier_init(&are_over, NULL, PLACES + 1) == 0);
+    for (int i = 0; i < PLACES; i++) CHECK(pthread_create(&staying[i], NULL, stay, NULL) == 0);
+    pthread_barrier_wait(&are_there);
+    atomic_store(&lacks_places, true);
+    run(come_without_memory, NULL);
+    pthread_barrier_wait(&are_over);
+    for (int i = 0; i < PLACES; i++) CHECK(pthread_join(staying[i], NULL) == 0);
+    aqs_lock_close(lock);
+}
+
 /* More than three times as many threads live at a time. Each has a number of its own, by which it is
    reached. */
 
@@ -294,6 +342,7 @@ static const struct {
     {"without a key", without_a_key},
     {"without a value", without_a_value},
     {"as many as there are", as_many_as_there_are},
+    {"without memory for more", without_memory_for_more},
     {"many more than there are", many_more_than_there_are},
     {"an owner that ended", an_owner_that_ended},
     {"in a child", in_a_child},

@@ -15,6 +15,7 @@
 #include <stdio.h>
 #include <stdlib.h>
 #include <string.h>
+#include <sys/prctl.h>
 #include <sys/wait.h>
 #include <time.h>
 #include <unistd.h>
@@ -682,10 +683,12 @@ static void *rest(void *nothing) {
     return nothing;
 }
 
-/* All threads of the program hold a signal up, so no handler runs. The program rests, and takes no processor. */
+/* All threads of the program hold a signal up, so no handler runs. The program rests, and takes no processor. With the
+   usual slack of timers a thread that sleeps until now would rest 50 microseconds each time, and so take little too. */
 static void a_program_rests(void) {
     struct timespec from, to;
     sigset_t held_up, pending;
+    CHECK(prctl(PR_SET_TIMERSLACK, 1) == 0);
     use(&mutex);
     handle(SIGUSR1, note_handler, 0);
     pthread_t thread = started(rest, NULL);
@@ -696,7 +699,7 @@ static void a_program_rests(void) {
     usleep(300000);
     CHECK(clock_gettime(CLOCK_PROCESS_CPUTIME_ID, &to) == 0 && sigpending(&pending) == 0);
     double took = (double)(to.tv_sec - from.tv_sec) * 1e3 + (double)(to.tv_nsec - from.tv_nsec) / 1e6;
-    printf("%d handlers, pending %d, %s\n", gone, sigismember(&pending, SIGUSR1), took < 25 ? "asleep" : "awake");
+    printf("%d handlers, pending %d, %s\n", gone, sigismember(&pending, SIGUSR1), took < 10 ? "asleep" : "awake");
     is_over = true;
     join(thread);
 }
@@ -1035,6 +1038,30 @@ static void full_histories_leave_no_memory(void) {
     else printf("%ld kB more\n", more);
 }
 
+static void *lock_recursive(void *nothing) {
+    come++;
+    CHECK(pthread_mutex_lock(&recursive) == 0);
+    gone++;
+    CHECK(pthread_mutex_unlock(&recursive) == 0);
+    return nothing;
+}
+
+/* A thread waits while the owner makes more entries than are kept: they are folded. Then more threads come than the
+   mutex has seats. */
+static void a_folded_history_gets_more_seats(void) {
+    for (int count = 1; count <= 8; count += 7) {
+        pthread_t threads[8];
+        come = 0;
+        CHECK(pthread_mutex_lock(&recursive) == 0);
+        for (int i = 0; i < count; i++) threads[i] = started(lock_recursive, NULL);
+        wait_for(&come, count);
+        for (int i = 0; count == 1 && i < 5000; i++) use(&recursive);
+        CHECK(pthread_mutex_unlock(&recursive) == 0);
+        for (int i = 0; i < count; i++) join(threads[i]);
+    }
+    printf("%d have gone\n", gone);
+}
+
 #define CASE(name) {#name, name}
 static const struct {
     const char *name;
@@ -1066,6 +1093,7 @@ static const struct {
     CASE(uses_a_mutex_elsewhere),
     CASE(objects_of_other_kinds),
     CASE(full_histories_leave_no_memory),
+    CASE(a_folded_history_gets_more_seats),
 };
 
 int main(int argc, char **argv) {

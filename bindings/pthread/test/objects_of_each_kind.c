@@ -1,9 +1,10 @@
-/* A program with an object of each kind: objects_of_each_kind THREADS ROUNDS [fork | hang]. What it prints
-   depends on neither the threads' order nor the time, so that it prints the same with and without the
+/* A program with an object of each kind: objects_of_each_kind THREADS ROUNDS [fork | hang [child]]. What it
+   prints depends on neither the threads' order nor the time, so that it prints the same with and without the
    recorder. Each fact is checked; a wait that nobody ends is ended by the alarm.
 
    fork: the program forks while its threads run and it holds a lock; the child goes on with all objects.
-   hang: when all is done it prints a line, and its threads wait for good, so that it can be killed. */
+   hang: when all is done it prints a line, and its threads wait for good, so that it can be killed; with child,
+   those of a child do. */
 #define _GNU_SOURCE
 #include "check.h"
 
@@ -14,6 +15,7 @@
 #include <semaphore.h>
 #include <signal.h>
 #include <stdatomic.h>
+#include <stdbool.h>
 #include <stdio.h>
 #include <stdlib.h>
 #include <string.h>
@@ -462,9 +464,13 @@ static void *wait_for_good(void *which) {
     return NULL;
 }
 
-static void hang(void) {
+static void hang(bool in_child) {
     pthread_t made;
     alarm(0);
+    fflush(stdout);
+    pid_t child = in_child ? fork() : 0;
+    CHECK(child >= 0);
+    while (child) pause();
     pthread_mutex_lock(&plain);
     for (long i = 0; i < threads; i++) CHECK(pthread_create(&made, NULL, wait_for_good, (void *)i) == 0);
     printf("hangs\n");
@@ -483,6 +489,6 @@ int main(int argc, char **argv) {
     test_cancelled();
     test_left_out();
     if (argc > 3 && !strcmp(argv[3], "fork")) test_fork();
-    if (argc > 3 && !strcmp(argv[3], "hang")) hang();
+    if (argc > 3 && !strcmp(argv[3], "hang")) hang(argc > 4);
     return 0;
 }

@@ -10,12 +10,14 @@
 #include <semaphore.h>
 #include <signal.h>
 #include <stdatomic.h>
+#include <stdbool.h>
 #include <stdio.h>
 #include <stdlib.h>
 #include <string.h>
 #include <sys/wait.h>
 #include <threads.h>
 #include <time.h>
+#include <ucontext.h>
 #include <unistd.h>
 
 static pthread_mutex_t mutex = PTHREAD_MUTEX_INITIALIZER;
@@ -441,6 +443,109 @@ static void trylock_beside_signals(void) {
     printf("busy %d times\n", busy);
 }
 
+/* The owner of the mutex is stopped at an instruction of a call, at a later one in each round: the processor traps
+   after each. There another thread signals without the mutex, and a third one answers. This is for x86-64, as the
+   recorder is. */
+enum { TRAPS = 0x100, STEP = 20 };
+static pthread_cond_t answer = PTHREAD_COND_INITIALIZER;
+static atomic_int asked_for, signalled_for, answered_for;
+static atomic_bool is_past_end;
+static int instruction, wanted;
+
+static bool is_past(const struct timespec *moment) {
+    struct timespec now;
+    CHECK(clock_gettime(CLOCK_REALTIME, &now) == 0);
+    return now.tv_sec == moment->tv_sec ? now.tv_nsec > moment->tv_nsec : now.tv_sec > moment->tv_sec;
+}
+
+/* The signal may have to wait for the stopped thread. */
+static void on_trap(int number, siginfo_t *info, void *context) {
+    (void)number, (void)info;
+    if (++instruction != wanted) return;
+    ((ucontext_t *)context)->uc_mcontext.gregs[REG_EFL] &= ~(greg_t)TRAPS;
+    if (is_past_end) return; /* it has been woken */
+    struct timespec soon = after(CLOCK_REALTIME, 2);
+    int round = ++asked_for;
+    while (signalled_for < round && !is_past(&soon)) sched_yield();
+}
+
+static inline void trace(void) { __asm__ volatile("pushfq; orl $0x100, (%%rsp); popfq" ::: "cc", "memory"); }
+static inline void trace_no_more(void) {
+    __asm__ volatile("pushfq; andl $0xfffffeff, (%%rsp); popfq" ::: "cc", "memory");
+}
+
+/* If nobody asks for long after an answer, the owner waits and has not come to that instruction. Then it is woken. */
+static void *signal_each(void *nothing) {
+    for (int round = 0; !is_past_end; round = signalled_for) {
+        struct timespec late = after(CLOCK_REALTIME, 600);
+        bool is_late = false;
+        while (asked_for == round && !is_past_end && !is_late) {
+            sched_yield();
+            is_late = answered_for == round && is_past(&late);
+        }
+        if (asked_for > round) {
+            CHECK(pthread_cond_signal(&condition) == 0);
+            signalled_for = round + 1;
+        } else if (is_late) {
+            CHECK(pthread_mutex_lock(&mutex) == 0);
+            is_past_end = true;
+            CHECK(!pthread_cond_signal(&answer) && !pthread_mutex_unlock(&mutex));
+        }
+    }
+    return nothing;
+}
+
+static void *answer_each(void *nothing) {
+    CHECK(pthread_mutex_lock(&mutex) == 0);
+    atomic_store(&is_done, 1);
+    while (!is_past_end) {
+        CHECK(pthread_cond_wait(&condition, &mutex) == 0);
+        atomic_store(&answered_for, asked_for);
+        CHECK(pthread_cond_signal(&answer) == 0);
+    }
+    CHECK(pthread_mutex_unlock(&mutex) == 0);
+    return nothing;
+}
+
+/* Whether the answer comes, for which the owner waits on a condition, or after it has unlocked. */
+static bool is_answered(bool waits) {
+    struct timespec late = after(CLOCK_REALTIME, 5000);
+    int error = 0;
+    instruction = 0;
+    trace();
+    if (waits) error = pthread_cond_timedwait(&answer, &mutex, &late);
+    else CHECK(pthread_mutex_unlock(&mutex) == 0);
+    trace_no_more();
+    while (!waits && answered_for < asked_for && !is_past_end && !is_past(&late)) sched_yield();
+    CHECK(waits || pthread_mutex_lock(&mutex) == 0);
+    while (waits && answered_for < asked_for && !is_past_end && !error)
+        error = pthread_cond_timedwait(&answer, &mutex, &late);
+    bool is_good = is_past_end || (!error && answered_for == asked_for);
+    if (instruction < wanted) is_past_end = true;
+    return is_good;
+}
+
+/* A signal comes as the owner begins to wait on another condition, or unlocks: it is not lost. */
+static void a_signal_comes_as_the_owner_leaves(void) {
+    struct sigaction traps = {.sa_sigaction = on_trap, .sa_flags = SA_SIGINFO};
+    CHECK(sigaction(SIGTRAP, &traps, NULL) == 0);
+    for (int waits = 0; waits < 2; waits++) {
+        struct timespec enough = after(CLOCK_REALTIME, 10000);
+        bool is_good = true;
+        is_done = asked_for = signalled_for = answered_for = 0;
+        is_past_end = false;
+        pthread_t answers = started(answer_each, NULL), signals = started(signal_each, NULL);
+        while (!is_done) usleep(1000);
+        CHECK(pthread_mutex_lock(&mutex) == 0);
+        for (wanted = 1; is_good && !is_past_end && !is_past(&enough); wanted += STEP) is_good = is_answered(waits);
+        is_past_end = true;
+        CHECK(!pthread_cond_signal(&condition) && !pthread_mutex_unlock(&mutex));
+        printf("%s\n", is_good ? "answered" : "late");
+        join(answers);
+        join(signals);
+    }
+}
+
 /* More threads wait than an object of the core has seats. Their owner wakes them all at once, or one by one. */
 static int opened;
 
@@ -534,6 +639,37 @@ static void children_fork(void) {
     printf("status %d\n", WEXITSTATUS(status));
 }
 
+static pthread_mutex_t shelf[200];
+
+static void *use_shelf(void *nothing) {
+    for (int i = 0; i < 200; i++) CHECK(!pthread_mutex_lock(&shelf[i]) && !pthread_mutex_unlock(&shelf[i]));
+    return nothing;
+}
+
+/* Children are made while another thread of the recorder writes what their parent did. */
+static void children_are_made_meanwhile(void) {
+    struct sigaction found;
+    int status, ended = 0;
+    CHECK(sigaction(SIGUSR2, NULL, &found) == 0);
+    if (found.sa_handler == SIG_DFL) handle(SIGUSR2, do_nothing);
+    for (int i = 0; i < 5; i++) {
+        join(started(use_shelf, NULL));
+        CHECK(raise(SIGUSR2) == 0);
+        usleep(500 + 1000 * i);
+        fflush(stdout);
+        pid_t child = fork();
+        CHECK(child >= 0);
+        if (child == 0) {
+            alarm(20);
+            use_mutex();
+            _exit(9);
+        }
+        CHECK(waitpid(child, &status, 0) == child);
+        ended += WIFEXITED(status) && WEXITSTATUS(status) == 9;
+    }
+    printf("%d of 5 have ended\n", ended);
+}
+
 /* Read-write locks --------------------------------------------------------------------------------------- */
 
 static void *find_shared(void *lock) {
@@ -591,16 +727,28 @@ static void reader_comes_while_a_writer_waits(void) {
     }
 }
 
-/* A moment before 1970 is over, as any that has passed. */
+/* A moment before 1970 is over, as any that has passed, by whichever clock. */
 static void *wait_until_1969(void *lock) {
+    static const clockid_t clocks[] = {CLOCK_REALTIME, CLOCK_MONOTONIC};
     static const struct timespec long_ago = {-1, 0};
+    pthread_mutex_t own = PTHREAD_MUTEX_INITIALIZER;
+    CHECK(pthread_mutex_lock(&own) == 0);
     printf("mutex: %s", strerrorname_np(pthread_mutex_timedlock(&mutex, &long_ago)));
     printf(", to read: %s\n", strerrorname_np(pthread_rwlock_timedrdlock(lock, &long_ago)));
+    for (int i = 0; i < 2; i++) {
+        printf("clock %d: mutex: %s", i, strerrorname_np(pthread_mutex_clocklock(&mutex, clocks[i], &long_ago)));
+        printf(", to read: %s", strerrorname_np(pthread_rwlock_clockrdlock(lock, clocks[i], &long_ago)));
+        printf(", to write: %s", strerrorname_np(pthread_rwlock_clockwrlock(lock, clocks[i], &long_ago)));
+        printf(", condition: %s", strerrorname_np(pthread_cond_clockwait(&condition, &own, clocks[i], &long_ago)));
+        printf(", permit: %s\n", strerrorname_np(sem_clockwait(&nothing_comes, clocks[i], &long_ago) ? errno : 0));
+    }
+    CHECK(pthread_mutex_unlock(&own) == 0);
     return NULL;
 }
 
 static void waits_until_long_ago(void) {
     pthread_rwlock_t lock = PTHREAD_RWLOCK_INITIALIZER;
+    CHECK(sem_init(&nothing_comes, 0, 0) == 0);
     CHECK(pthread_mutex_lock(&mutex) == 0 && pthread_rwlock_wrlock(&lock) == 0);
     join(started(wait_until_1969, &lock));
     CHECK(pthread_rwlock_unlock(&lock) == 0 && pthread_mutex_unlock(&mutex) == 0);
@@ -876,9 +1024,11 @@ static const struct {
     CASE(wait_returns_the_errors_of_its_mutex),
     CASE(has_locks_of_other_kinds),
     CASE(trylock_beside_signals),
+    CASE(a_signal_comes_as_the_owner_leaves),
     CASE(an_owner_wakes_many),
     CASE(children_wait_together),
     CASE(children_fork),
+    CASE(children_are_made_meanwhile),
     CASE(reader_asks_to_write),
     CASE(reader_comes_while_a_writer_waits),
     CASE(waits_until_long_ago),

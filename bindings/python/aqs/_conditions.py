@@ -7,7 +7,7 @@ So no notify is lost and no wait ends without one.
 """
 import operator
 from collections import deque
-from typing import Any, Callable, Deque, Optional, TypeVar
+from typing import Any, Callable, Deque, List, Optional, TypeVar
 
 from ._library import INTERRUPTED, OK, TIMED_OUT, NotOwner, error_of
 from ._waiting import Deferred, is_up, moment
@@ -86,9 +86,10 @@ class Queue:
             pass
 
     def _sleep(self, lock: Any, ticket: Ticket, until: Optional[float], interruptible: bool) -> bool:
-        with Deferred() as deferred:
+        ran: List[int] = []
+        with Deferred(ran) as deferred:
             while True:
-                status = lock._await(self._number, until, interruptible)
+                status = lock._await(ran, self._number, until, interruptible)
                 if status not in (OK, TIMED_OUT, INTERRUPTED):
                     raise error_of(status)
                 if status == INTERRUPTED and (ticket.is_marked or not interruptible):

@@ -40,8 +40,8 @@ class Event(Gate):
     def set(self) -> None:
         """Sets the flag, and lets all who wait go on."""
         with self._cond:
-            self._flag = True
             self._cond.notify_all()
+            self._flag = True
 
     def clear(self) -> None:
         with self._cond:
@@ -96,7 +96,14 @@ class Barrier(Gate):
                 self._wait(met, until)
             return index
 
+    # Those who wait go on when the last one gives the lock up. So a full history may be told before anything
+    # changes.
     def _meet(self, met: _Generation) -> None:
+        try:
+            self._cond.notify_all()
+        except BaseException:
+            met.count -= 1
+            raise
         try:
             if self._action:
                 self._action()
@@ -105,7 +112,6 @@ class Barrier(Gate):
             raise
         met.is_over = True
         self._generation = _Generation()
-        self._cond.notify_all()
 
     def _wait(self, met: _Generation, until: Optional[float]) -> None:
         try:
@@ -119,14 +125,14 @@ class Barrier(Gate):
             raise BrokenBarrierError
 
     def _break(self, met: _Generation) -> None:
-        met.is_broken = True
         self._cond.notify_all()
+        met.is_broken = True
 
     def reset(self) -> None:
         """Lets those who wait go with BrokenBarrierError, and begins anew."""
         with self._cond:
-            met, self._generation = self._generation, _Generation()
-            self._break(met)
+            self._break(self._generation)
+            self._generation = _Generation()
 
     def abort(self) -> None:
         """Breaks the barrier until it is reset: those who wait, and who come, get BrokenBarrierError."""

@@ -162,10 +162,9 @@ class Exclusive(Side, Waitable):
         condition = number(condition, 0, len(self._numbers.users) - 1, "condition")
         return self._queues.setdefault(condition, Queue(condition))
 
-    def _await(self, condition: int, until: Optional[float], interruptible: bool) -> int:
+    def _await(self, ran: List[int], condition: int, until: Optional[float], interruptible: bool) -> int:
         """One wait of the library, which has given the lock up and taken it again when it returns."""
         count = self._count
-        ran: List[int] = []
         try:
             self._set_count(0)
             return turn(ran, self._waits, (self._opened.handle, condition), until, interruptible)

@@ -65,7 +65,9 @@ class Opened:
         self._handle = None
 
     def history(self) -> str:
-        size, length = 4096, ctypes.c_size_t()
+        # Other threads may lengthen the text between two tries. So each try has twice the spare room, until
+        # the room is twice the text.
+        size, share, length = 4096, 8, ctypes.c_size_t()
         while True:
             buffer = ctypes.create_string_buffer(size)
             handle = self.handle
@@ -74,7 +76,7 @@ class Opened:
             if status != NO_SPACE:
                 check(status)
                 return buffer.raw[: length.value].decode()
-            size = length.value + length.value // 8
+            size, share = length.value + length.value // share, max(share // 2, 1)
 
     def policy(self) -> Policy:
         handle = self.handle

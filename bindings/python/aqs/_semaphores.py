@@ -77,16 +77,20 @@ class Bounded(Permits):
         self._give(n)
 
     def _return(self, n: int) -> bool:
-        """Whether n permits were out. They are free again."""
+        """Whether n permits were out. They are free again, also after a Ctrl-C between the two calls."""
         taken: List[int] = []
+        given: List[int] = []
+        give = (given, library.aqs_sem_release, self._opened.handle, n)
         try:
             if run(taken, library.aqs_sem_tryacquire, self._out.handle, n) == WOULD_BLOCK:
                 return False
             check(taken[-1])
-            self._give(n)
+            check(run(*give))
             return True
-        except Exception:
-            if taken[-1:] == [OK]:
+        except BaseException:
+            if taken[-1:] == [OK] and not given:
+                run(*give)
+            if given and given[-1] != OK:
                 check(library.aqs_sem_release(self._out.handle, n))
             raise
 

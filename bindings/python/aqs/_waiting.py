@@ -89,10 +89,11 @@ def is_up(until: Optional[float]) -> bool:
 
 
 class Deferred:
-    """An interrupt that ended a slice of a call that no interrupt may end. It is pending again afterwards."""
+    """An interrupt that ended a slice of a call that no interrupt may end. It is pending again afterwards.
+    If Ctrl-C comes right after the slice, the last of `ran` tells of the interrupt."""
 
-    def __init__(self) -> None:
-        self._is_due = False
+    def __init__(self, ran: List[int]) -> None:
+        self._ran, self._is_due = ran, False
 
     def note(self) -> None:
         self._is_due = True
@@ -100,15 +101,16 @@ class Deferred:
     def __enter__(self) -> "Deferred":
         return self
 
-    def __exit__(self, *_error: object) -> None:
-        if self._is_due:
+    def __exit__(self, kind: Any, *_error: object) -> None:
+        is_told = kind is None or issubclass(kind, _library.Interrupted)
+        if self._is_due or not is_told and self._ran[-1:] == [INTERRUPTED]:
             library.aqs_thread_interrupt(library.aqs_thread_self())
 
 
 def wait(ran: List[int], calls: Calls, arguments: Any, until: Optional[float], interruptible: bool) -> int:
     """Turns until the call has what it asks for, its time is up or an interrupt may end it. Returns the
     status, which is the last of `ran`."""
-    with Deferred() as deferred:
+    with Deferred(ran) as deferred:
         while True:
             status = turn(ran, calls, arguments, until, interruptible)
             if status == INTERRUPTED and not interruptible:

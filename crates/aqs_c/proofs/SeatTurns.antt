@@ -15,16 +15,16 @@ use Rattle.aqs_c.specs.Standing.{IsSeat, StandsBy}
 abbrev any_deed : Deed → Type 0
 any_deed d = Unit {0}
 
-unparked_any : (named : Option ℕ) (seen : Point) → IsUnparked any_deed named seen
-unparked_any None seen = tt
-unparked_any (Some j) seen = tt
+unparked_any : (lock : LockId) (named : Option ℕ) (seen : Point) → IsUnparked any_deed lock named seen
+unparked_any lock None seen = tt
+unparked_any lock (Some j) seen = tt
 
 waits_begun : (old new : Shown) (q : Request) (how : How) (moment : ℕ) (was : Bool) (t : Turn) (w : Waiting) →
     IsBegun old q how moment was t new → IsSame old new → t.next ≡ next.Waits w → Waits new.seen new.seat
 waits_begun old new q how moment true t w b same is = absurd (never_waits old new q how moment t w b is)
 waits_begun old new q how moment false t w b same is =
     waits_now any_deed old new q how (λ minds. tt)
-    (begun_waits any_deed old new q how moment t w b (unparked_any t.named new.seen) is).0 same
+    (begun_waits any_deed old new q how moment t w b (unparked_any old.lock t.named new.seen) is).0 same
 
 pub stands_begun : (old new : Shown) (q : Request) (how : How) (moment : ℕ) (was : Bool) (t : Turn) →
     IsBegun old q how moment was t new → IsSame old new → StandsBy (waiting_in t.next) new

@@ -1,26 +1,22 @@
 //! The ledger's answers to the questions of a decision.
 
-ghost use Rattle.std.specs.Prelude.{◌≡◌, ◌<◌, List, length};
-ghost use Rattle.history.specs.Could.{is_none_or, is_reentrant, is_seat, line_blocks};
-ghost use Rattle.history.specs.Counts.{counts};
-ghost use Rattle.history.specs.Line.{first_mode};
+ghost use Rattle.std.specs.Prelude.{◌≡◌, List, true};
+ghost use Rattle.deciding.specs.Claim.{IsClaim};
+ghost use Rattle.deciding.specs.ObjectState.{HasSeat};
+ghost use Rattle.history.specs.Could.{is_none_or, is_seat};
+ghost use Rattle.history.specs.Counts.{counts, free};
+ghost use Rattle.history.specs.Object.{is_semaphore};
 ghost use Rattle.history.specs.Start.{Start};
 ghost use Rattle.history.specs.declared.entry.Entry.{Entry};
 ghost use Rattle.audit.specs.Ledger.{LedgerStand};
 
 use crate::ledger::Ledger;
+use deciding::claim::Claim;
 use deciding::situation::ObjectState;
 use deciding::sleep::LastSleep;
 use history::arrival::Arrival;
 use history::entry::Mode;
 use history::header::{Header, Object};
-use history::limits::{MOST_HOLDS, MOST_READ_WRITE_HOLDS};
-
-/// The most holds of a lock by one seat.
-const MAX_HOLDS: u128 = MOST_HOLDS as u128;
-
-/// The most write holds of a read-write lock, and the most read holds of all seats together.
-const MAX_READ_WRITE_HOLDS: u128 = MOST_READ_WRITE_HOLDS as u128;
 
 impl Ledger {
     #[inline(always)]
@@ -37,38 +33,34 @@ impl Ledger {
         self.holds.owner.is_none_or(|owner| owner == seat)
     }
 
-    /// Returns whether the queue never holds this call back.
+    /// Returns the free permits of a semaphore, else 0.
     #[inline(always)]
-    fn is_reentrant(&self, seat: u16, mode: Mode) -> bool
-        requires { seat < length self.now.holds.shared.items }
-        ensures { (s : Start) (h : List Entry) → LedgerStand s h self.now →
-            result ≡ is_reentrant (counts s h) seat mode }
+    fn permits(&self) -> i64
+        requires { (s : Start) × (h : List Entry) × LedgerStand s h self.now }
+        ensures { (s : Start) (h : List Entry) → LedgerStand s h self.now
+            → is_semaphore s.header.object ≡ true → result ≡ free s h }
     {
         match self.header.object {
-            Object::Lock(_) => self.owns(seat),
-            Object::ReadWrite(_) => {
-                self.owns(seat) || (matches!(mode, Mode::S) && self.holds.shared[seat as usize] > 0)
-            }
-            Object::Semaphore(_, _permits) => false,
-            Object::Latch(_count) => false,
+            Object::Semaphore(_, _) => self.free(),
+            Object::Lock(_) | Object::ReadWrite(_) | Object::Latch(_) => 0,
         }
     }
 
-    /// Returns whether the queue holds back a new call that isn't reentrant.
+    /// Returns what decides whether the seat could acquire.
     #[inline(always)]
-    fn line_blocks(&self, mode: Mode) -> bool
-        ensures { (s : Start) (h : List Entry) → LedgerStand s h self.now →
-            result ≡ line_blocks s.header.object mode (first_mode s h) }
+    fn claim(&self, seat: u16) -> Claim
+        requires { HasSeat LedgerStand self.now seat }
+        ensures { (s : Start) (h : List Entry) → LedgerStand s h self.now → IsClaim (counts s h) seat result }
     {
-        let first = match self.waiting.line.first() {
-            None => return false,
-            Some(first) => first.mode,
-        };
-        match self.header.object {
-            Object::Lock(policy) | Object::Semaphore(policy, _) => policy.is_fair(),
-            Object::ReadWrite(policy) => policy.is_fair()
-                || (matches!(mode, Mode::S) && matches!(first, Mode::X)),
-            Object::Latch(_count) => false,
+        Claim {
+            object: self.header.object,
+            owns: self.owns(seat),
+            admitted: self.is_free_for(seat),
+            own: self.held(seat, Mode::X),
+            reads: self.held(seat, Mode::S) > 0,
+            readers: self.holds.readers,
+            free: self.permits(),
+            count: self.latch_count(),
         }
     }
 }
@@ -90,40 +82,18 @@ impl ObjectState for Ledger {
 
     #[inline(always)]
     fn holds_back(&self, seat: u16, mode: Mode) -> bool {
-        !self.is_reentrant(seat, mode) && self.line_blocks(mode)
+        let first = self.waiting.line.first().map(|first| first.mode);
+        self.claim(seat).holds_back(mode, first)
     }
 
     #[inline(always)]
     fn at_limit(&self, seat: u16, mode: Mode) -> bool {
-        match (self.header.object, mode) {
-            (Object::Lock(_), Mode::X) => self.holds.exclusive[seat as usize] == MAX_HOLDS,
-            (Object::ReadWrite(_), Mode::X) => self.holds.exclusive[seat as usize]
-                == MAX_READ_WRITE_HOLDS,
-            (Object::ReadWrite(_), Mode::S) => self.is_free_for(seat)
-                && self.holds.readers == MAX_READ_WRITE_HOLDS,
-            _ => false,
-        }
+        self.claim(seat).at_limit(mode)
     }
 
     #[inline(always)]
     fn could(&self, seat: u16, mode: Mode, n: u32) -> bool {
-        match (self.header.object, mode) {
-            (Object::Lock(_), Mode::X) => {
-                self.is_free_for(seat) && self.holds.exclusive[seat as usize] < MAX_HOLDS
-            }
-            (Object::ReadWrite(_), Mode::X) => {
-                if self.owns(seat) {
-                    self.holds.exclusive[seat as usize] < MAX_READ_WRITE_HOLDS
-                } else {
-                    self.is_free_for(seat) && self.holds.readers == 0
-                }
-            }
-            (Object::ReadWrite(_), Mode::S) => self.is_free_for(seat)
-                && self.holds.readers < MAX_READ_WRITE_HOLDS,
-            (Object::Semaphore(_, _permits), Mode::S) => self.amounts.free >= i128::from(n),
-            (Object::Latch(count), Mode::S) => u64::from(count) <= self.amounts.counted,
-            _ => false,
-        }
+        self.claim(seat).could(mode, n)
     }
 
     #[inline(always)]

@@ -1,8 +1,11 @@
 //! The count of a latch.
 
 ghost use Rattle.std.specs.Prelude.{◌≡◌, ℕ};
+ghost use Rattle.deciding.specs.Claim.{IsClaim};
+ghost use Rattle.history.specs.Counts.{Counts};
 ghost use Rattle.history.specs.declared.header.Object.TheVariants.{Latch};
 
+use deciding::claim::Claim;
 use frame::hooks::{Gave, Hooks, Line, Taken};
 use history::entry::Mode;
 use history::fault::Fault;
@@ -17,7 +20,7 @@ pub struct LatchHooks {
 }
 
 impl LatchHooks {
-    ghost use Rattle.counting.specs.Latch.{latch_of, IsOpened};
+    ghost use Rattle.counting.specs.Latch.{latch_of, IsOpened, Matches};
 
     /// Returns the hooks of a latch that was never counted down, for any number of seats.
     pub fn open(count: u32) -> LatchHooks
@@ -27,6 +30,23 @@ impl LatchHooks {
         LatchHooks {
             opening: count,
             count,
+        }
+    }
+
+    /// Returns what decides whether a seat could acquire, which is the same for all.
+    #[inline(always)]
+    fn claim(&self) -> Claim
+        ensures { (k : Counts) (who : ℕ) → Matches self.now k → IsClaim k who result }
+    {
+        Claim {
+            object: self.object(),
+            owns: false,
+            admitted: false,
+            own: 0,
+            reads: false,
+            readers: 0,
+            free: 0,
+            count: self.count,
         }
     }
 }
@@ -48,19 +68,16 @@ impl Hooks for LatchHooks {
 
     ghost stands = { some_counts };
 
-    fn could(&self, _who: u16, mode: Mode, _n: u32) -> bool {
-        match mode {
-            Mode::X => false,
-            Mode::S => self.count == 0,
-        }
+    fn could(&self, _who: u16, mode: Mode, n: u32) -> bool {
+        self.claim().could(mode, n)
     }
 
-    fn at_limit(&self, _who: u16, _mode: Mode) -> bool {
-        false
+    fn at_limit(&self, _who: u16, mode: Mode) -> bool {
+        self.claim().at_limit(mode)
     }
 
-    fn holds_back(&self, _who: u16, _mode: Mode, _line: Line) -> bool {
-        false
+    fn holds_back(&self, _who: u16, mode: Mode, line: Line) -> bool {
+        self.claim().holds_back(mode, line.first())
     }
 
     fn strict(&self) -> bool {

@@ -1,8 +1,11 @@
 //! The free permits of a semaphore.
 
 ghost use Rattle.std.specs.Prelude.{◌≡◌, ℕ};
+ghost use Rattle.deciding.specs.Claim.{IsClaim};
+ghost use Rattle.history.specs.Counts.{Counts};
 ghost use Rattle.history.specs.declared.header.Object.TheVariants.{Semaphore};
 
+use deciding::claim::Claim;
 use frame::hooks::{Gave, Hooks, Line, Taken};
 use history::entry::Mode;
 use history::fault::Fault;
@@ -23,7 +26,7 @@ pub struct SemaphoreHooks {
 }
 
 impl SemaphoreHooks {
-    ghost use Rattle.counting.specs.Semaphore.{semaphore_of, IsOpened};
+    ghost use Rattle.counting.specs.Semaphore.{semaphore_of, IsOpened, Matches};
 
     /// Returns the hooks of a semaphore with all its permits free, for any number of seats.
     pub fn open(policy: Policy, permits: i32) -> SemaphoreHooks
@@ -34,6 +37,23 @@ impl SemaphoreHooks {
             policy,
             permits,
             free: permits,
+        }
+    }
+
+    /// Returns what decides whether a seat could acquire, which is the same for all.
+    #[inline(always)]
+    fn claim(&self) -> Claim
+        ensures { (k : Counts) (who : ℕ) → Matches self.now k → IsClaim k who result }
+    {
+        Claim {
+            object: self.object(),
+            owns: false,
+            admitted: false,
+            own: 0,
+            reads: false,
+            readers: 0,
+            free: i64::from(self.free),
+            count: 0,
         }
     }
 }
@@ -56,21 +76,15 @@ impl Hooks for SemaphoreHooks {
     ghost stands = { some_counts };
 
     fn could(&self, _who: u16, mode: Mode, n: u32) -> bool {
-        match mode {
-            Mode::X => false,
-            Mode::S => i64::from(self.free) - i64::from(n) >= 0,
-        }
+        self.claim().could(mode, n)
     }
 
-    fn at_limit(&self, _who: u16, _mode: Mode) -> bool {
-        false
+    fn at_limit(&self, _who: u16, mode: Mode) -> bool {
+        self.claim().at_limit(mode)
     }
 
-    fn holds_back(&self, _who: u16, _mode: Mode, line: Line) -> bool {
-        match line {
-            Line::Empty => false,
-            Line::FirstX | Line::FirstS => self.policy.is_fair(),
-        }
+    fn holds_back(&self, _who: u16, mode: Mode, line: Line) -> bool {
+        self.claim().holds_back(mode, line.first())
     }
 
     fn strict(&self) -> bool {

@@ -2,6 +2,7 @@ pub mod Below
 pub mod Amounts
 pub mod Balance
 pub mod Checks
+pub mod Claim
 pub mod Holds
 pub mod ObjectState
 pub mod Sleep

@@ -9,6 +9,7 @@ ghost use Rattle.deciding.specs.Checks.{refused_as};
 use history::entry::Mode;
 use history::fault::Fault;
 use history::header::{Header, Object};
+use history::limits::MOST_AMOUNT;
 use history::step::Step;
 
 /// Returns the fault of a step that the object doesn't have. The mode is checked first, then the condition,
@@ -116,5 +117,5 @@ fn is_bad_amount(object: Object, step: Step) -> bool
 fn is_bad_number(object: Object, n: u32) -> bool
     ensures { result ≡ is_bad_number object n }
 {
-    2_147_483_647 < n || (!is_semaphore(object) && n != 1)
+    MOST_AMOUNT < n || (!is_semaphore(object) && n != 1)
 }

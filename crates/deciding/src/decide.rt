@@ -24,10 +24,11 @@ use history::arrival::Arrival;
 use history::entry::{End, Entry, Mode, Word};
 use history::fault::Fault;
 use history::header::Object;
+use history::limits::MOST_AMOUNT;
 use history::step::Step;
 
 /// The most free permits.
-const MAX_PERMITS: i64 = 2_147_483_647;
+const MAX_PERMITS: i64 = MOST_AMOUNT as i64;
 
 /// Returns the seat of the head of the queue, if it could acquire what it asks for.
 pub fn ready<T: ObjectState>(state: &T) -> Option<u16>

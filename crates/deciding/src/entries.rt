@@ -28,7 +28,7 @@ pub fn plain(seat: u16, word: Word, mode: Mode, n: u32) -> Entry
 }
 
 /// Returns the entry by which an acquire leaves the queue.
-fn ended(seat: u16, word: Word, arrival: Arrival, end: End) -> Entry
+pub fn ended(seat: u16, word: Word, arrival: Arrival, end: End) -> Entry
     ensures { result ≡ ended seat word arrival end }
 {
     Entry {

@@ -9,6 +9,7 @@ pub mod amounts;
 pub mod arrivals;
 pub mod balance;
 pub mod checks;
+pub mod claim;
 pub mod decide;
 pub mod entries;
 pub mod room;

@@ -26,6 +26,20 @@ pub enum Line {
     FirstS,
 }
 
+impl Line {
+    /// Returns the mode that the head of the queue asks for.
+    #[inline(always)]
+    pub fn first(self) -> Option<Mode>
+        ensures { result ≡ line_mode self }
+    {
+        match self {
+            Line::Empty => None,
+            Line::FirstX => Some(Mode::X),
+            Line::FirstS => Some(Mode::S),
+        }
+    }
+}
+
 /// Whether another seat could still take a shared hold after an acquire.
 #[derive(Clone, Copy, Debug, PartialEq, Eq)]
 pub enum Taken {

@@ -1,19 +1,19 @@
 -- The first step of an acquire, and how its parts fit together.
 use Rattle.std.proofs.Common.{◌≡◌, ◌≢◌, ◌⊎◌, inl, inr, ⊎_elim, ℕ, eqb, Bool, true, false, cond, List, [], ◌∷◌, Option, Some, None, is_some, IsSome, IfErr, Result, Ok, Err, refl, sym, ap, ◌∙◌, subst, eq-eqb, eqb-true}
 use Rattle.std.specs.List.{filter}
-use Rattle.monitor.specs.Below.{could, limit, held_back, counts, line, place_of, first_mode, Phase, Idle, InLine, Sleeping, phase, suits, waits, sleeps_below, Base, based, Start, entry_for, phase_entry, idle_entry, plain, Entry, Mode, Word, Fault, Recorded, Step, Acquire, TryFair, EntryInterrupt, Before, Deed, interrupted, took_interrupt}
+use Rattle.monitor.specs.Below.{could, limit, held_back, counts, line, place_of, first_mode, Phase, Idle, InLine, Sleeping, phase, suits, waits, sleeps_below, Base, based, Start, entry_for, phase_entry, idle_entry, named, plain, Entry, Mode, Word, Fault, Recorded, Step, Acquire, TryFair, EntryInterrupt, Before, Deed, interrupted, took_interrupt}
 use Rattle.history.specs.declared.entry.Word.TheVariants as word
 use Rattle.history.specs.declared.fault.Fault.TheVariants as fault
 use Rattle.history.proofs.Entering.{admitted}
 use Rattle.history.proofs.LineLemmas.{line_after, stays}
 use Rattle.history.proofs.SleepLemmas.{idle_parts}
 use Rattle.word_lock.proofs.PointLaws.{before_refl, before_trans}
-use Rattle.monitor.specs.Prelude.{start_at, view_of, Shown, IsSame, IsStep, IsEntered, IsUnparked, How, Plain, Interruptible, Timed, Limits, AtOnce, IsEndFor, IsUntil, LimitsFor, EndsAtOnce, EndsUnrecorded, IsAcquire, WasInterrupted, WasNotInterrupted, first_step, is_interruptible, is_timed, has_time, AfterPark, StandsFor, IsMade, IsLast, IsNotLost, in_line, WaitsAs, asking}
+use Rattle.monitor.specs.Prelude.{start_at, view_of, Shown, IsSame, IsStep, IsEntered, IsUnparked, How, Plain, Interruptible, Timed, Limits, AtOnce, IsEndFor, IsUntil, LimitsFor, EndsAtOnce, EndsUnrecorded, IsAcquire, WasInterrupted, WasNotInterrupted, first_step, is_interruptible, is_timed, has_time, AfterPark, StandsFor, IsMade, IsLast, IsNotLost, in_line, WaitsAs, asking, with_entry}
 use Rattle.monitor.specs.declared.waiting.Stage.TheVariants.{Parks}
 use Rattle.monitor.specs.inner.Waits.{IsEnd, IsWait, IsWaited}
 use Rattle.monitor.proofs.Turns.{there_later}
 use Rattle.history.proofs.Staying.{place_filter, place_behind}
-use Rattle.monitor.proofs.InLine.{records, made_in, same_self}
+use Rattle.monitor.proofs.InLine.{records, made_in, same_self, woken_as}
 
 -- an entry of a step that is none of one who waits is an idle seat's
 pub record IsIdleEntry (s : Start) (h : List Entry) (i : ℕ) (step : Step) (e : Entry) : Type 0 where
@@ -135,20 +135,19 @@ at_once did old new step e s =
 
 -- what was made after a later pass was made after an earlier one
 pub made_later : (did : Deed → Type 0) (old mid new : Shown) (step : Step) (e : Entry) →
-    Before old.seen mid.seen → mid.seat ≡ old.seat →
-    IsMade did mid.seen mid.seat step e new.seen → IsMade did old.seen old.seat step e new.seen
+    Before old.seen mid.seen → IsSame old mid → IsMade did mid step e new.seen → IsMade did old step e new.seen
 made_later did old mid new step e up same x =
     record {
       front = x.front;
       begins = before_trans old.seen mid.seen x.front up x.begins;
-      made = subst (λ (i : ℕ). entry_for (start_at x.front) x.front.entries i step ≡ Ok (Some e)) same x.made;
+      made = subst (λ (i : ℕ). entry_for (start_at x.front) x.front.entries i step ≡ Ok (Some e)) same.seat x.made;
       there = x.there;
-      wakes = x.wakes;
+      wakes = woken_as did old mid (named (start_at x.front) x.front.entries e) (with_entry e x.front) same x.wakes;
     }
 
 -- the first step of an acquire that was recorded
 module _ (did : Deed → Type 0) (old mid : Shown) (how : How) (m : Mode) (n : ℕ) (e : Entry) (name : Option ℕ)
-    (s : IsStep old (first_step how m n) (Ok (Recorded e name)) mid) (woken : IsUnparked did name mid.seen)
+    (s : IsStep old (first_step how m n) (Ok (Recorded e name)) mid) (woken : IsUnparked did old.lock name mid.seen)
     (none : WasNotInterrupted did old.seat how) where
   rec : entry_for (start_at s.found) s.found.entries old.seat (first_step how m n) ≡ Ok (Some e)
   rec = (records (view_of s.found s.beside) (view_of mid.seen s.beside_left) old.seat (first_step how m n) e
@@ -202,12 +201,12 @@ module _ (did : Deed → Type 0) (old mid : Shown) (how : How) (m : Mode) (n : �
   ends_in_line w same new l last for after waited =
       by (waited (in_line (asking mid.seat m n)) (stands w same))
     where
-      made : IsMade did old.seen old.seat (first_step how m n) e mid.seen × IsLast e mid.seen
+      made : IsMade did old (first_step how m n) e mid.seen × IsLast e mid.seen
       made = made_in did old old mid (first_step how m n) e name (same_self old) (before_refl old.seen) s woken
 
-      joins : IsMade did old.seen old.seat (Acquire m n) e new.seen
-      joins = there_later did old.seen mid.seen new.seen old.seat (Acquire m n) e
-          (subst (λ (t : Step). IsMade did old.seen old.seat t e mid.seen) (is_acquire w) made.0) after
+      joins : IsMade did old (Acquire m n) e new.seen
+      joins = there_later did old mid.seen new.seen (Acquire m n) e
+          (subst (λ (t : Step). IsMade did old t e mid.seen) (is_acquire w) made.0) after
 
       ends_for : IsEnd l mid.seat (asking mid.seat m n) last →
           IsEndFor how old.seat (asking old.seat m n) last
@@ -234,7 +233,7 @@ module _ (did : Deed → Type 0) (old mid : Shown) (how : How) (m : Mode) (n : �
             step = x.step;
             comes = subst (λ (i : ℕ). AfterPark did i l x.step) same.seat z.2;
             again = λ q. subst (λ (i : ℕ). IsNotLost did i (Ok last)) same.seat (x.again q);
-            made = made_later did old mid new x.step last s.after same.seat x.made;
+            made = made_later did old mid new x.step last s.after same x.made;
             last = x.last;
             end = ends_for z.1;
             mine = z.0 ∙ ap (λ (l : List Entry). last ∷ l) s.mine;

@@ -72,7 +72,7 @@ moves_by Trim t o n v w seat share next a fit counted amount x y step r s =
 
 -- a step of an idle seat, with its entry or a fault
 pub entered_in : (wf : WhenFull) (did : Deed → Type 0) (old new : Shown) (step : Step) (r : Result Answer Fault) →
-    waits step ≡ false → IsUnparked did (named_in r) new.seen → IsStepIn wf old step r new →
+    waits step ≡ false → IsUnparked did old.lock (named_in r) new.seen → IsStepIn wf old step r new →
     IsEnteredIn wf did old step (entry_in r) new
 entered_in wf did old new step (Ok (Recorded e name)) idle woken s = entered_ok wf did old new step e name woken s
 entered_in wf did old new step (Ok Sleep) idle woken s =
@@ -95,7 +95,7 @@ no_wait (request.AwaitOn c) i _ = refl
 pub made_at_once : (wf : WhenFull) (did : Deed → Type 0) (old new : Shown) (q : Request) (how : How) (name : Option ℕ) →
     WasNotInterrupted did old.seat how →
     IsStepIn wf old (step_by q how false) (Ok (Recorded (entry_at_once old.seat (step_by q how false)) name)) new →
-    IsUnparked did name new.seen → IsCallIn wf did old q how (Ok (entry_at_once old.seat (step_by q how false))) new
+    IsUnparked did old.lock name new.seen → IsCallIn wf did old q how (Ok (entry_at_once old.seat (step_by q how false))) new
 made_at_once wf did old new q how name none s woken =
     let e = entry_at_once old.seat (step_by q how false) in
     ends_in wf did old new q how 0 (first_turn q how 0 false (Ok (Recorded e name))) (Ok e) false none

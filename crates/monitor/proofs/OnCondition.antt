@@ -64,7 +64,7 @@ may_for did how l _ for m = absurd m
 
 -- the first step of an await that was recorded
 module _ (did : Deed → Type 0) (old mid : Shown) (c : ℕ) (how : How) (e : Entry) (name : Option ℕ)
-    (s : IsStep old (Await c) (Ok (Recorded e name)) mid) (woken : IsUnparked did name mid.seen)
+    (s : IsStep old (Await c) (Ok (Recorded e name)) mid) (woken : IsUnparked did old.lock name mid.seen)
     (none : WasNotInterrupted did old.seat how) where
   rec : entry_for (start_at s.found) s.found.entries old.seat (Await c) ≡ Ok (Some e)
   rec = (records (view_of s.found s.beside) (view_of mid.seen s.beside_left) old.seat (Await c) e name
@@ -131,12 +131,12 @@ module _ (did : Deed → Type 0) (old mid : Shown) (c : ℕ) (how : How) (e : En
         slept = e;
         await = w;
         gave_up = gave w same shows;
-        sleeps = there_later did old.seen mid.seen new.seen old.seat (Await c) e
+        sleeps = there_later did old mid.seen new.seen (Await c) e
             (at_once did old mid (Await c) e (name, s, woken)).made after;
         limits = l;
         limited = for;
         step = x.step;
-        made = made_later did old mid new x.step last s.after same.seat x.made;
+        made = made_later did old mid new x.step last s.after same x.made;
         last = x.last;
         end = end x.end;
         again = λ q. subst (λ (i : ℕ). IsNotLost did i (Ok last)) same.seat (x.again q);
@@ -163,9 +163,9 @@ module _ (did : Deed → Type 0) (old mid : Shown) (c : ℕ) (how : How) (e : En
                 step = z.lapse.step;
                 comes = subst (λ (i : ℕ). ComesOf did i l (first_stage how) z.lapse.step) same.seat
                     z.lapse.comes;
-                lapse = subst (λ (y : Entry). IsMade did old.seen old.seat z.lapse.step y new.seen) at
+                lapse = subst (λ (y : Entry). IsMade did old z.lapse.step y new.seen) at
                     (made_later did old mid new z.lapse.step
-                    (lapse_from mid.seat (signalled e.at e.n) z.how) s.after same.seat z.lapse.made);
+                    (lapse_from mid.seat (signalled e.at e.n) z.how) s.after same z.lapse.made);
                 looks = z.looks;
                 back = z.back ∙ ap (λ (i : ℕ). back_from i (lapsed (signalled e.at e.n) z.how)) same.seat;
                 mine = z.mine

@@ -91,7 +91,7 @@ no_sleep_in w old new step r idle s is = by (steps_at w old step r new s)
 
 -- a step of an idle seat, with its entry or a fault
 pub entered_ok : (w : WhenFull) (did : Deed → Type 0) (old new : Shown) (step : Step) (e : Entry) (name : Option ℕ) →
-    IsUnparked did name new.seen → IsStepIn w old step (Ok (Recorded e name)) new →
+    IsUnparked did old.lock name new.seen → IsStepIn w old step (Ok (Recorded e name)) new →
     IsEnteredIn w did old step (Ok e) new
 entered_ok w did old new step e name woken s =
     map_room w (λ z. z ≡ step) (λ z. z ≡ step) (λ o a n. IsStep o step a n) (λ o a n. IsEntered did o step a n) old
@@ -150,7 +150,7 @@ module _ (w : WhenFull) (did : Deed → Type 0) (old new : Shown) (q : Request) 
   where
     -- the first turn ended the call
     pub ends_in : (reply : Result Entry Fault) (again : Bool) → WasNotInterrupted did old.seat how →
-        IsBegunIn w old q how moment false t new → IsUnparked did t.named new.seen → t.next ≡ Ends reply again →
+        IsBegunIn w old q how moment false t new → IsUnparked did old.lock t.named new.seen → t.next ≡ Ends reply again →
         IsCallIn w did old q how reply new
     ends_in reply again none (r, s, is) woken ends =
         let next = ap (λ (z : Turn). z.next) (sym is) ∙ ends in
@@ -168,7 +168,7 @@ module _ (w : WhenFull) (did : Deed → Type 0) (old new : Shown) (q : Request) 
 
     -- an interrupt ended it
     pub refused_in : (reply : Result Entry Fault) (again : Bool) → WasInterrupted did old.seat how →
-        IsBegunIn w old q how moment true t new → IsUnparked did t.named new.seen →
+        IsBegunIn w old q how moment true t new → IsUnparked did old.lock t.named new.seen →
         (tells_interrupt reply ≡ false → did (interrupted old.seat)) → t.next ≡ Ends reply again →
         IsCallIn w did old q how reply new
     refused_in reply again was (r, s, is) woken settled ends =
@@ -203,7 +203,7 @@ module _ (w : WhenFull) (did : Deed → Type 0) (old new : Shown) (q : Request) 
 
     -- and the wait ended it
     pub waited_in : (last : Shown) (next : Waiting) (reply : Result Entry Fault) → WasNotInterrupted did old.seat how →
-        IsBegunIn w old q how moment false t new → IsUnparked did t.named new.seen → t.next ≡ Waits next →
+        IsBegunIn w old q how moment false t new → IsUnparked did old.lock t.named new.seen → t.next ≡ Waits next →
         IsSame old new →
         IsSound new → WasShown did how moment → Before new.seen last.seen →
         IsReply did new next.stage next.limits reply last → IsCallIn w did old q how reply last

@@ -4,7 +4,7 @@ use Rattle.monitor.specs.Below.{Entry, Mode, X, Word, Fault, Answer, Recorded, S
 use Rattle.history.specs.declared.entry.Word.TheVariants as word
 use Rattle.history.specs.declared.fault.Fault.TheVariants as fault
 use Rattle.history.specs.declared.step.Step.TheVariants as step
-use Rattle.monitor.specs.Prelude.{LimitsFor, WasInterrupted, WasNotInterrupted, first_step, tells_interrupt, LetsGo, free_of, given_by, AsksAwait, IsBegun, IsCall, IsGoneOn, at_stage, begins_wait, begun, first_turn, later_turn, limits_at, limits_from, next_behind, next_by, stage_for, step_at, step_by, step_of_waiting, step_within, Shown, IsSound, IsSame, IsStep, IsStepNow, IsUnparked, answer_of, Now, Done, Busy, AfterPark, Cause, ComesOf, IsNotLost, WaitsAs, in_line, is_lapse, no_limits, on_condition, stage_asleep, asking, How, Plain, Interruptible, Timed, Ends, Waits, Request, Acquire, AwaitOn, Turn, Waiting, Limits}
+use Rattle.monitor.specs.Prelude.{LimitsFor, WasInterrupted, WasNotInterrupted, first_step, tells_interrupt, LetsGo, free_of, given_by, AsksAwait, IsBegun, IsCall, IsGoneOn, at_stage, begins_wait, begun, first_turn, later_turn, limits_at, limits_from, next_behind, next_by, stage_for, step_at, step_by, step_of_waiting, step_within, Shown, IsSound, IsSame, IsStep, IsStepNow, IsUnparked, answer_of, Now, Done, Busy, AfterPark, Cause, ComesOf, IsNotLost, in_line, is_lapse, no_limits, on_condition, stage_asleep, asking, How, Plain, Interruptible, Timed, Ends, Waits, Request, Acquire, AwaitOn, Turn, Waiting, Limits}
 use Rattle.monitor.specs.inner.Machine.{WasShown}
 use Rattle.monitor.specs.inner.Stepping.{named_in}
 use Rattle.monitor.specs.inner.Waits.{IsReply, MayBegin}
@@ -14,7 +14,7 @@ use Rattle.monitor.specs.declared.waiting.Stage.{Stage}
 use Rattle.monitor.specs.declared.waiting.Stage.TheVariants.{Expires, Parks, Looks, GivenUp}
 use Rattle.monitor.proofs.Acquiring.{ends_at_once, ends_in_line, refused, refused_at_once, stands}
 use Rattle.monitor.proofs.Freeing.{waits_gives_none}
-use Rattle.monitor.proofs.InLine.{named_place, no_sleep}
+use Rattle.monitor.proofs.InLine.{named_place, no_sleep, woken_as}
 use Rattle.monitor.proofs.Letting.{waits_lets_none}
 use Rattle.monitor.proofs.OnCondition as await
 use Rattle.monitor.proofs.Turns.{never_fault, still_after, turn, waited}
@@ -157,7 +157,7 @@ not_await c w q is = let z = ap (begins_wait (AwaitOn c)) is in cc
 -- the first turn ended the call
 module _ (did : Deed → Type 0) (old new : Shown) (how : How) (none : WasNotInterrupted did old.seat how) where
   recorded_ends : (q : Request) (e : Entry) (name : Option ℕ) →
-      IsStep old (step_by q how false) (Ok (Recorded e name)) new → IsUnparked did name new.seen →
+      IsStep old (step_by q how false) (Ok (Recorded e name)) new → IsUnparked did old.lock name new.seen →
       begins_wait q e.word ≡ false → IsCall did old q how (Ok e) new
   recorded_ends (Acquire m n) e name s woken b =
       ends_at_once did old new how m n e name s woken none (not_queued m n e.word b)
@@ -171,7 +171,7 @@ module _ (did : Deed → Type 0) (old new : Shown) (how : How) (none : WasNotInt
   fault_ends (AwaitOn c) f s = record { step = step.Await c; first = inl (refl, none); stepped = s }
 
   ends_by : (q : Request) (moment : ℕ) (r : Result Answer Fault) (reply : Result Entry Fault) (again : Bool) →
-      IsStep old (step_by q how false) r new → IsUnparked did (named_in r) new.seen →
+      IsStep old (step_by q how false) r new → IsUnparked did old.lock (named_in r) new.seen →
       (first_turn q how moment false r).next ≡ Ends reply again → IsCall did old q how reply new
   ends_by q moment (Ok (Recorded e name)) reply again s woken is = by (begins_wait q e.word) refl is
     where
@@ -188,11 +188,11 @@ module _ (did : Deed → Type 0) (old new : Shown) (how : How) (none : WasNotInt
       subst (λ (z : Result Entry Fault). IsCall did old q how z new) same (fault_ends q f s)
 
   pub begun_ends : (q : Request) (moment : ℕ) (t : Turn) (reply : Result Entry Fault) (again : Bool) →
-      IsBegun old q how moment false t new → IsUnparked did t.named new.seen → t.next ≡ Ends reply again →
+      IsBegun old q how moment false t new → IsUnparked did old.lock t.named new.seen → t.next ≡ Ends reply again →
       IsCall did old q how reply new
   begun_ends q moment t reply again (r, s, is) woken ends =
       ends_by q moment r reply again s
-      (subst (λ (z : Option ℕ). IsUnparked did z new.seen)
+      (subst (λ (z : Option ℕ). IsUnparked did old.lock z new.seen)
       (ap (λ (z : Turn). z.named) is ∙ named_first q how moment false r) woken)
       (ap (λ (z : Turn). z.next) (sym is) ∙ ends)
 
@@ -201,7 +201,7 @@ pub record Begins (did : Deed → Type 0) (old new : Shown) (q : Request) (how :
   pub entry : Entry
   pub name : Option ℕ
   pub step : IsStep old (step_by q how false) (Ok (Recorded entry name)) new
-  pub woken : IsUnparked did name new.seen
+  pub woken : IsUnparked did old.lock name new.seen
   pub begins : begins_wait q entry.word ≡ true
 
 -- the entry by which it began to wait took nothing
@@ -250,7 +250,7 @@ waits_by old new q how moment was (Ok Sleep) w s is = cc
 waits_by old new q how moment was (Err f) w s is = cc
 
 pub begun_waits : (did : Deed → Type 0) (old new : Shown) (q : Request) (how : How) (moment : ℕ) (t : Turn)
-    (w : Waiting) → IsBegun old q how moment false t new → IsUnparked did t.named new.seen → t.next ≡ Waits w →
+    (w : Waiting) → IsBegun old q how moment false t new → IsUnparked did old.lock t.named new.seen → t.next ≡ Waits w →
     Begins did old new q how × (w ≡ begun q how moment)
 begun_waits did old new q how moment t w (r, s, is) woken next =
     let x = waits_by old new q how moment false r w s (ap (λ (z : Turn). z.next) (sym is) ∙ next) in (
@@ -258,7 +258,7 @@ begun_waits did old new q how moment t w (r, s, is) woken next =
         entry = x.0;
         name = x.1;
         step = subst (λ (z : Result Answer Fault). IsStep old (step_by q how false) z new) x.2 s;
-        woken = subst (λ (z : Option ℕ). IsUnparked did z new.seen)
+        woken = subst (λ (z : Option ℕ). IsUnparked did old.lock z new.seen)
             (ap (λ (z : Turn). z.named) is ∙ (named_first q how moment false r ∙ ap named_in x.2)) woken;
         begins = x.3;
       },
@@ -308,7 +308,7 @@ refused_waits (AwaitOn c) w is = ap (begins_wait (AwaitOn c)) is
 
 module _ (did : Deed → Type 0) (old new : Shown) (how : How) (was : WasInterrupted did old.seat how) where
   recorded_refused : (q : Request) (e : Entry) (name : Option ℕ) →
-      IsStep old (step_by q how true) (Ok (Recorded e name)) new → IsUnparked did name new.seen →
+      IsStep old (step_by q how true) (Ok (Recorded e name)) new → IsUnparked did old.lock name new.seen →
       IsCall did old q how (Ok e) new
   recorded_refused (Acquire m n) e name s woken = refused did old new how m n (Ok e) was (name, s, woken) tt
   recorded_refused (AwaitOn c) e name s woken = await.refused did old new c how (Ok e) was (name, s, woken) tt
@@ -319,7 +319,7 @@ module _ (did : Deed → Type 0) (old new : Shown) (how : How) (was : WasInterru
   fault_refused (AwaitOn c) f s again = await.refused did old new c how (Err f) was s again
 
   refused_by : (q : Request) (moment : ℕ) (r : Result Answer Fault) (reply : Result Entry Fault) (again : Bool) →
-      IsStep old (step_by q how true) r new → IsUnparked did (named_in r) new.seen →
+      IsStep old (step_by q how true) r new → IsUnparked did old.lock (named_in r) new.seen →
       (tells_interrupt reply ≡ false → did (interrupted old.seat)) →
       (first_turn q how moment true r).next ≡ Ends reply again → IsCall did old q how reply new
   refused_by q moment (Ok (Recorded e name)) reply again s woken settled is = by (begins_wait q e.word) is
@@ -338,12 +338,12 @@ module _ (did : Deed → Type 0) (old new : Shown) (how : How) (was : WasInterru
       (fault_refused q f s (settled (ap tells_interrupt (sym same))))
 
   pub begun_refused : (q : Request) (moment : ℕ) (t : Turn) (reply : Result Entry Fault) (again : Bool) →
-      IsBegun old q how moment true t new → IsUnparked did t.named new.seen →
+      IsBegun old q how moment true t new → IsUnparked did old.lock t.named new.seen →
       (tells_interrupt reply ≡ false → did (interrupted old.seat)) → t.next ≡ Ends reply again →
       IsCall did old q how reply new
   begun_refused q moment t reply again (r, s, is) woken settled ends =
       refused_by q moment r reply again s
-      (subst (λ (z : Option ℕ). IsUnparked did z new.seen)
+      (subst (λ (z : Option ℕ). IsUnparked did old.lock z new.seen)
       (ap (λ (z : Turn). z.named) is ∙ named_first q how moment true r) woken) settled
       (ap (λ (z : Turn). z.next) (sym is) ∙ ends)
 
@@ -397,14 +397,15 @@ module _ (did : Deed → Type 0) (first now new : Shown) (s : Stage) (l : Limits
     (still : AllStillWait did first s l kept now w.stage) (limits : w.limits ≡ l)
     (comes : ComesOf did first.seat w.limits w.stage (step_of_waiting w woke))
     (noted : step_of_waiting w woke ≡ step.Interrupt → kept) (same : IsSame now new)
-    (gone : IsGoneOn now w woke t new) (woken : IsUnparked did t.named new.seen) where
+    (gone : IsGoneOn now w woke t new) (woken : IsUnparked did new.lock t.named new.seen) where
   its : ComesOf did first.seat l w.stage (step_of_waiting w woke)
   its = subst (λ (z : Limits). ComesOf did first.seat z w.stage (step_of_waiting w woke)) limits comes
 
-  named : IsUnparked did (named_in gone.0) new.seen
+  named : IsUnparked did now.lock (named_in gone.0) new.seen
   named =
-      subst (λ (z : Option ℕ). IsUnparked did z new.seen)
-      (ap (λ (z : Turn). z.named) gone.2 ∙ named_later w (step_of_waiting w woke) gone.0) woken
+      subst (λ (z : Option ℕ). IsUnparked did now.lock z new.seen)
+      (ap (λ (z : Turn). z.named) gone.2 ∙ named_later w (step_of_waiting w woke) gone.0)
+      (woken_as did now new t.named new.seen same woken)
 
   ok : IsOk gone.0
   ok =

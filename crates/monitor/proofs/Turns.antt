@@ -334,9 +334,9 @@ no_lapse _ i a e x = absurd x
 true_false : (b : Bool) → b ≡ true → b ≡ false → ⊥
 true_false b t f = cc
 
-pub there_later : (did : Deed → Type 0) (p q r : Point) (i : ℕ) (step : Step) (e : Entry) →
-    IsMade did p i step e q → Before q r → IsMade did p i step e r
-there_later did p q r i step e m b =
+pub there_later : (did : Deed → Type 0) (old : Shown) (q r : Point) (step : Step) (e : Entry) →
+    IsMade did old step e q → Before q r → IsMade did old step e r
+there_later did old q r step e m b =
     record {
       front = m.front;
       begins = m.begins;
@@ -392,7 +392,7 @@ module _ (did : Deed → Type 0) (first now new : Shown) (was : Cause) (s : Stag
           may = x.4.may;
           step = x.4.step;
           comes = x.4.comes;
-          made = there_later did first.seen now.seen new.seen first.seat x.4.step
+          made = there_later did first now.seen new.seen x.4.step
               (lapse_from first.seat x.0 x.1) x.4.made b;
         },
         mine ∙ x.5,
@@ -413,14 +413,14 @@ module _ (did : Deed → Type 0) (first now new : Shown) (was : Cause) (s : Stag
 
   -- after its lapse a sleeper is on its way back
   has_lapsed : (e : Entry) (name : Option ℕ) → IsStep now step (Ok (answer.Recorded e name)) new →
-      IsUnparked did name new.seen → (w : Sleep) (how : End) → LapsesBy step how →
+      IsUnparked did now.lock name new.seen → (w : Sleep) (how : End) → LapsesBy step how →
       EndComesOf did first.seat l s (on_condition w) kept step → e ≡ lapse_from first.seat w how →
       HasLapsed did first w s l how new.seen
   has_lapsed e name t woken w how ends began is = record {
     may = lapses_as l step how allowed ends;
     step = step;
     comes = lapse_comes did first.seat l s w kept step how began ends;
-    made = subst (λ (x : Entry). IsMade did first.seen first.seat step x new.seen) is
+    made = subst (λ (x : Entry). IsMade did first step x new.seen) is
         (made_in did first now new step e name stays.same stays.begins t woken).0;
   }
 
@@ -428,7 +428,7 @@ module _ (did : Deed → Type 0) (first now new : Shown) (was : Cause) (s : Stag
   Lapsed e = (k : Cause) × WaitsAs new.seen first.seat k × SoFar did first was s l kept new k Looks
 
   after_lapse : (e : Entry) (name : Option ℕ) → IsStep now step (Ok (answer.Recorded e name)) new →
-      IsUnparked did name new.seen → is_lapse e.word ≡ true → Lapsed e
+      IsUnparked did now.lock name new.seen → is_lapse e.word ≡ true → Lapsed e
   unfolding Lapsed
   after_lapse e name t woken lapse = by stays.cause stays.so_far (makes e name t)
     where
@@ -456,7 +456,7 @@ module _ (did : Deed → Type 0) (first now new : Shown) (was : Cause) (s : Stag
       by (on_condition w) (inr f) (inr m) = let z = f.3 in cc
 
   lapses_on : (e : Entry) (name : Option ℕ) → IsSame now new →
-      IsStep now step (Ok (answer.Recorded e name)) new → IsUnparked did name new.seen →
+      IsStep now step (Ok (answer.Recorded e name)) new → IsUnparked did now.lock name new.seen →
       is_lapse e.word ≡ true → IsSound new → StillWaits did first was s l kept new Looks
   unfolding Lapsed
   lapses_on e name same t woken lapse shows =
@@ -512,7 +512,7 @@ module _ (did : Deed → Type 0) (first now new : Shown) (was : Cause) (s : Stag
               may = f.4.may;
               step = f.4.step;
               comes = f.4.comes;
-              made = there_later did first.seen now.seen new.seen first.seat f.4.step
+              made = there_later did first now.seen new.seen f.4.step
                   (lapse_from first.seat f.0 f.1) f.4.made t.after;
             };
             looks = looked f.6;
@@ -531,7 +531,7 @@ module _ (did : Deed → Type 0) (first now new : Shown) (was : Cause) (s : Stag
   never_fault (Err f) t = absurd (no_fault f t)
 
   pub still_after : (r : Result Answer Fault) → IsSame now new → IsStep now step r new →
-      IsUnparked did (named_in r) new.seen → IsSound new → ending_of r ≡ None →
+      IsUnparked did now.lock (named_in r) new.seen → IsSound new → ending_of r ≡ None →
       StillWaits did first was s l kept new (stage_behind stage step r)
   still_after (Ok answer.Sleep) same t woken shows q = goes_on same t shows
   still_after (Err f) same t woken shows q = absurd (no_fault f t)
@@ -542,7 +542,7 @@ module _ (did : Deed → Type 0) (first now new : Shown) (was : Cause) (s : Stag
       by false u q = cc
 
   pub waited : (r : Result Answer Fault) (last : Entry) → IsStep now step r new →
-      IsUnparked did (named_in r) new.seen → ending_of r ≡ Some last → (kept → IsNotLost did first.seat (Ok last)) →
+      IsUnparked did now.lock (named_in r) new.seen → ending_of r ≡ Some last → (kept → IsNotLost did first.seat (Ok last)) →
       IsWait did first was s l last new
   unfolding Ends
   waited (Ok answer.Sleep) last t woken q settled = cc

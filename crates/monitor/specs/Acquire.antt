@@ -60,7 +60,7 @@ IsFirst did i how starts refuses step =
 -- a call that recorded one entry, the one of its step
 pub record EndsAtOnce (did : Deed → Type 0) (old : Shown) (step : Step) (e : Entry)
     (new : Shown) : Type 0 where
-  pub made : IsMade did old.seen old.seat step e new.seen
+  pub made : IsMade did old step e new.seen
   pub last : IsLast e new.seen
   pub mine : new.mine ≡ e ∷ old.mine
 
@@ -97,13 +97,13 @@ pub record EndsInLine (did : Deed → Type 0) (old : Shown) (m : Mode) (n : ℕ)
   pub not_interrupted : WasNotInterrupted did old.seat how
   pub joined : Entry
   pub queued : joined.word ≡ word.Queued
-  pub joins : IsMade did old.seen old.seat (Acquire m n) joined new.seen
+  pub joins : IsMade did old (Acquire m n) joined new.seen
   pub limits : Limits
   pub limited : LimitsFor did how limits
   pub step : Step
   pub comes : AfterPark did old.seat limits step
   pub again : step ≡ Interrupt → IsNotLost did old.seat (Ok e)
-  pub made : IsMade did old.seen old.seat step e new.seen
+  pub made : IsMade did old step e new.seen
   pub last : IsLast e new.seen
   pub end : IsEndFor how old.seat (asking old.seat m n) e
   pub mine : new.mine ≡ e ∷ joined ∷ old.mine

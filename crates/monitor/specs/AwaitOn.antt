@@ -44,7 +44,7 @@ pub record LapsesAndReturns (did : Deed → Type 0) (old : Shown) (how : How) (l
   pub may : MayLapseFor how end
   pub step : Step
   pub comes : ComesOf did old.seat limits (first_stage how) step
-  pub lapse : IsMade did old.seen old.seat step (lapse_from old.seat (signalled slept.at slept.n) end) new.seen
+  pub lapse : IsMade did old step (lapse_from old.seat (signalled slept.at slept.n) end) new.seen
   pub looks : back_step ≡ Look
   pub back : e ≡ back_from old.seat (lapsed (signalled slept.at slept.n) end)
   pub mine : new.mine ≡ e ∷ lapse_from old.seat (signalled slept.at slept.n) end ∷ slept ∷ old.mine
@@ -65,11 +65,11 @@ pub record EndsAwait (did : Deed → Type 0) (old : Shown) (c : ℕ) (how : How)
   pub slept : Entry
   pub await : slept.word ≡ word.Await
   pub gave_up : slept.n ≡ holds_of old X
-  pub sleeps : IsMade did old.seen old.seat (Await c) slept new.seen
+  pub sleeps : IsMade did old (Await c) slept new.seen
   pub limits : Limits
   pub limited : LimitsFor did how limits
   pub step : Step
-  pub made : IsMade did old.seen old.seat step e new.seen
+  pub made : IsMade did old step e new.seen
   pub last : IsLast e new.seen
   pub end :
       ReturnsSignalled did old how limits slept step e new

@@ -1,6 +1,6 @@
 -- What a step of a pass leaves.
 use Rattle.std.specs.Prelude.{◌≡◌, ℕ, ◌++◌, Option, Some, None, Result, Ok, Err, IsOk}
-use Rattle.monitor.specs.Below.{Entry, Fault, Answer, Recorded, Step, IsAnswered, IsTold, IsTrimmed, MakesOwed, made_by, Point, Deed, unparked, Before, Agrees}
+use Rattle.monitor.specs.Below.{Entry, Fault, Answer, Recorded, Step, IsAnswered, IsTold, IsTrimmed, MakesOwed, made_by, Point, LockId, Deed, unparked, Before, Agrees}
 use Rattle.monitor.specs.Lawful.{view_of, Beside, IsLawful}
 use Rattle.monitor.specs.Shown.{Shown}
 use Rattle.monitor.specs.declared.step.Now.{Now}
@@ -40,16 +40,16 @@ IsStepNow old step (Err fault) new = IsStep old step (Err fault) new
 -- Here and in what follows, `did deed` says that this was done at the place where the seats park, or shown by
 -- its clock.
 
--- The seat that a step named, if it named one, was unparked by one who had seen just so much. Nobody has seen
--- an entry before the step that makes it.
-abbrev pub IsUnparked : (Deed → Type 0) → Option ℕ → Point → Type 0
-IsUnparked did None seen = Unit {0}
-IsUnparked did (Some j) seen = did (unparked j seen)
+-- The seat that a step named, if it named one, was unparked by one who had seen just so much under this lock.
+-- Nobody has seen an entry there before the step that makes it.
+abbrev pub IsUnparked : (Deed → Type 0) → LockId → Option ℕ → Point → Type 0
+IsUnparked did lock None seen = Unit {0}
+IsUnparked did lock (Some j) seen = did (unparked j lock seen)
 
 -- a step that recorded its entry, and the seat that it named was unparked after it; or a step that was refused
 abbrev pub IsEntered : (Deed → Type 0) → Shown → Step → Result Entry Fault → Shown → Type 0
 IsEntered did old step (Ok e) new =
-    (named : Option ℕ) × IsStep old step (Ok (Recorded e named)) new × IsUnparked did named new.seen
+    (named : Option ℕ) × IsStep old step (Ok (Recorded e named)) new × IsUnparked did old.lock named new.seen
 IsEntered did old step (Err f) new = IsStep old step (Err f) new
 
 -- A trim found such a history, and folded it, or there were too many entries. It has added nothing.

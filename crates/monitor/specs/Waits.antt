@@ -5,6 +5,7 @@ use Rattle.history.specs.declared.entry.Word.TheVariants as word
 use Rattle.history.specs.Start.{Sleep}
 use Rattle.monitor.specs.Interrupts.{tells_interrupt}
 use Rattle.monitor.specs.Lawful.{start_at}
+use Rattle.monitor.specs.Shown.{Shown}
 use Rattle.monitor.specs.Stepping.{IsUnparked}
 use Rattle.monitor.specs.declared.waiting.Limits.{Limits}
 use Rattle.monitor.specs.declared.waiting.Stage.{Stage}
@@ -23,14 +24,13 @@ with_entry e p = record { base = p.base; entries = e ∷ p.entries }
 
 -- The entry is the one of a step of the seat, after all that had been seen, and before all that was seen
 -- since. Where it still stands in the list, that is its place there. Whom it names there was unparked by one who
--- had seen it as the last entry, so after the step.
-pub record IsMade (did : Deed → Type 0) (old : Point) (seat : ℕ) (step : Step) (e : Entry)
-    (new : Point) : Type 0 where
+-- had seen it as the last entry under the same lock, so after the step.
+pub record IsMade (did : Deed → Type 0) (old : Shown) (step : Step) (e : Entry) (new : Point) : Type 0 where
   pub front : Point
-  pub begins : Before old front
-  pub made : entry_for (start_at front) front.entries seat step ≡ Ok (Some e)
+  pub begins : Before old.seen front
+  pub made : entry_for (start_at front) front.entries old.seat step ≡ Ok (Some e)
   pub there : Before (with_entry e front) new
-  pub wakes : IsUnparked did (named (start_at front) front.entries e) (with_entry e front)
+  pub wakes : IsUnparked did old.lock (named (start_at front) front.entries e) (with_entry e front)
 
 -- the entry is the last one
 abbrev pub IsLast : Entry → Point → Type 0

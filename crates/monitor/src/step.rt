@@ -6,7 +6,7 @@ ghost use Rattle.monitor.specs.Calling.{CanCall, Called};
 ghost use Rattle.monitor.specs.Load.{Brings, LetsGo, Moves, free_of, given_by, holds_of};
 ghost use Rattle.monitor.specs.inner.Load.{is_signal};
 ghost use Rattle.monitor.specs.Room.{IsEnteredIn, IsStepIn};
-ghost use Rattle.monitor.specs.Stepping.{IsStep, IsStepNow, IsEntered, IsUnparked};
+ghost use Rattle.monitor.specs.Stepping.{IsStep, IsStepNow, IsUnparked};
 ghost use Rattle.monitor.specs.inner.Stepping.{entry_in, named_in, now_of};
 ghost use Rattle.word_lock.specs.Woken.{WasWoken};
 
@@ -146,7 +146,7 @@ impl<H: Hooks + Drop, L: Load> Monitor<H, L> {
         requires signals { is_signal step ≡ true }
         ensures called { Called pass.old pass.new }
         ensures stepped { IsStepIn when_full pass.old step result pass.new }
-        ensures unparked { IsUnparked (P.did parking.now) (named_in result) pass.new.seen }
+        ensures unparked { IsUnparked (P.did parking.now) pass.new.lock (named_in result) pass.new.seen }
         ensures woken { WasWoken self.now }
     {
         let told = self.signal_step(rt, pass, step, when_full);
@@ -188,7 +188,7 @@ fn entered<P: Parking>(
     requires places { IfSome (named_in answer) (λ j. j < P.seats parking.now) }
     requires awake { answer ≢ Ok Sleep }
     ensures entry { result ≡ entry_in answer }
-    ensures unparked { IsUnparked (P.did parking.now) (named_in answer) pass.now.seen }
+    ensures unparked { IsUnparked (P.did parking.now) pass.now.lock (named_in answer) pass.now.seen }
 {
     unpark(parking, named_in(answer), pass);
     match answer {
@@ -212,7 +212,7 @@ fn named_in(answer: Result<Answer, Fault>) -> Option<u16>
 // The seat that a step named is unparked by the pass that made the step: after it, and before its next one.
 pub(crate) fn unpark<P: Parking>(parking: &P, named: Option<u16>, pass: &Pass)
     requires { IfSome named (λ j. j < P.seats parking.now) }
-    ensures { IsUnparked (P.did parking.now) named pass.now.seen }
+    ensures { IsUnparked (P.did parking.now) pass.now.lock named pass.now.seen }
 {
     if let Some(seat) = named {
         parking.unpark(seat, &pass.token);

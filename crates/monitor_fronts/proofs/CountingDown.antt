@@ -92,7 +92,7 @@ await_open did old new how (Ok e) x t =
     at_most_none (count_at new.seen) (count_at p)
     (count_falls p new.seen (before_new p new.seen e y.made.there))
     (zero_there p.base.header.object (counts s p.entries) old.seat (counted s p.entries)
-    (got_there did old.seen new.seen old.seat S 1 y.step e y.made y.got) refl)
+    (got_there did old new.seen S 1 y.step e y.made y.got) refl)
 await_open did old new how (Err f) x t = absurd (never_refused f true t)
 
 pub awaits_open : (w : WhenFull) (did : Deed → Type 0) (how : How) (old new : Shown) (r : Result Entry Fault) →
@@ -159,7 +159,7 @@ shut_at old new p begins there above =
 -- a place where an acquire, or one that waits for nobody, was not recorded as got
 module _ (did : Deed → Type 0) (old new : Shown) (e : Entry) (latch : is_latch old.lock.header.object ≡ true)
     (same : IsSame old new) (shows : IsSound new) where
-  shut_where : (step : Step) → (x : IsMade did old.seen old.seat step e new.seen) →
+  shut_where : (step : Step) → (x : IsMade did old step e new.seen) →
       could (counts (start_at x.front) x.front.entries) old.seat S 1 ≡ false → WasShut old new
   shut_where step x never =
       let p = x.front in
@@ -168,7 +168,7 @@ module _ (did : Deed → Type 0) (old new : Shown) (e : Entry) (latch : is_latch
       shut_at old new p x.begins (before_new p new.seen e x.there)
       (latch_shut p.base.header.object (counts (start_at p) p.entries) old.seat is never)
 
-  free_of_line : (step : Step) → (x : IsMade did old.seen old.seat step e new.seen) →
+  free_of_line : (step : Step) → (x : IsMade did old step e new.seen) →
       held_back (counts (start_at x.front) x.front.entries) (first_mode (start_at x.front) x.front.entries) old.seat S
       ≡ false
   free_of_line step x =
@@ -178,7 +178,7 @@ module _ (did : Deed → Type 0) (old new : Shown) (e : Entry) (latch : is_latch
       latch_holds_none_back p.base.header.object (not (is_reentrant (counts (start_at p) p.entries) old.seat S)) S
       (first_mode (start_at p) p.entries) is
 
-  queued_shut : (x : IsMade did old.seen old.seat (Acquire S 1) e new.seen) → e.word ≡ word.Queued → WasShut old new
+  queued_shut : (x : IsMade did old (Acquire S 1) e new.seen) → e.word ≡ word.Queued → WasShut old new
   queued_shut x q =
       let p = x.front in
       let k = counts (start_at p) p.entries in
@@ -186,7 +186,7 @@ module _ (did : Deed → Type 0) (old new : Shown) (e : Entry) (latch : is_latch
       shut_where (Acquire S 1) x (why_queued _ (limit k old.seat S) _ (free_of_line (Acquire S 1) x)
       (sym (ap (λ (z : Entry). z.word) i.is) ∙ q))
 
-  missed_shut : (x : IsMade did old.seen old.seat (TryFair S 1) e new.seen) → e.word ≡ word.Missed → WasShut old new
+  missed_shut : (x : IsMade did old (TryFair S 1) e new.seen) → e.word ≡ word.Missed → WasShut old new
   missed_shut x q =
       let p = x.front in
       let k = counts (start_at p) p.entries in
@@ -212,7 +212,7 @@ await_shut did old new how (Ok e) latch same shows (inl (step, inl a, x)) t =
     let q = first_plain (start_at s.front) s.front.entries old.seat how S 1 e made in
     let m = missed_at_once how e.word a.1 (sym (ap (λ (z : Entry). whether_by e.word z.end) q) ∙ t) in
     missed_shut did old new e latch same shows
-    (subst (λ (z : Step). IsMade did old.seen old.seat z e new.seen) (a.0 ∙ ap (λ (h : How). first_step h S 1) m.1) s)
+    (subst (λ (z : Step). IsMade did old z e new.seen) (a.0 ∙ ap (λ (h : How). first_step h S 1) m.1) s)
     m.0
 await_shut did old new how (Ok e) latch same shows (inl (step, inr b, x)) t =
     absurd (never_refused fault.Interrupted false (ap (λ (w : Word). whether_by w e.end) (sym b.1) ∙ t))
@@ -248,7 +248,7 @@ one_less o c = omega arith
 
 -- where a step was recorded, by whether that is a latch
 counted_there : (did : Deed → Type 0) (old new : Shown) (e : Entry) →
-    (x : IsMade did old.seen old.seat (Give S 1) e new.seen) → is_latch x.front.base.header.object ≡ true →
+    (x : IsMade did old (Give S 1) e new.seen) → is_latch x.front.base.header.object ≡ true →
     IsCounted x.front (with_entry e x.front)
 counted_there did old new e x latch =
     let p = x.front in
@@ -300,7 +300,7 @@ falls_own : (did : Deed → Type 0) (old new : Shown) (r : Result Entry Fault) �
     FallsBy (gained (whether_of r)) old new
 falls_own did old new (Ok e) s = by (is_latch p.base.header.object) refl
   where
-    x : IsMade did old.seen old.seat (Give S 1) e new.seen
+    x : IsMade did old (Give S 1) e new.seen
     x = entered_made did old new (Give S 1) e s
 
     p : Point

@@ -27,12 +27,12 @@ before_entry p e = inl (refl, (e ∷ [], refl))
 
 -- where a step was recorded
 pub entered_made : (did : Deed → Type 0) (old new : Shown) (step : Step) (e : Entry) →
-    IsEntered did old step (Ok e) new → IsMade did old.seen old.seat step e new.seen
+    IsEntered did old step (Ok e) new → IsMade did old step e new.seen
 entered_made did old new step e s =
     (made_in did old old new step e s.0 (same_self old) (before_refl old.seen) s.1 s.2).0
 
 pub at_made : {fact : Point → Point → Type 0} (did : Deed → Type 0) (old new : Shown) (step : Step) (e : Entry) →
-    (x : IsMade did old.seen old.seat step e new.seen) → e.seat ≡ old.seat → fact x.front (with_entry e x.front) →
+    (x : IsMade did old step e new.seen) → e.seat ≡ old.seat → fact x.front (with_entry e x.front) →
     AtOwnEntry fact old new
 at_made {fact} did old new step e x own is =
     record { place = x.front; entry = e; own = own; begins = x.begins; there = x.there; is = is }
@@ -74,7 +74,7 @@ pub record IsGot (i : ℕ) (m : Mode) (n : ℕ) (e : Entry) : Type 0 where
 -- The entry that a call recorded when it got what it asked for, and where.
 pub record Gets (did : Deed → Type 0) (old : Shown) (m : Mode) (n : ℕ) (e : Entry) (new : Shown) : Type 0 where
   pub step : Step
-  pub made : IsMade did old.seen old.seat step e new.seen
+  pub made : IsMade did old step e new.seen
   pub got : IsGot old.seat m n e
 
 got_as : (i : ℕ) (m : Mode) (n : ℕ) (e f : Entry) → e ≡ f → IsGot i m n f → IsGot i m n e
@@ -98,10 +98,10 @@ could_get s h step e got made = by e.word got (known s h step e made)
         ∙ (ap (could (counts s h) e.seat k.0.mode) n ∙ ready_could s h e.seat k.0 k.2 k.1.stands)
     by _ t k = cc
 
-pub got_there : (did : Deed → Type 0) (old new : Point) (i : ℕ) (m : Mode) (n : ℕ) (step : Step) (e : Entry) →
-    (x : IsMade did old i step e new) → IsGot i m n e →
-    could (counts (start_at x.front) x.front.entries) i m n ≡ true
-got_there did old new i m n step e x got =
+pub got_there : (did : Deed → Type 0) (old : Shown) (new : Point) (m : Mode) (n : ℕ) (step : Step) (e : Entry) →
+    (x : IsMade did old step e new) → IsGot old.seat m n e →
+    could (counts (start_at x.front) x.front.entries) old.seat m n ≡ true
+got_there did old new m n step e x got =
     let s = start_at x.front in
     let h = x.front.entries in
     let made : entry_for s h e.seat step ≡ Ok (Some e) =

@@ -333,7 +333,7 @@ gets_taken did old new n e semaphore same shows x =
     let is = place_semaphore old new semaphore same shows e p x.made.there in
     at_made did old new x.step e x.made x.got.seat (
       semaphore_enough p.base.header.object (counts (start_at p) p.entries) old.seat n is
-          (got_there did old.seen new.seen old.seat S n x.step e x.made x.got),
+          (got_there did old new.seen S n x.step e x.made x.got),
       got_frees e.word e.n (free_at p) x.got.word ∙ ap (λ (z : ℕ). free_at p -ℤ pos z) x.got.amount,
     )
 

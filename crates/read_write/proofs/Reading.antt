@@ -1,13 +1,12 @@
 -- What a read-write lock's hooks say of the counts that they stand for.
 use Rattle.std.proofs.Common.{◌≡◌, ℕ, ◌<◌, Bool, true, false, not, ◌&&◌, cond, ltb, eqb, length, slice_index, Option, Some, None, Ok, Err, refl, ap, ◌∙◌, sym, subst, arith, ltb-true, eqb-true}
-use Rattle.std.proofs.Math.Bool.{or-false}
 use Rattle.std.proofs.lemmas.Bool.{and_parts}
-use Rattle.read_write.specs.Below.{Mode, X, S, ReadWrite, could, limit, held_back, line_blocks, is_seat, is_none_or, MOST_READ_WRITE_HOLDS, Counts, owner, readers, total, let_go_answer, holds_of, is_owned, is_owner_in}
+use Rattle.read_write.specs.Below.{Mode, X, S, could, is_seat, is_none_or, MOST_READ_WRITE_HOLDS, Counts, owner, readers, total, let_go_answer, holds_of, is_owned, is_owner_in}
 use Rattle.history.specs.declared.fault.Fault.TheVariants as fault
 use Rattle.history.proofs.Sums.{total_same}
 use Rattle.frame.proofs.Owners.{owner_is}
 use Rattle.read_write.specs.State.{State, MatchesFor, state_of, holds_by}
-use Rattle.read_write.specs.inner.{could_by, reentrant_by}
+use Rattle.read_write.specs.inner.{could_by}
 use Rattle.read_write.specs.declared.hooks.RwHooks.{RwHooks}
 
 -- An owner has a write hold and is one of the seats. The number of readers is the sum of the table.
@@ -39,31 +38,6 @@ could_is s k t h i S n =
     let own = owner_of s k t h in
     let all = readers_of s k t h in
     rw h.object (rw own (rw all refl))
-
--- when a seat is at its limit
-abbrev limit_by : State → ℕ → Mode → Bool
-limit_by s i X = eqb (holds_of s.owner s.writes i) MOST_READ_WRITE_HOLDS
-limit_by s i S = is_none_or s.owner i && eqb s.readers MOST_READ_WRITE_HOLDS
-
-pub limit_is : (s : State) (k : Counts) → IsSound s → MatchesFor s k → (i : ℕ) (m : Mode) →
-    limit k i m ≡ limit_by s i m
-limit_is s k t h i X = let had = h.owns.held i in rw h.object (rw had refl)
-limit_is s k t h i S =
-    let own = owner_of s k t h in
-    let all = readers_of s k t h in
-    rw h.object (rw own (rw all refl))
-
-pub held_back_is : (s : State) (k : Counts) → IsSound s → MatchesFor s k →
-    (first : Option Mode) (i : ℕ) (m : Mode) →
-    held_back k first i m ≡ (not (reentrant_by s i m) && line_blocks (ReadWrite s.policy) m first)
-held_back_is s k t h first i X =
-    let own = owner_of s k t h in
-    rw h.object
-    (rw own (ap (λ b. not b && line_blocks (ReadWrite s.policy) X first) (or-false (is_seat s.owner i))))
-held_back_is s k t h first i S =
-    let own = owner_of s k t h in
-    let had = h.shared i in
-    rw h.object (rw own (rw had refl))
 
 pub let_go_is : (s : State) (k : Counts) → IsSound s → MatchesFor s k → (i : ℕ) →
     let_go_answer k i ≡ cond (not (is_seat s.owner i)) (Err fault.NotOwner)

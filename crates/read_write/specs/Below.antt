@@ -9,6 +9,6 @@ pub use Rattle.history.specs.declared.header.Object.TheVariants.{ReadWrite}
 pub use Rattle.history.specs.declared.header.Policy.{Policy}
 pub use Rattle.history.specs.declared.limits.TheConstants.{MOST_READ_WRITE_HOLDS}
 pub use Rattle.history.specs.Changes.{holds_with, took, gave_back, given, restored}
-pub use Rattle.history.specs.Could.{is_seat, is_none_or, could, limit, line_blocks, held_back}
+pub use Rattle.history.specs.Could.{is_seat, is_none_or, could}
 pub use Rattle.history.specs.Counts.{Counts, total, owner, readers}
 pub use Rattle.history.specs.Object.{in_holds}

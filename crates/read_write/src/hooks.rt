@@ -1,13 +1,14 @@
 //! The writer and the readers of a read-write lock.
 
-ghost use Rattle.std.specs.Prelude.{◌≡◌, ◌==◌, ◌||◌, ℕ, length, slice_index, true, IfOk, OnErr, Err};
-ghost use Rattle.frame.specs.Owners.{holds_of, is_owned, is_owner_in};
+ghost use Rattle.std.specs.Prelude.{◌≡◌, ◌==◌, ◌||◌, length, slice_index, true, IfOk, OnErr, Err};
+ghost use Rattle.frame.specs.Owners.{is_owned, is_owner_in};
+ghost use Rattle.deciding.specs.Claim.{IsClaim};
 ghost use Rattle.history.specs.Could.{is_none_or, is_seat};
 ghost use Rattle.history.specs.declared.limits.TheConstants.{MOST_READ_WRITE_HOLDS};
-ghost use Rattle.history.specs.Counts.{total};
-ghost use Rattle.history.specs.declared.entry.Mode.TheVariants.{X, S};
+ghost use Rattle.history.specs.Counts.{Counts, total};
 ghost use Rattle.history.specs.declared.header.Object.TheVariants.{ReadWrite};
 
+use deciding::claim::Claim;
 use frame::hooks::{Gave, Hooks, Line, Taken};
 use history::entry::Mode;
 use history::fault::Fault;
@@ -89,25 +90,23 @@ impl RwHooks {
 }
 
 impl RwHooks {
-    ghost use Rattle.frame.specs.Hooks.{line_mode};
-    ghost use Rattle.read_write.specs.State.{state_of};
-    ghost use Rattle.read_write.specs.inner.{could_by, reentrant_by};
-    ghost use Rattle.history.specs.Could.{line_blocks};
+    ghost use Rattle.read_write.specs.State.{Matches};
 
-    fn could_write(&self, who: u16) -> bool
-        ensures { result ≡ could_by self.now.owner self.now.writes self.now.readers who X }
+    /// Returns what decides whether the seat could acquire.
+    #[inline(always)]
+    fn claim(&self, who: u16) -> Claim
+        ensures { (k : Counts) → Matches self.now k → IsClaim k who result }
     {
-        if self.owns(who) {
-            self.writes < MAX_READ_WRITE_HOLDS
-        } else {
-            self.admits(who) && self.readers == 0
+        Claim {
+            object: self.object(),
+            owns: self.owns(who),
+            admitted: self.admits(who),
+            own: u128::from(self.holds(who, Mode::X)),
+            reads: self.holds(who, Mode::S) > 0,
+            readers: u128::from(self.readers),
+            free: 0,
+            count: 0,
         }
-    }
-
-    fn could_read(&self, who: u16) -> bool
-        ensures { result ≡ could_by self.now.owner self.now.writes self.now.readers who S }
-    {
-        self.admits(who) && self.readers < MAX_READ_WRITE_HOLDS
     }
 
     /// Returns whether no other seat could read now: no read hold is left, or the reader writes too.
@@ -122,32 +121,6 @@ impl RwHooks {
         ensures { result ≡ ((self.now.readers == 1) || (self.now.readers == MOST_READ_WRITE_HOLDS)) }
     {
         self.readers == 1 || self.readers == MAX_READ_WRITE_HOLDS
-    }
-
-    /// Returns whether a call is reentrant. A reader that asks to write isn't.
-    fn is_reentrant(&self, who: u16, mode: Mode) -> bool
-        ensures { result ≡ reentrant_by (state_of self.now) who mode }
-    {
-        match mode {
-            Mode::X => self.owns(who),
-            Mode::S => self.owns(who) || self.holds(who, Mode::S) > 0,
-        }
-    }
-
-    /// Returns whether the queue holds a call back. In a fair or strict lock it holds back all. In a non-fair
-    /// one it holds back new readers if its head asks to write.
-    fn is_blocked(&self, mode: Mode, line: Line) -> bool
-        ensures { result ≡ line_blocks (ReadWrite self.now.policy) mode (line_mode line) }
-    {
-        match (line, self.policy) {
-            (Line::Empty, _) => false,
-            (_, Policy::Fair | Policy::Strict) => true,
-            (Line::FirstS, Policy::NonFair) => false,
-            (Line::FirstX, Policy::NonFair) => match mode {
-                Mode::X => false,
-                Mode::S => true,
-            },
-        }
     }
 }
 
@@ -169,22 +142,16 @@ impl Hooks for RwHooks {
 
     ghost stands = { some_counts };
 
-    fn could(&self, who: u16, mode: Mode, _n: u32) -> bool {
-        match mode {
-            Mode::X => self.could_write(who),
-            Mode::S => self.could_read(who),
-        }
+    fn could(&self, who: u16, mode: Mode, n: u32) -> bool {
+        self.claim(who).could(mode, n)
     }
 
     fn at_limit(&self, who: u16, mode: Mode) -> bool {
-        match mode {
-            Mode::X => self.holds(who, Mode::X) == MAX_READ_WRITE_HOLDS,
-            Mode::S => self.admits(who) && self.readers == MAX_READ_WRITE_HOLDS,
-        }
+        self.claim(who).at_limit(mode)
     }
 
     fn holds_back(&self, who: u16, mode: Mode, line: Line) -> bool {
-        !self.is_reentrant(who, mode) && self.is_blocked(mode, line)
+        self.claim(who).holds_back(mode, line.first())
     }
 
     fn strict(&self) -> bool {

@@ -4,10 +4,9 @@ use Rattle.std.proofs.lemmas.Bool.{cases_eq, and_parts, and_from}
 use Rattle.history.specs.declared.entry.Mode.{Mode}
 use Rattle.history.specs.declared.entry.Mode.TheVariants.{X, S}
 use Rattle.history.specs.declared.fault.Fault.TheVariants as fault
-use Rattle.history.specs.declared.header.Object.TheVariants.{Lock}
 use Rattle.history.specs.declared.header.Policy.{Policy}
 use Rattle.history.specs.Changes.{took, gave_back, given, restored}
-use Rattle.history.specs.Could.{could, held_back, line_blocks, is_seat, is_none_or}
+use Rattle.history.specs.Could.{could, is_seat, is_none_or}
 use Rattle.history.specs.declared.limits.TheConstants.{MOST_HOLDS}
 use Rattle.history.specs.Counts.{Counts, owner}
 use Rattle.history.specs.Object.{in_holds}
@@ -29,13 +28,6 @@ could_is p o n k t h i X a =
     let d : k.held i X ≡ holds_of o n i = h.owns.held i in
     rw h.object (rw w (rw d refl))
 could_is p o n k t h i S a = rw h.object refl
-
-pub held_back_is : (p : Policy) (o : Option ℕ) (n : ℕ) (k : Counts) → is_owned MOST_HOLDS o n ≡ true →
-    MatchesBy p o n k → (first : Option Mode) (i : ℕ) (m : Mode) →
-    held_back k first i m ≡ (not (is_seat o i) && line_blocks (Lock p) m first)
-held_back_is p o n k t h first i m =
-    let w : owner k ≡ o = owner_is MOST_HOLDS o n k t h.owns in
-    rw h.object (rw w refl)
 
 pub let_go_is : (p : Policy) (o : Option ℕ) (n : ℕ) (k : Counts) → is_owned MOST_HOLDS o n ≡ true →
     MatchesBy p o n k → (i : ℕ) →

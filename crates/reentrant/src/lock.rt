@@ -2,15 +2,17 @@
 
 ghost use Rattle.std.specs.Prelude.{◌≡◌, ℕ, true};
 ghost use Rattle.frame.specs.Owners.{holds_of, is_owned};
+ghost use Rattle.deciding.specs.Claim.{IsClaim};
 ghost use Rattle.history.specs.Could.{is_none_or, is_seat};
+ghost use Rattle.history.specs.Counts.{Counts};
 ghost use Rattle.history.specs.declared.limits.TheConstants.{MOST_HOLDS};
 ghost use Rattle.history.specs.declared.header.Object.TheVariants.{Lock};
 
+use deciding::claim::Claim;
 use frame::hooks::{Gave, Hooks, Line, Taken};
 use history::entry::Mode;
 use history::fault::Fault;
 use history::header::{Object, Policy};
-use history::limits::MOST_HOLDS;
 
 /// The hooks of a lock. As in ReentrantLock, the state is the owner and its number of holds.
 #[derive(Drop)]
@@ -23,7 +25,7 @@ pub struct LockHooks {
 }
 
 impl LockHooks {
-    ghost use Rattle.reentrant.specs.Lock.{lock_of, IsOpened};
+    ghost use Rattle.reentrant.specs.Lock.{lock_of, IsOpened, Matches};
 
     /// Returns the hooks of a lock that nobody owns, for any number of seats.
     pub fn open(policy: Policy) -> LockHooks
@@ -60,6 +62,23 @@ impl LockHooks {
     {
         if self.owns(who) { self.holds } else { 0 }
     }
+
+    /// Returns what decides whether the seat could acquire.
+    #[inline(always)]
+    fn claim(&self, who: u16) -> Claim
+        ensures { (k : Counts) → Matches self.now k → IsClaim k who result }
+    {
+        Claim {
+            object: self.object(),
+            owns: self.owns(who),
+            admitted: self.admits(who),
+            own: u128::from(self.holds_of(who)),
+            reads: false,
+            readers: 0,
+            free: 0,
+            count: 0,
+        }
+    }
 }
 
 impl Hooks for LockHooks {
@@ -80,25 +99,16 @@ impl Hooks for LockHooks {
 
     ghost stands = { some_counts };
 
-    fn could(&self, who: u16, mode: Mode, _n: u32) -> bool {
-        match mode {
-            Mode::X => self.admits(who) && self.holds_of(who) < MOST_HOLDS,
-            Mode::S => false,
-        }
+    fn could(&self, who: u16, mode: Mode, n: u32) -> bool {
+        self.claim(who).could(mode, n)
     }
 
     fn at_limit(&self, who: u16, mode: Mode) -> bool {
-        match mode {
-            Mode::X => self.holds_of(who) == MOST_HOLDS,
-            Mode::S => false,
-        }
+        self.claim(who).at_limit(mode)
     }
 
-    fn holds_back(&self, who: u16, _mode: Mode, line: Line) -> bool {
-        match line {
-            Line::Empty => false,
-            Line::FirstX | Line::FirstS => self.policy.is_fair() && !self.owns(who),
-        }
+    fn holds_back(&self, who: u16, mode: Mode, line: Line) -> bool {
+        self.claim(who).holds_back(mode, line.first())
     }
 
     fn strict(&self) -> bool {

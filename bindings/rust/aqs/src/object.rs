@@ -94,23 +94,27 @@ impl<K: Kind> Lazy<K> {
         self.handle.get_or_init(open).0
     }
 
-    /// The text of the history since the last trim.
+    /// The text of the history since the last trim. Other threads may lengthen it between two tries. So each
+    /// try has twice the spare room, until the room is twice the text.
     pub(crate) fn history(&self) -> Result<String, Error> {
         const NO_SPACE: sys::Status = 14;
         // SAFETY: the object is open.
         let object = unsafe { K::object(self.get()) };
         let mut text: Vec<u8> = Vec::new();
+        let mut share = 8;
         loop {
-            let (mut length, size) = (0, text.len());
-            // SAFETY: the object is open, and the buffer has that length.
+            let (mut length, size) = (0, text.capacity());
+            // SAFETY: the object is open, and the buffer has that room.
             let status =
                 unsafe { sys::aqs_history_text(object, text.as_mut_ptr().cast(), size, &mut length) };
             if status == NO_SPACE {
-                text.resize(length + length / 8, 0);
+                text = Vec::with_capacity(length + length / share);
+                share = (share / 2).max(1);
                 continue;
             }
             check(status)?;
-            text.truncate(length);
+            // SAFETY: the call has written as many bytes.
+            unsafe { text.set_len(length) };
             return Ok(String::from_utf8(text).expect("a history is a text"));
         }
     }

@@ -97,7 +97,8 @@ fn a_notify_moves_no_more_than_it_says() {
             for condvar in [&one, &one, &two, &two] {
                 scope.spawn(|| condvar.wait_for(&mut mutex.lock(), LONG));
             }
-            until(|| mutex.waiters() == 4);
+            // Who waits for the mutex itself is a waiter too.
+            until(|| mutex.waiters() == 4 && mutex.queue_length() == 0);
             let _guard = mutex.lock();
             let calls: [&dyn Fn() -> usize; 4] = [
                 &|| one.notify_one().into(),

@@ -166,6 +166,25 @@ fn one_that_gives_it_up_leaves_the_next_owner_as_it_is() {
 }
 
 #[test]
+fn one_that_leaves_counts_no_entry_of_the_next_owner() {
+    let (mutex, late) = (Mutex::new(()), Instant::now() + 60 * SHORT);
+    thread::scope(|scope| {
+        for _ in 0..4 {
+            scope.spawn(|| {
+                while Instant::now() < late {
+                    let entry = mutex.enter();
+                    // One that has woken this thread may go on.
+                    thread::yield_now();
+                    drop(entry);
+                    // It has nothing, so it may lock.
+                    drop(mutex.lock());
+                }
+            });
+        }
+    });
+}
+
+#[test]
 fn one_for_whom_there_is_no_seat_is_told() {
     let mutex = Mutex::with(0, Options::new().threads(1)).unwrap();
     let guard = mutex.lock();

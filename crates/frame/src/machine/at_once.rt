@@ -29,10 +29,11 @@ use deciding::entries::plain;
 use deciding::room::owed_behind;
 use history::entry::{Entry, Mode, Word};
 use history::header::{Header, Object};
+use history::limits::MOST_AMOUNT;
 use history::step::Step;
 
 /// The most free permits.
-const MAX_PERMITS: i64 = 2_147_483_647;
+const MAX_PERMITS: i64 = MOST_AMOUNT as i64;
 
 impl<H: Hooks + Drop> Core<H> {
     /// Performs a step if it can be done at once: an acquire or a try that succeeds, or a release, of an idle

@@ -2,19 +2,16 @@
 //! arms the entry is known.
 
 ghost use Rattle.std.specs.Prelude.{◌≡◌, ◌<◌, IsTrue, Some};
-ghost use Rattle.history.specs.declared.entry.End.TheVariants as end;
-ghost use Rattle.history.specs.declared.entry.Word.TheVariants as word;
 ghost use Rattle.history.specs.declared.step.Step.TheVariants.{Acquire, Give, Look};
 ghost use Rattle.history.specs.Could.{could, held_back, is_seat};
 ghost use Rattle.history.specs.Line.{first_of, line};
-ghost use Rattle.history.specs.Steps.{ended};
 ghost use Rattle.frame.specs.inner.AtOnce.{IsIdle, may_acquire, queues};
 ghost use Rattle.frame.specs.Core.{counts_of, start_of, IsStepped};
 ghost use Rattle.frame.specs.inner.Core.{first_mode_of, ready_of};
 
 use super::Core;
 use crate::hooks::Hooks;
-use deciding::entries::plain;
+use deciding::entries::{ended, plain};
 use history::arrival::Arrival;
 use history::entry::{End, Entry, Mode, Word};
 use history::fault::Fault;
@@ -64,7 +61,7 @@ impl<H: Hooks + Drop> Core<H> {
             if first.back {
                 self.step_in_full(seat, Step::Look)
             } else {
-                self.record(granted(seat, first))
+                self.record(ended(seat, Word::Granted, first, End::None))
             }
         } else if self.queue.place_of(seat).is_some() {
             self.sleep(seat);
@@ -123,19 +120,5 @@ impl<H: Hooks + Drop> Core<H> {
         ensures { result ≡ could (counts_of self.now) seat mode n }
     {
         self.hooks.could(seat, mode, n)
-    }
-}
-
-/// Returns the entry by which an acquire in the queue succeeds.
-fn granted(seat: u16, arrival: Arrival) -> Entry
-    ensures { result ≡ ended seat word.Granted arrival end.None }
-{
-    Entry {
-        seat,
-        word: Word::Granted,
-        mode: arrival.mode,
-        n: arrival.n,
-        at: 0,
-        end: End::None,
     }
 }

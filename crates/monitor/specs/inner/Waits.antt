@@ -40,7 +40,7 @@ pub record HasLapsed (did : Deed → Type 0) (first : Shown) (w : Sleep) (s : St
   pub may : MayLapse l how
   pub step : Step
   pub comes : ComesOf did first.seat l s step
-  pub made : IsMade did first.seen first.seat step (lapse_from first.seat w how) now
+  pub made : IsMade did first step (lapse_from first.seat w how) now
 
 -- the await ended after its lapse
 pub record BackFromLapse (did : Deed → Type 0) (first : Shown) (w : Sleep) (s : Stage) (l : Limits)
@@ -62,7 +62,7 @@ EndsLapsed did first _ s l step e new = ⊥
 pub record IsWait (did : Deed → Type 0) (first : Shown) (k : Cause) (s : Stage) (l : Limits) (e : Entry)
     (new : Shown) : Type 0 where
   pub step : Step
-  pub made : IsMade did first.seen first.seat step e new.seen
+  pub made : IsMade did first step e new.seen
   pub last : IsLast e new.seen
   pub end :
       ((new.mine ≡ e ∷ first.mine) × EndsBy l first.seat k e

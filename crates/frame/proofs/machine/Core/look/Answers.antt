@@ -5,21 +5,21 @@ use Rattle.frame.proofs.ByKind.{takes_turn, waits_on}
 use Rattle.frame.proofs.Deciding.{step_next}
 use Rattle.frame.proofs.Recording.{made_plain, stepped, waited}
 use Rattle.frame.proofs.machine.Core.look.Goals as goal
-use Rattle.frame.proofs.machine.Core.look.Goals.{After-granted}
+use Rattle.frame.proofs.machine.Core.look.Goals.{After-ended}
 
-granted : (g : _) (c : After-granted g) →
-    entry_for (start_of c.args.self.now) c.args.self.now.entries c.args.seat Look ≡ Ok (Some c.granted.result)
+granted : (g : _) (c : After-ended g) →
+    entry_for (start_of c.args.self.now) c.args.self.now.entries c.args.seat Look ≡ Ok (Some c.ended.result)
 granted g c =
     let header = subst (λ (v : CoreView). (start_of v).header ≡ v.header) c.self.view_is c.self.invariant.based in
     let first = subst (λ (v : CoreView). first_of (line (start_of v) v.entries) ≡ Some c.in-Some.first)
     c.self.view_is (ap first_of (sym c.self.invariant.waiting.line) ∙ sym c.first.ensures ∙ c.in-Some.is) in
-    made_plain _ c.granted.result _ (takes_turn c.args.self.now c.args.seat c.in-Some.first header first
-    (sym c.is_ready.ensures ∙ c.if-is_ready.true) c.if-first.false) c.granted.ensures
+    made_plain _ c.ended.result _ (takes_turn c.args.self.now c.args.seat c.in-Some.first header first
+    (sym c.is_ready.ensures ∙ c.if-is_ready.true) c.if-first.false) c.ended.ensures
 
 pub record-requires : goal.record-requires
 record-requires g c =
-    step_next c.args.self.now c.args.seat Look c.granted.result c.requires
-    (granted g (goal.at.record-requires g c).After-granted)
+    step_next c.args.self.now c.args.seat Look c.ended.result c.requires
+    (granted g (goal.at.record-requires g c).After-ended)
 
 pub returns-then-is_some : goal.returns-then-is_some
 returns-then-is_some g c =
@@ -33,5 +33,5 @@ returns-then-is_some g c =
 
 pub returns-else-first : goal.returns-else-first
 returns-else-first g c =
-    stepped c.args.self.now c.record.new.self c.args.seat Look c.granted.result c.record.result
-    (granted g (goal.at.returns-else-first g c).After-granted) c.record.ensures
+    stepped c.args.self.now c.record.new.self c.args.seat Look c.ended.result c.record.result
+    (granted g (goal.at.returns-else-first g c).After-ended) c.record.ensures

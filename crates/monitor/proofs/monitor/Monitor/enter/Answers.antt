@@ -3,6 +3,7 @@ use Rattle.monitor.specs.Below.{Entry, Fault, Answer, Recorded, entry_at_once, L
 use Rattle.monitor.specs.Room.{IsEnteredIn, IsStepIn}
 use Rattle.monitor.specs.inner.Stepping.{named_in}
 use Rattle.monitor.proofs.FastWay.{entered_in}
+use Rattle.monitor.proofs.InLine.{woken_as}
 use Rattle.monitor.proofs.RoomTurns.{entered_ok, no_sleep_in, place_in}
 use Rattle.monitor.proofs.monitor.Monitor.enter.Goals.{After-step_first}
 use Rattle.monitor.proofs.monitor.Monitor.enter.Goals as goal
@@ -30,7 +31,9 @@ returns-in-Done-clause-entered g c =
     (sym (c.entry_at_once.ensures
     ∙ ap (λ i. entry_at_once i c.args.step) (c.seat.ensures ∙ c.step_first.ensures.called.same.seat)))
     (entered_ok c.args.when_full did c.args.pass.now c.step_first.new.pass c.args.step
-    (entry_at_once c.args.pass.now.seat c.args.step) c.in-Done.named c.unpark.ensures c.in-Done.ensures.stepped)
+    (entry_at_once c.args.pass.now.seat c.args.step) c.in-Done.named
+    (woken_as did c.args.pass.now c.step_first.new.pass c.in-Done.named c.step_first.new.pass.seen
+    c.step_first.ensures.called.same c.unpark.ensures) c.in-Done.ensures.stepped)
 
 pub entered-requires-clause-places : goal.entered-requires-clause-places
 entered-requires-clause-places g c =
@@ -48,4 +51,6 @@ returns-in-Otherwise-clause-entered g c =
     subst (λ (r : Result Entry Fault). IsEnteredIn c.args.when_full did c.args.pass.now c.args.step r
     c.step_first.new.pass) (sym c.entered.ensures.entry)
     (entered_in c.args.when_full did c.args.pass.now c.step_first.new.pass c.args.step c.in-Otherwise.answer
-    c.requires.idle c.entered.ensures.unparked c.in-Otherwise.ensures.stepped)
+    c.requires.idle
+    (woken_as did c.args.pass.now c.step_first.new.pass (named_in c.in-Otherwise.answer) c.step_first.new.pass.seen
+    c.step_first.ensures.called.same c.entered.ensures.unparked) c.in-Otherwise.ensures.stepped)

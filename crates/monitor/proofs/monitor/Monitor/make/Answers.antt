@@ -1,11 +1,12 @@
 use Rattle.std.proofs.Common.{rules, ◌≡◌, ◌≤◌, ◌∙◌, false, None, Ok, ℕ, ap, sym, subst}
 use Rattle.monitor.specs.Below.{LockId, Entry, Recorded, Step, entry_at_once, Point}
-use Rattle.monitor.specs.Prelude.{WasNotInterrupted, Brings, LetsGo, free_of, given_by, holds_of, begun, step_by, IsBegunIn, IsCallIn, IsStepIn, at_point, Waiting}
+use Rattle.monitor.specs.Prelude.{IsUnparked, WasNotInterrupted, Brings, LetsGo, free_of, given_by, holds_of, begun, step_by, IsBegunIn, IsCallIn, IsStepIn, at_point, Waiting}
 use Rattle.monitor.specs.inner.Waits.{MayBegin}
 use Rattle.monitor.specs.declared.machine.Next.TheVariants as next
 use Rattle.monitor.proofs.Acquiring.{found_none, found_one}
 use Rattle.monitor.proofs.FastWay.{made_at_once}
 use Rattle.monitor.proofs.Freeing.{brings_still, fit_still, moves_since, stays}
+use Rattle.monitor.proofs.InLine.{woken_as}
 use Rattle.monitor.proofs.RoomTurns.{awake_in, ends_in, place_first_in, place_in, same_at, step_in_as, waited_in, waits_from}
 use Rattle.monitor.proofs.Sections.{called_since}
 use Rattle.monitor.proofs.TurnByTurn.{Begins, begun_free, begun_waits, may_wait, step_gives_none, step_lets, waits_now}
@@ -47,12 +48,21 @@ unpark-requires-in-Otherwise g c =
     c.step_first.ensures.called.shows
     (subst (λ (l : LockId). l.header.seats ≤ seats) (sym lock) c.requires.can.places)
 
+-- whom that step named was unparked
+woken : (g : _) (c : After-unpark-in-Otherwise g) → IsUnparked (g.P.Parking.did c.args.parking.now)
+    c.args.pass.now.lock c.first_turn-turn.result.named c.step_first.new.pass.seen
+woken g c =
+    woken_as (g.P.Parking.did c.args.parking.now) c.args.pass.now c.step_first.new.pass
+    c.first_turn-turn.result.named c.step_first.new.pass.seen c.step_first.ensures.called.same
+    c.unpark-in-Otherwise.ensures
+
 pub returns-in-Ends-clause-made : goal.returns-in-Ends-clause-made
 returns-in-Ends-clause-made g c =
     ends_in c.args.when_full (g.P.Parking.did c.args.parking.now) c.args.pass.now c.step_first.new.pass
     c.args.request c.args.how c.moment-moment.result c.first_turn-turn.result c.in-Ends.reply _
     (none g (goal.at.returns-in-Ends-clause-made g c).After-first_turn-turn)
-    (begun_so g (goal.at.returns-in-Ends-clause-made g c).After-first_turn-turn) c.unpark-in-Otherwise.ensures
+    (begun_so g (goal.at.returns-in-Ends-clause-made g c).After-first_turn-turn)
+    (woken g (goal.at.returns-in-Ends-clause-made g c).After-unpark-in-Otherwise)
     c.in-Ends.is
 
 -- where the call began, and with what it waits
@@ -69,7 +79,7 @@ began g c w b is =
     false w b is in (
       x.0,
       begun_waits did (at_point c.args.pass.now x.0) c.step_first.new.pass c.args.request c.args.how
-          c.moment-moment.result c.first_turn-turn.result w x.1 c.unpark-in-Otherwise.ensures is,
+          c.moment-moment.result c.first_turn-turn.result w x.1 (woken g c) is,
     )
 
 pub wait-requires-clause-waits : goal.wait-requires-clause-waits
@@ -97,7 +107,8 @@ returns-in-Waits-clause-made g c =
     waited_in c.args.when_full (g.P.Parking.did c.args.parking.now) c.args.pass.now c.step_first.new.pass
     c.args.request c.args.how c.moment-moment.result c.first_turn-turn.result c.wait.new.pass
     c.in-Waits.waiting c.wait.result (none g (goal.at.returns-in-Waits-clause-made g c).After-first_turn-turn)
-    (begun_so g (goal.at.returns-in-Waits-clause-made g c).After-first_turn-turn) c.unpark-in-Otherwise.ensures
+    (begun_so g (goal.at.returns-in-Waits-clause-made g c).After-first_turn-turn)
+    (woken g (goal.at.returns-in-Waits-clause-made g c).After-unpark-in-Otherwise)
     c.in-Waits.is c.step_first.ensures.called.same
     c.step_first.ensures.called.shows c.moment-moment.ensures c.wait.ensures.called.begins c.wait.ensures.waited
 
@@ -177,4 +188,6 @@ returns-in-Done-clause-made g c =
     ∙ ap (entry_at_once c.args.pass.now.seat) c.step-step.ensures)))
     (made_at_once c.args.when_full did c.args.pass.now c.step_first.new.pass c.args.request c.args.how c.in-Done.named
     (found_none did c.args.pass.now.seat c.args.how c.at_entry.result c.at_entry.ensures.asked is)
-    (done_so g at.In-Done) c.unpark.ensures)
+    (done_so g at.In-Done)
+    (woken_as did c.args.pass.now c.step_first.new.pass c.in-Done.named c.step_first.new.pass.seen
+    c.step_first.ensures.called.same c.unpark.ensures))

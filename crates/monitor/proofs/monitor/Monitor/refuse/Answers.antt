@@ -1,5 +1,6 @@
 use Rattle.std.proofs.Common.{◌≡◌, ◌≤◌, ◌∙◌, sym, subst, true}
 use Rattle.monitor.specs.Below.{interrupted, LockId}
+use Rattle.monitor.proofs.InLine.{woken_as}
 use Rattle.monitor.proofs.RoomTurns.{never_waits_in, place_first_in, refused_in}
 use Rattle.monitor.proofs.monitor.Monitor.refuse.Goals as goal
 
@@ -23,6 +24,8 @@ pub returns-clause-made : goal.returns-clause-made
 returns-clause-made g c =
     refused_in c.args.when_full (g.P.Parking.did c.args.parking.now) c.args.pass.now
     c.begin-refusal.new.pass c.args.request c.args.how 0 c.begin-refusal.result c.in-Ends.reply _
-    c.requires.interrupted c.begin-refusal.ensures.begun c.unpark.ensures
+    c.requires.interrupted c.begin-refusal.ensures.begun
+    (woken_as (g.P.Parking.did c.args.parking.now) c.args.pass.now c.begin-refusal.new.pass
+    c.begin-refusal.result.named c.begin-refusal.new.pass.seen c.begin-refusal.ensures.called.same c.unpark.ensures)
     (λ untold. subst (λ i. g.P.Parking.did c.args.parking.now (interrupted i)) c.requires.taken.0
     (c.settle.ensures.again c.requires.taken.1 untold)) c.in-Ends.is

@@ -2,6 +2,7 @@ use Rattle.std.proofs.Common.{◌≡◌, Ok, rules, subst}
 use Rattle.monitor.specs.Below.{Answer, Sleep}
 use Rattle.monitor.specs.Prelude.{IsStepIn, IsUnparked}
 use Rattle.monitor.specs.inner.Stepping.{named_in}
+use Rattle.monitor.proofs.InLine.{woken_as}
 use Rattle.monitor.proofs.Loads.{signal_idle}
 use Rattle.monitor.proofs.RoomTurns.{entered_err, entered_ok, no_sleep_in}
 use Rattle.monitor.proofs.monitor.Monitor.tell.Goals as goal
@@ -16,9 +17,11 @@ pub returns-in-Ok-Recorded-clause-entered : goal.returns-in-Ok-Recorded-clause-e
 returns-in-Ok-Recorded-clause-entered g c =
     entered_ok c.args.when_full (g.P.Parking.did c.args.parking.now) c.args.pass.now c.signal_call.new.pass c.args.step
     c.in-Ok-Recorded.entry c.in-Ok-Recorded.field-0-1
-    (subst (λ (z : Answer). IsUnparked (g.P.Parking.did c.args.parking.now) (named_in (Ok z))
-    c.signal_call.new.pass.seen)
-    c.in-Ok-Recorded.field-0-is c.in-Ok-Recorded.ensures.unparked)
+    (subst (λ (z : Answer). IsUnparked (g.P.Parking.did c.args.parking.now) c.args.pass.now.lock (named_in (Ok z))
+    c.signal_call.new.pass.seen) c.in-Ok-Recorded.field-0-is
+    (woken_as (g.P.Parking.did c.args.parking.now) c.args.pass.now c.signal_call.new.pass
+    (named_in (Ok c.in-Ok-Recorded.field-0)) c.signal_call.new.pass.seen c.signal_call.ensures.called.same
+    c.in-Ok-Recorded.ensures.unparked))
     (subst (λ (z : Answer). IsStepIn c.args.when_full c.args.pass.now c.args.step (Ok z) c.signal_call.new.pass)
     c.in-Ok-Recorded.field-0-is c.in-Ok-Recorded.ensures.stepped)
 
