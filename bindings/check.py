@@ -79,7 +79,7 @@ WRAPPED = {
     "thread_numbers": ["pthread_setspecific", "mmap"],
     "handlers": ["syscall"],
     "histories": ["aqs_text_now"],
-    "closes": ["aqs_step_now", "aqs_begin", "aqs_go_on"],
+    "closes": ["aqs_step_now", "aqs_begin", "aqs_go_on", "aqs_lock_unlock"],
 }
 
 
@@ -177,7 +177,24 @@ def check_c(tests):
     tests.audit("C and C++", kept)
     tests.draw("the cache", f"{kept}/lru-cache.history")
     tests.draw("the buffer", f"{kept}/buffer.history")
+    check_small_files(tests)
     check_install(tests)
+
+
+# How many blocks of 512 bytes a file may have: less than the history of the example, or some whole buffers. Then the
+# last part of the history may be refused, which the example learns when it closes its file.
+SMALL = (("lru_cache", 1), ("buffer", 8), ("buffer", 16), ("buffer", 24))
+
+
+def check_small_files(tests):
+    """The examples succeed if the file of their history is whole, and fail if it isn't."""
+    folder = tests.histories("small")
+    for example, blocks in SMALL:
+        file = f"{folder}/{example}.history"
+        words = ["sh", "-c", f"trap '' XFSZ; ulimit -f {blocks}; exec \"$@\"", "sh", OUT / example, file]
+        told, is_whole = check_recorder.ran(words), judged(file).startswith("legal")
+        name = f"the example {example} tells whether its file, of at most {512 * blocks} bytes, is whole"
+        tests.count(name, (told[0] == 0) == is_whole, f"{told}\n{judged(file)}")
 
 
 def check_install(tests):

@@ -7,7 +7,6 @@ number and types of parameters and results, the fields of each struct with their
 header declares beyond that is found by its name. The declarations of the Rust crate in bindings/, and the numbers of
 statuses in Rust, Python and Java, are compared with aqs.h in the same way. The last line is 'N passed, M failed'.
 """
-import os
 import pathlib
 import re
 import subprocess

@@ -5,8 +5,8 @@
 - `columns.py`: summaries in columns of long histories.
 - `devices.py`: devices that fail, a terminal, and ever less memory.
 - `progress.py`: the line on a terminal that says how much of a long text was read.
-- `leaks.py`: what each run takes and gives back.
-- `memory.py`: requests for memory, reads and writes that fail, one at a time.
+- `leaks.py`: what each run takes and gives back, if this machine has a C compiler.
+- `memory.py`: requests for memory, reads and writes that fail, one at a time, if it has one.
 - `growth.py`: how time and memory grow with the input and with the seats.
 - `storms.py`: two short storms of threads.
 - `fuzz.py`: random texts, others each day.
@@ -23,6 +23,7 @@ line. The last line is 'N passed, M failed'.
 import pathlib
 import re
 import resource
+import shutil
 import subprocess
 import sys
 import time
@@ -41,8 +42,9 @@ def checks(seed):
     yield ["columns.py", number]
     yield ["devices.py"]
     yield ["progress.py"]
-    yield ["leaks.py"]
-    yield ["memory.py"]
+    if shutil.which("cc"):
+        yield ["leaks.py"]
+        yield ["memory.py"]
     yield ["growth.py"]
     yield ["storms.py", "2", "16", "4", number]
     yield ["storms.py", "1", "64", "8", number]
@@ -75,6 +77,8 @@ def main(program, seed):
     passed = failed = 0
     if not java.has_jdk():
         print("java.py: no JDK on this machine, so nothing is compared with one")
+    if not shutil.which("cc"):
+        print("leaks.py, memory.py: no C compiler on this machine, so no allocation is counted or refused")
     for name, *words in checks(seed):
         begun, used = time.monotonic(), processor_seconds()
         told, good, bad = counts([sys.executable, "-B", HERE / name, program, *words])

@@ -379,14 +379,17 @@ def when_threads_run(program, words, text, then):
 
 
 def changed_meanwhile(program, scratch):
-    """Files that others make while the threads of a run go on: they stay, and the run leaves nothing."""
-    folder, elsewhere, out = scratch / "meanwhile", scratch / "left", scratch / "out"
+    """Files that others make or remove while the threads of a run go on: theirs stay, and the run leaves nothing. An
+    output that can't be replaced is as it was."""
+    folder, elsewhere, out, old = scratch / "meanwhile", scratch / "left", scratch / "out", scratch / "old"
     for each in (folder, elsewhere):
         each.mkdir()
     mine = folder / "-b.history"
+    old.write_bytes(b"before")
     runs = (
         ("a file in the place of the second history", ["run", "--dir", folder], lambda: mine.write_bytes(b"mine")),
         ("a folder in the place of the output", ["run", "--dir", elsewhere, "-o", out], out.mkdir),
+        ("a file beside the output that is gone", ["run", "-o", old], (scratch / "old.0.part").unlink),
     )
     with concurrent.futures.ThreadPoolExecutor() as pool:
         answers = list(pool.map(lambda each: when_threads_run(program, each[1], waiting(1200), each[2]), runs))
@@ -395,6 +398,7 @@ def changed_meanwhile(program, scratch):
     yield "the file of somebody else stays alone", held(folder) == {"-b.history": b"mine"}
     yield "no history is left where the output can't be put", held(elsewhere) == {} and held(out) == {}
     yield "nor a file beside the output", not (scratch / "out.0.part").exists()
+    yield "what can't be replaced is as it was", bytes_of(old) == b"before"
 
 
 def situations(folder):

@@ -133,9 +133,6 @@ def results(program, library):
 
 
 def main(program):
-    if not shutil.which("cc"):
-        print("leaks.py: no C compiler on this machine, so nothing is counted\n1 passed, 0 failed")
-        return 0
     passed = failed = 0
     with tempfile.TemporaryDirectory() as folder:
         for name, wrong in results(program, library(folder)):

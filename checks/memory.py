@@ -16,7 +16,6 @@ import concurrent.futures
 import json
 import os
 import pathlib
-import shutil
 import subprocess
 import sys
 import tempfile
@@ -219,7 +218,7 @@ def files_left(program, library):
         number += 1
 
 
-def tries(program, library):
+def tries():
     """The checks by their names."""
     for words in (["explain", "/no/such/file"], ["explain", "--json", "/no/such/file"]):
         yield f"{' '.join(words)}, requests", refused, (words, b"")
@@ -238,14 +237,11 @@ def tries(program, library):
 
 def results(program, library):
     with concurrent.futures.ThreadPoolExecutor(os.cpu_count()) as pool:
-        done = [(name, pool.submit(tried, program, library, *given)) for name, tried, given in tries(program, library)]
+        done = [(name, pool.submit(tried, program, library, *given)) for name, tried, given in tries()]
         yield from ((name, each.result()) for name, each in done)
 
 
 def main(program):
-    if not shutil.which("cc"):
-        print("memory.py: no C compiler on this machine, so nothing is refused\n1 passed, 0 failed")
-        return 0
     passed = failed = 0
     with tempfile.TemporaryDirectory() as folder:
         for name, wrong in results(program, leaks.library(folder)):

@@ -43,6 +43,9 @@ HISTORIES = ["bounded_buffer", "writer_between_readers_fair", "permits_below_zer
 MOVED = (b"aqs-history 1 lock fair seats 3 conditions 1 cap 64\n0 0 got x 1\n1 0 await 0 1\n2 1 got x 1\n"
          b"3 2 queued x 1\n4 1 signal 0 1\n5 1 gave x 1\n6 2 granted x 1\n7 2 gave x 1\n8 0 back 0 1 signalled\n"
          b"9 0 gave x 1\nend 10 8\n")
+# Sleepers on conditions whose numbers have one digit and two.
+ON_MANY = (b"aqs-history 1 lock fair seats 3 conditions 16 cap 64\n0 0 got x 1\n1 0 await 10 1\n2 1 got x 1\n"
+           b"3 1 await 2 1\n4 2 got x 1\n5 2 await 1 1\nend 6 3\n")
 # What the page says that an entry about a condition does.
 ABOUT_CONDITIONS = {
     "await": "released all, and waits on {}.",
@@ -268,7 +271,11 @@ def moves(program, history, scratch):
                ({"click": "nearer"}, 0), ({"click": "farther"}, 0),
                ({"set": ["seat", str(seat)]}, 0), ({"click": "next"}, later), ({"set": ["seat", ""]}, later),
                ({"set": ["kind", "back"]}, later), ({"click": "next"}, granted), ({"key": "Home"}, 0),
-               ({"click": "previous"}, 0), ({"bar": 2}, told["stretches"][3][2])]
+               ({"click": "previous"}, 0), ({"bar": 2}, told["stretches"][3][2]),
+               ({"set": ["kind", ""]}, told["stretches"][3][2]), ({"key": "Home"}, 0), ({"key": "ArrowRight"}, 1),
+               ({"set": ["seat", str(rows[0][0])]}, 1), ({"click": "previous"}, 0), ({"key": "End"}, last),
+               ({"click": "back"}, last - 1), ({"set": ["seat", str(rows[last][0])]}, last - 1),
+               ({"click": "next"}, last)]
     _, shown = acted(file, [action for action, _ in actions])
     for (action, number), at in zip(actions, shown[1:]):
         yield f"{json.dumps(action)} leads to entry {number}", at["entry"].startswith(f"Entry {number}: ")
@@ -410,6 +417,7 @@ def results(program, scratch):
         yield from stepped(program, name, history, [], 0, last, scratch)
         yield from stepped(program, name, history, ["--from", str(last // 3)], last // 3, last, scratch)
     yield from stepped(program, "a sleeper moved by the first entry", MOVED, ["--from", "4"], 4, 9, scratch)
+    yield from stepped(program, "sleepers on many conditions", ON_MANY, [], 0, 5, scratch)
     yield from moves(program, history_of("bounded_buffer"), scratch)
     yield from large(program, scratch)
     try:

@@ -338,7 +338,7 @@ THREAD = ("an object with the keys repeat and calls alone: a whole number from 1
 NAME = "a name of 1 to 32 characters of a to z, 0 to 9 and -, other than interrupt"
 
 
-def call_lines(names, threads):
+def call_lines():
     for name in (b"acquire", b"acquire-interruptible", b"try", b"give"):
         for mode in (b"x", b"s"):
             yield b"%s %s 0" % (name, mode)
@@ -355,7 +355,7 @@ def call_stop(text, names, threads):
     """The words of a call, and which calls are right."""
     several = [[b"interrupt", b"%d" % (threads - 1)]]
     for name in names:
-        several += [[name.encode(), *line.split(b" ")] for line in call_lines(names, threads)]
+        several += [[name.encode(), *line.split(b" ")] for line in call_lines()]
     is_right = lambda line: rules.is_call(line.decode("utf-8", "surrogateescape"), names, threads)
     return Stop(0, text.encode("utf-8", "surrogatepass"), True, is_right, several)
 

@@ -6,9 +6,10 @@
    - seats: which thread has which seat of an object, and for how long.
    - turns: what a caller owes after each turn of the proved code.
    - the calls: one line each.
-   A fault in the seats can give one seat to two threads, which the proofs exclude: then nothing holds. Any
-   other fault in this file can lose a wake, or answer a wrong status, so that a thread goes on without the
-   lock. It can't make a history illegal: in the history the lock has one owner at most. */
+   aqs_core.h lists what this file owes the proved code. If it breaks one of these duties, as by giving one
+   seat to two threads, nothing holds. Any other fault in this file can lose a wake, or answer a wrong status,
+   so that a thread goes on without the lock. It can't make a history illegal: in the history the lock has one
+   owner at most. */
 #ifndef _GNU_SOURCE
 #define _GNU_SOURCE
 #endif
@@ -31,7 +32,7 @@
 #include <time.h>
 #include <unistd.h>
 
-/* What is called seldom stays out of the short ways, and what they are made of in them. */
+/* COLD functions are called seldom, and not inlined. SHORT ones are parts of the short way, and always inlined. */
 #define COLD __attribute__((noinline, cold))
 #define SHORT static inline __attribute__((always_inline))
 
@@ -513,10 +514,13 @@ SHORT bool is_own(const seat_t *seat) {
     return atomic_load_explicit(&seat->taken, memory_order_relaxed) == self.mine;
 }
 
+/* Whether it is a lock or a read-write lock. Only these have owners and conditions. */
+SHORT bool has_owner(uint8_t kind) { return kind == AQS_KIND_LOCK || kind == AQS_KIND_READ_WRITE; }
+
 /* Whether a call of the thread waits in its seat, so that a handler which interrupts it takes another seat. At
    a lock it gets none: that call is a misuse. */
 SHORT bool needs_another(const aqs_object_t *object, const seat_t *seat) {
-    return seat->waits && object->kind_ >= AQS_KIND_SEMAPHORE;
+    return seat->waits && !has_owner(object->kind_);
 }
 
 /* The thread comes back to its seat. */
@@ -586,8 +590,8 @@ static COLD seat_t *come_slowly(aqs_object_t *object, aqs_status_t *status) {
 
    All that a thread does with an object lies between this and `depart`. A turn puts its pass back after it
    has freed the object, when others may own it already and close it. So a close waits until nobody is
-   inside, and who has left touches nothing of the object until its next turn. What the turn did shows others
-   that the thread is inside: it is made by an exchange. */
+   inside, and a thread that has left touches nothing of the object until its next turn. Whoever sees what the
+   turn did also sees that the thread is inside, since a turn is made by an exchange. */
 SHORT seat_t *come(aqs_object_t *object, aqs_status_t *status) {
     const memory_t *memory = memory_of(object);
     seat_t *seat = NULL;
@@ -613,7 +617,7 @@ SHORT void depart(aqs_object_t *object, seat_t *seat) {
     leave();
 }
 
-/* By how much more, or less, keeps the seat. */
+/* Adds to what keeps the seat, or takes away from it if `more` is negative. */
 SHORT void keep(seat_t *seat, int64_t more) {
     if (more == 0) return;
     uint64_t holds = atomic_load_explicit(&self.place->holds, memory_order_relaxed);
@@ -679,9 +683,8 @@ static uint8_t wait_for_turn(const aqs_object_t *object, const aqs_call_t *call,
     bool is_fair = object->policy_ != AQS_NONFAIR, has_slept = false;
     if (!answer->parks) return AQS_WOKE_PERMIT;
     uint8_t woke = park(self.place, answer, is_fair, object->heeds_handlers_, &has_slept);
-    bool is_lock = object->kind_ == AQS_KIND_LOCK || object->kind_ == AQS_KIND_READ_WRITE;
     bool is_late = has_slept || is_fair || woke != AQS_WOKE_PERMIT;
-    if (is_lock && call->kind == AQS_CALL_ACQUIRE && !is_late) let_others_go_on();
+    if (has_owner(object->kind_) && call->kind == AQS_CALL_ACQUIRE && !is_late) let_others_go_on();
     return woke;
 }
 
@@ -914,14 +917,13 @@ static const uint8_t core_policies[] = {AQS_CORE_NONFAIR, AQS_CORE_FAIR, AQS_COR
 /* The header of an object with these options, or a kind that no object has. */
 static aqs_header_t header_of(uint8_t kind, int32_t number, const aqs_options_t *options) {
     bool refuses = options->when_full == AQS_REFUSE;
-    bool has_conditions = kind == AQS_KIND_LOCK || kind == AQS_KIND_READ_WRITE;
     bool is_known = (unsigned)options->policy <= AQS_STRICT && (unsigned)options->when_full <= AQS_REFUSE;
     return (aqs_header_t){
         .kind = is_known ? kind : UINT8_MAX,
         .number = number,
         .policy = is_known ? core_policies[options->policy] : UINT8_MAX,
         .seats = options->threads ? options->threads : THREADS,
-        .conditions = options->conditions ? options->conditions : has_conditions,
+        .conditions = options->conditions ? options->conditions : has_owner(kind),
         .cap = options->history ? options->history : refuses ? UINT32_MAX : ENTRIES,
     };
 }
@@ -960,8 +962,7 @@ static aqs_status_t init_object(
 
 /* Opens a static object, unless another thread just did. It has all conditions that there may be. */
 static aqs_status_t open_at_first_call(aqs_object_t *object) {
-    bool has_conditions = object->kind_ == AQS_KIND_LOCK || object->kind_ == AQS_KIND_READ_WRITE;
-    aqs_options_t options = {.conditions = has_conditions ? AQS_CONDITIONS : 0};
+    aqs_options_t options = {.conditions = has_owner(object->kind_) ? AQS_CONDITIONS : 0};
     aqs_status_t status = AQS_OK;
     pthread_mutex_lock(&numbering);
     if (count_of_seats(object) == 0)

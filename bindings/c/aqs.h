@@ -64,8 +64,8 @@
 
    History. Each object records its calls. The history is a text that the program `aqs` checks and draws
    (`aqs audit`, `aqs draw`). An object that is opened with AQS_TRIM forgets its entries when the history is
-   full, and runs on for good. One that is opened with AQS_REFUSE keeps them, and refuses new calls with
-   AQS_HISTORY_FULL; calls that wait, and unlocks, still have room. */
+   full, and runs on until 1000000000000000 were forgotten. One that is opened with AQS_REFUSE keeps them. If no
+   more may be forgotten or kept, new calls get AQS_HISTORY_FULL; calls that wait, and unlocks, still have room. */
 #ifndef AQS_H
 #define AQS_H
 

@@ -215,7 +215,7 @@ aqs_status_t aqs_cond_timedwait(aqs_cond_t *condition, aqs_lock_t *lock, uint32_
     return wait_on(condition, lock, limits_of_time(milliseconds));
 }
 
-/* Marks the first ticket, or all, and wakes who has them. The thread owns the lock. */
+/* Marks the first ticket, or all, and wakes the threads that have them. The calling thread owns the lock. */
 static aqs_status_t signal_marked(aqs_cond_t *condition, aqs_lock_t *lock, bool is_for_all) {
     bool is_shared = lock->object_.users_[condition->number_] > 1;
     if (!condition->first_) return AQS_OK;
@@ -229,7 +229,7 @@ static aqs_status_t signal_marked(aqs_cond_t *condition, aqs_lock_t *lock, bool 
     return AQS_OK;
 }
 
-/* The thread owns the lock, or acquires it. Before it does, the last may have left. */
+/* The thread owns the lock, or acquires it. Until it has it, the last waiter may have left. */
 static aqs_status_t signal_by(aqs_cond_t *condition, bool is_for_all) {
     aqs_lock_t *lock = lock_of(condition);
     if (!lock) return AQS_OK;

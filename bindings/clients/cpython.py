@@ -51,7 +51,7 @@ def environment_of(suite):
     return {"PYTHONPATH": os.pathsep.join(paths), "PYTHONDONTWRITEBYTECODE": "1"}
 
 
-def run(tests, packages, folder, is_sample):
+def run(tests, packages, folder, _is_sample):
     environment = environment_of(suite_of(packages))
     for module, classes in SUITE:
         name = f"CPython's {module} over the classes of this library"

@@ -104,7 +104,7 @@ def write_crate(source, room):
     return written
 
 
-def run(tests, packages, folder, is_sample):
+def run(tests, packages, folder, _is_sample):
     if not shutil.which("cargo"):
         raise LeftOut("there is no cargo")
     found = sorted(packages.unpacked("librust-parking-lot-dev").glob("usr/share/cargo/registry/parking_lot-0*/src"))

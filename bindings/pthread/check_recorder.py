@@ -176,7 +176,8 @@ def check_answers(tests):
     """What each call answers is the same recorded, also where few entries are kept and nothing is written meanwhile."""
     runs = [(case,) for case in ran([ANSWERS])[1].split()]
     runs += [("one_thread_locks_often", "-k", most) for most in ("1", "4000")]
-    runs += [("full_histories_leave_no_memory", "-k", "64"), ("a_program_rests", "-e", "0")]
+    runs += [(case, "-k", "64") for case in ("full_histories_leave_no_memory", "tries_fill_a_history")]
+    runs += [("a_program_rests", "-e", "0")]
     with ThreadPoolExecutor(AT_A_TIME) as pool:
         for folder, case, told, recorded in list(pool.map(lambda run: record_answers(tests, *run), runs)):
             name = f"answers of {os.path.basename(folder)[8:].replace('_', ' ')}"
@@ -203,20 +204,25 @@ def check_numbers(tests):
 
 
 def check_gone(tests):
-    """What the index says of objects that are gone: 16 of a place have a file, and so has one that had it before."""
+    """What the index says of objects that are gone: 16 of a place have a file, and so have those that had it before,
+    which aren't among the 16."""
     folder = first_process(tests.histories("answers-mutexes_that_are_gone"))
     lines = index_of(folder)
     told = [(line.entries, line.kept, line.waits, line.sleeps) for line in lines]
-    wanted = [(9, 9, 0, 1), *[(5, 5, 0, 1)] * 16, (4, 4, 0, 0), (25, 0, 0, 5)]
-    tests.count("the index adds up what is gone and has no file", told == wanted, str(told))
+    wanted = [*[(9, 9, 0, 1)] * 2, (8, 8, 0, 0), *[(5, 5, 0, 1)] * 16, (20, 0, 0, 4)]
+    is_good = told == wanted and all(line.waited == 0 and (line.slept > 0) == (line.sleeps > 0) for line in lines)
+    tests.count("the index adds up what is gone and has no file", is_good, str(lines))
     text = pathlib.Path(folder, "index").read_text()
-    is_good = "and 5 more of this place, which are gone" in text and ": 18 objects\n" in text
+    is_good = "and 4 more of this place, which are gone" in text and ": 19 objects\n" in text
     tests.count("it says how many there were", is_good, text)
     check_index(tests, "a process whose mutexes are gone", folder, ("mutex",))
+    folder = first_process(tests.histories("answers-destroyed_after_they_were_written"))
+    entries = [line.entries for line in index_of(folder)]
+    tests.count("the index has what was destroyed as it was written", entries == [4, 4, 2], str(entries))
 
 
 def check_counts(tests):
-    """How many entries and sleeps the index has of threads whose calls are known."""
+    """How many entries and sleeps the index has of threads whose calls are known, and how many seats their objects."""
     for words, most in (("", 16384), ("-k1", 1000), ("-k4000", 4000)):
         folder = tests.histories(f"answers-one_thread_locks_often{words}")
         parent = first_process(folder)
@@ -224,11 +230,16 @@ def check_counts(tests):
         entries = [[line.entries for line in index_of(path)] for path in (parent, child)]
         is_good = entries == [[12000] * 3, [4] * 3] and all(line.kept <= most for line in index_of(parent))
         tests.count(f"each entry is counted{words}", is_good, str(entries))
+    entries = [line.entries for line in index_of(first_process(tests.histories("answers-used_while_it_is_written")))]
+    tests.count("what is done while a history is written is written too", entries == [2002] * 24, str(entries))
     folder = first_process(tests.histories("answers-conditions_change_their_mutex"))
     sleeps = [line.sleeps for line in index_of(folder)]
     tests.count("each wait on a condition has a number", sleeps == [21, 3, 1], str(sleeps))
     seats = [seats_of(text)[1] for text in texts_of(folder)]
     tests.count("one that sleeps at a time needs few seats", seats == ["5"] * 3, str(seats))
+    texts = texts_of(first_process(tests.histories("answers-tries_fill_a_history-k64")))
+    seats = [seats_of(text)[1] for text in texts]
+    tests.count("threads that find all held give their seats back", seats == ["5"] * 3, str(seats))
     entries = [line.entries for line in index_of(first_process(tests.histories("answers-objects_have_no_end")))]
     tests.count("memory that is used again is another object", entries == [6, 4, 4, 4, 2, 2, 2], str(entries))
     lines = index_of(first_process(tests.histories("answers-more_come_than_there_are_seats")))
@@ -333,6 +344,18 @@ def check_refusals(tests):
     tests.count("aqs-record with a word for a number is a fault", told[0] == 2, str(told))
 
 
+def check_full_disk(tests):
+    """A history that is not written whole doesn't take the place of the one from before, and the fault is told."""
+    folder, case = tests.histories("record-full-disk"), "writes_a_little_and_much"
+    words = ["sh", "-c", "trap '' XFSZ; ulimit -f 8; exec \"$@\"", "sh", RECORD, "-o", folder, "--", ANSWERS, case]
+    told = ran(words)
+    is_told = told[:2] == (0, "done\n") and told[2].count("aqs: can't write ") == 1
+    tests.count("a history that has no room on the disk is told", is_told, str(told))
+    lines = sorted(text.count("\n") for text in texts_of(first_process(folder)))
+    tests.count("the one from before stays", lines == [4, 4], str(lines))
+    tests.audit("a full disk", f"{folder}/*")
+
+
 def check_script(tests):
     """What aqs-record makes of its words and its surroundings, and what it leaves of them."""
     folder, room = tests.histories("record-script"), tests.histories("record-room")
@@ -387,6 +410,7 @@ def check_folders(tests):
 def check(tests, judged):
     if not tests.run("the recorder is built", ["make", "-s", "all", "tests"], 300, cwd=HERE):
         return
+    tests.run("numbers of entries that take more than 32 bits", [OUT / "texts"])
     check_refusals(tests)
     check_rare_cases(tests)
     check_what_is_recorded(tests)
@@ -394,6 +418,7 @@ def check(tests, judged):
     check_numbers(tests)
     check_gone(tests)
     check_counts(tests)
+    check_full_disk(tests)
     check_script(tests)
     check_folders(tests)
     for words in RUNS:

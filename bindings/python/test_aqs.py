@@ -376,7 +376,7 @@ class Objects(Tests):
             for _ in range(30):
                 self.assertEqual(self.counts(lock), (True, 0, 0))
             self.assertEqual(lock.history(), before)
-            for call in (lock.locked, lock.queue_length, lock.waiters):
+            for call in (lock.locked, lock.queue_length, lock.waiters, lock.history, lock.trim):
                 self.assertIsInstance(raised_in_other(call), aqs.TooManyThreads)
         self.assertEqual(in_other(lambda: self.counts(lock)), (False, 0, 0))
 
@@ -1846,7 +1846,7 @@ class Waiting(Tests):
         join_all(threads)
 
     def test_an_action_that_fails_breaks_the_barrier(self):
-        told, faults = [], [OSError()]
+        told, faults = [], [SystemExit()]
 
         def act():
             if faults:
@@ -1857,11 +1857,11 @@ class Waiting(Tests):
         def meet(_number):
             try:
                 told.append(barrier.wait(LONG))
-            except (OSError, aqs.BrokenBarrierError) as error:
-                told.append(type(error))
+            except (SystemExit, aqs.BrokenBarrierError) as error:
+                told.append((type(error), barrier.broken))
 
         join_all(run_all(2, meet))
-        self.assertEqual(set(told), {OSError, aqs.BrokenBarrierError})
+        self.assertEqual(set(told), {(SystemExit, True), (aqs.BrokenBarrierError, True)})
         self.assertEqual((barrier.broken, barrier.n_waiting), (True, 0))
         self.assertRaises(aqs.BrokenBarrierError, barrier.wait)
         self.assertRegex(repr(barrier), "^<aqs.Barrier at 0x.*: broken>$")

@@ -104,5 +104,9 @@ int main(int count, char **words) {
     for (auto &thread : threads) thread.join();
     if (squares.size() > 4) std::abort();
     std::cout << "15 values, " << squares.size() << " kept\n";
-    if (count > 1) std::ofstream(words[1], std::ios::binary) << squares.history();
+    if (count < 2) return 0;
+    std::ofstream file(words[1], std::ios::binary);
+    file << squares.history();
+    file.close();
+    return file ? 0 : 1;
 }

@@ -55,6 +55,15 @@ void __wrap_aqs_go_on(aqs_pass_t *pass, uint8_t woke, aqs_answer_t *answer) {
     end_slowly(pass);
 }
 
+aqs_status_t __real_aqs_lock_unlock(aqs_lock_t *lock);
+
+/* A slow thread is slow before it unlocks, too. */
+aqs_status_t __wrap_aqs_lock_unlock(aqs_lock_t *lock) {
+    begin_slowly();
+    if (is_slow) usleep(10000);
+    return __real_aqs_lock_unlock(lock);
+}
+
 static aqs_options_t options = {.policy = AQS_NONFAIR, .threads = 8};
 static bool is_slow_round;
 static bool is_done;
@@ -177,6 +186,27 @@ static void one_waiter(void) {
     CHECK(pthread_join(thread, NULL) == 0);
 }
 
+static void *meet(void *none) {
+    becomes_slow();
+    IS(aqs_barrier_wait(object, NULL), AQS_OK);
+    return none;
+}
+
+/* One that has met another may close the barrier, though the other has not unlocked yet. */
+static void one_barrier(void) {
+    aqs_barrier_t *barrier;
+    pthread_t thread;
+    uint32_t count = 0;
+    IS(aqs_barrier_open(&barrier, 2, &options), AQS_OK);
+    object = barrier;
+    CHECK(pthread_create(&thread, NULL, meet, NULL) == 0);
+    for (; count == 0; usleep(10)) IS(aqs_object_waiters(aqs_barrier_object(barrier), &count), AQS_OK);
+    IS(aqs_barrier_wait(barrier, NULL), AQS_OK);
+    aqs_barrier_close(barrier);
+    CHECK(!atomic_load(&is_under_way));
+    CHECK(pthread_join(thread, NULL) == 0);
+}
+
 /* A thread opens a latch for one that waits there, and leaves it. Before it wakes that one, its time is up, it
    passes, and closes the latch. */
 
@@ -221,6 +251,7 @@ static void round_of_all(void) {
     one_rwlock();
     one_semaphore();
     one_waiter();
+    one_barrier();
 }
 
 int main(void) {

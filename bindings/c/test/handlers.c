@@ -164,22 +164,23 @@ static void interrupt_itself(aqs_status_t (*call)(void), aqs_status_t otherwise,
     CHECK(at > 100);
 }
 
-/* A handler leaves two posts, and at each later instruction, also of those that make the posts, another comes.
-   Each release is made once. */
+/* A handler leaves two posts. Later another handler comes, at each instruction or at every seventh, also of those that
+   make the posts. It releases a third number of permits, or as many as the first post. Each release is made once. */
+static uint32_t late_n;
 
 static void release_in_turn(void) {
     if (handled > 0) {
-        IS(aqs_sem_release(semaphore, 3), AQS_OK);
+        IS(aqs_sem_release(semaphore, late_n), AQS_OK);
     } else {
         IS(aqs_sem_release(semaphore, 1), AQS_OK);
         IS(aqs_sem_release(semaphore, 2), AQS_OK);
     }
 }
 
-static void interrupt_twice(void (*call)(void), int change) {
-    static const int released_by[] = {0, 1 + 2, 1 + 2 + 3};
-    handler = release_in_turn;
-    for (wanted = 60, once_more = wanted + 1;; once_more++) {
+static void interrupt_twice(void (*call)(void), int change, uint32_t n, int of) {
+    const int released_by[] = {0, 1 + 2, 1 + 2 + (int)n};
+    handler = release_in_turn, late_n = n;
+    for (wanted = 60, once_more = wanted + 1;; once_more += of) {
         int64_t before = permits_of(semaphore);
         instruction = handled = 0;
         trace();
@@ -532,7 +533,8 @@ int main(void) {
         interrupt_everywhere(calls[i].call, calls[i].change, calls[i].of);
     interrupt_itself(wait_in_vain, AQS_TIMED_OUT, 29);
     interrupt_itself(wait_for_one, AQS_OK, 1);
-    interrupt_twice(give_one, 1);
+    interrupt_twice(give_one, 1, 3, 1);
+    interrupt_twice(give_one, 1, 1, 7);
     handler_in_handler();
     handlers_as_threads_end();
     signalled_while_another_is_stopped();

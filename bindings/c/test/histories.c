@@ -95,12 +95,15 @@ static void files(void) {
         }
         IS(i % 2 ? aqs_sem_release(semaphore, 1) : aqs_sem_tryacquire(semaphore, 1), AQS_OK);
     }
-    FILE *full = fopen("/dev/full", "w"), *closed = fopen("/dev/null", "r");
-    CHECK(full && closed && setvbuf(full, NULL, _IONBF, 0) == 0);
+    FILE *full = fopen("/dev/full", "w"), *closed = fopen("/dev/null", "r"), *small = fmemopen(NULL, 100, "w+");
+    CHECK(full && closed && small && setvbuf(full, NULL, _IONBF, 0) == 0 && setvbuf(small, NULL, _IONBF, 0) == 0);
     IS(aqs_history_write(object, full), AQS_IO_ERROR);
     IS(aqs_history_write(object, closed), AQS_IO_ERROR);
+    IS(aqs_history_write(object, small), AQS_IO_ERROR);
+    CHECK(ftell(small) > 0); /* a part of it was written */
     fclose(full);
     fclose(closed);
+    fclose(small);
     aqs_sem_close(semaphore);
 }
 

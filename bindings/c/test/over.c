@@ -133,11 +133,12 @@ static void closes(void) {
     }
 }
 
-/* A barrier whose history is full and kept says so, and nobody has come then. */
-static void full(void) {
+/* A barrier whose history is full and kept says so, and nobody has come then. With one of three lengths the last one
+   could lock, and its signal is refused. */
+static void full(uint32_t history) {
     aqs_status_t status;
     int passed = 0;
-    IS(aqs_barrier_open(&barrier, 1, &(aqs_options_t){.when_full = AQS_REFUSE, .history = 16}), AQS_OK);
+    IS(aqs_barrier_open(&barrier, 1, &(aqs_options_t){.when_full = AQS_REFUSE, .history = history}), AQS_OK);
     while ((status = aqs_barrier_wait(barrier, NULL)) == AQS_OK) passed++;
     IS(status, AQS_HISTORY_FULL);
     CHECK(passed > 2);
@@ -207,7 +208,7 @@ int main(void) {
     aqs_mutex_close(mutex);
     all_pass();
     closes();
-    full();
+    for (uint32_t history = 16; history < 19; history++) full(history);
     full_for_a_wait();
     out_of_range();
     puts("over: good");

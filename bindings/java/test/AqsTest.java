@@ -747,6 +747,8 @@ final class AqsTest {
             start(() -> failing("AQS_TOO_MANY_THREADS", 13, lock::isLocked)).join();
             start(() -> failing("AQS_TOO_MANY_THREADS", 13, lock::getQueueLength)).join();
             start(() -> failing("AQS_TOO_MANY_THREADS", 13, lock::lock)).join();
+            start(() -> failing("AQS_TOO_MANY_THREADS", 13, lock::history)).join();
+            start(() -> failing("AQS_TOO_MANY_THREADS", 13, lock::trim)).join();
             lock.unlock();
             start(() -> check(!lock.isLocked())).join();
         }
@@ -855,18 +857,29 @@ final class AqsTest {
             same(sum.get(), 100 * (0 + 1 + 2 + 3));
             keep("barrier", barrier.history());
         }
-        try (AqsCyclicBarrier barrier = new AqsCyclicBarrier(2, () -> {
+        actionThatFails(() -> {
             order.add("action");
             throw new IllegalStateException();
-        })) {
+        }, IllegalStateException.class);
+        same(order.size(), 1);
+        actionThatFails(() -> {
+            throw new StackOverflowError();
+        }, StackOverflowError.class);
+    }
+
+    /** Whatever an action throws breaks the barrier. */
+    static void actionThatFails(Runnable action, Class<? extends Throwable> fault) throws Exception {
+        try (AqsCyclicBarrier barrier = new AqsCyclicBarrier(2, action)) {
             Thread other = start(() -> throwing(BrokenBarrierException.class, barrier::await));
             while (barrier.getNumberWaiting() < 1) {
                 Thread.sleep(1);
             }
-            throwing(IllegalStateException.class, barrier::await);
+            throwing(fault, barrier::await);
+            if (!barrier.isBroken()) {
+                barrier.reset(); // or the other waits for good
+                throw new AssertionError("the barrier is whole");
+            }
             other.join();
-            check(barrier.isBroken());
-            same(order.size(), 1);
         }
     }
 

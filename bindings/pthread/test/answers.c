@@ -822,26 +822,46 @@ static void sleep_in_vain(pthread_cond_t *variable, pthread_mutex_t *owned) {
     CHECK(pthread_cond_timedwait(variable, owned, &past) == ETIMEDOUT && pthread_mutex_unlock(owned) == 0);
 }
 
+/* Without the recorder nothing heeds the signal that asks it to write. */
+static void survive_sigusr2(void) {
+    struct sigaction found;
+    CHECK(sigaction(SIGUSR2, NULL, &found) == 0);
+    if (found.sa_handler == SIG_DFL) handle(SIGUSR2, do_nothing, SA_RESTART);
+}
+
 /* The recorder writes what changed, at the latest in the next call of a process with one thread. */
 static void ask_to_write(void) {
     CHECK(raise(SIGUSR2) == 0);
     use(&mutex);
 }
 
-/* 22 mutexes of one place are used and destroyed, each with a sleep. What has changed is written while the 21st is
-   used, and before the last. One more is never used. */
+/* 22 mutexes of one place are used and destroyed, each with a sleep. What has changed is written while the third and
+   the 21st are used, and before the last. One more is never used. */
 static void mutexes_that_are_gone(void) {
     pthread_mutex_t unused;
-    struct sigaction found;
-    CHECK(sigaction(SIGUSR2, NULL, &found) == 0 && pthread_mutex_init(&unused, NULL) == 0);
-    if (found.sa_handler == SIG_DFL) handle(SIGUSR2, do_nothing, SA_RESTART);
+    CHECK(pthread_mutex_init(&unused, NULL) == 0);
+    survive_sigusr2();
     for (int i = 1; i <= 22; i++) {
         pthread_mutex_t own;
         CHECK(pthread_mutex_init(&own, NULL) == 0);
         sleep_in_vain(&condition, &own);
-        for (int k = 0; i == 21 && k < 2; k++) ask_to_write(), use(&own);
+        for (int k = 0; (i == 3 || i == 21) && k < 2; k++) ask_to_write(), use(&own);
         CHECK(pthread_mutex_destroy(&own) == 0);
         if (i == 21) CHECK(raise(SIGUSR2) == 0); /* the next call writes */
+    }
+    printf("done\n");
+}
+
+/* Two mutexes are destroyed after they were written: one as it was then, and one that was used once more. */
+static void destroyed_after_they_were_written(void) {
+    survive_sigusr2();
+    for (int more = 0; more < 2; more++) {
+        pthread_mutex_t own;
+        CHECK(pthread_mutex_init(&own, NULL) == 0);
+        use(&own);
+        ask_to_write();
+        if (more) use(&own);
+        CHECK(pthread_mutex_destroy(&own) == 0);
     }
     printf("done\n");
 }
@@ -861,6 +881,24 @@ static void one_thread_locks_often(void) {
     CHECK(sem_init(&semaphore, 0, 0) == 0);
     use_all_often(6000);
     in_child(use_all_in_child);
+    printf("done\n");
+}
+
+static void *end_at_once(void *nothing) { return nothing; }
+
+/* Each of 24 mutexes is used once more while another thread of the recorder writes its first 2000 entries. */
+static void used_while_it_is_written(void) {
+    enum { MUTEXES = 24, USES = 1000 };
+    static pthread_mutex_t many[MUTEXES];
+    survive_sigusr2();
+    join(started(end_at_once, NULL));
+    for (unsigned i = 0; i < MUTEXES; i++) {
+        CHECK(pthread_mutex_init(&many[i], NULL) == 0);
+        for (int k = 0; k < USES; k++) use(&many[i]);
+        CHECK(raise(SIGUSR2) == 0);
+        usleep(50 * i);
+        use(&many[i]);
+    }
     printf("done\n");
 }
 
@@ -1038,6 +1076,35 @@ static void full_histories_leave_no_memory(void) {
     else printf("%ld kB more\n", more);
 }
 
+static void *find_all_held(void *nothing) {
+    static const struct timespec past = {1, 0};
+    for (int i = 0; i < 40; i++) {
+        CHECK(pthread_mutex_trylock(&mutex) == EBUSY && pthread_mutex_timedlock(&mutex, &past) == ETIMEDOUT);
+        CHECK(pthread_rwlock_tryrdlock(&lock) == EBUSY && pthread_rwlock_timedrdlock(&lock, &past) == ETIMEDOUT);
+        CHECK(pthread_rwlock_trywrlock(&lock) == EBUSY && pthread_rwlock_timedwrlock(&lock, &past) == ETIMEDOUT);
+        CHECK(sem_trywait(&semaphore) && sem_timedwait(&semaphore, &past));
+    }
+    return nothing;
+}
+
+/* Threads come, one after another, and find all held. They do it so often that each history is full under each of them,
+   if few entries are kept. None of them keeps a seat. */
+static void tries_fill_a_history(void) {
+    CHECK(sem_init(&semaphore, 0, 0) == 0 && pthread_mutex_lock(&mutex) == 0 && pthread_rwlock_wrlock(&lock) == 0);
+    for (int i = 0; i < 20; i++) join(started(find_all_held, NULL));
+    CHECK(pthread_rwlock_unlock(&lock) == 0 && pthread_mutex_unlock(&mutex) == 0);
+    printf("to read: %s\n", name_of(pthread_rwlock_tryrdlock(&lock)));
+}
+
+/* What has changed is written after few entries, and at the end, after many. */
+static void writes_a_little_and_much(void) {
+    survive_sigusr2();
+    use(&second);
+    ask_to_write();
+    for (int i = 0; i < 3000; i++) use(&second);
+    printf("done\n");
+}
+
 static void *lock_recursive(void *nothing) {
     come++;
     CHECK(pthread_mutex_lock(&recursive) == 0);
@@ -1085,7 +1152,9 @@ static const struct {
     CASE(threads_that_end),
     CASE(threads_share_numbers),
     CASE(mutexes_that_are_gone),
+    CASE(destroyed_after_they_were_written),
     CASE(one_thread_locks_often),
+    CASE(used_while_it_is_written),
     CASE(conditions_change_their_mutex),
     CASE(a_condition_outlives_its_mutexes),
     CASE(objects_have_no_end),
@@ -1093,6 +1162,8 @@ static const struct {
     CASE(uses_a_mutex_elsewhere),
     CASE(objects_of_other_kinds),
     CASE(full_histories_leave_no_memory),
+    CASE(tries_fill_a_history),
+    CASE(writes_a_little_and_much),
     CASE(a_folded_history_gets_more_seats),
 };
 

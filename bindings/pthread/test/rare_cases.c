@@ -170,19 +170,67 @@ static void handlers_fork(void) {
 
 static void do_nothing(int signal) { (void)signal; }
 
-/* SIGUSR2, which the recorder handles if the program doesn't, comes all the time to a process with one thread. */
-static void is_asked_to_write_often(void) {
+/* The recorder handles SIGUSR2 if the program doesn't. */
+static void survive_sigusr2(void) {
     struct sigaction found;
     CHECK(sigaction(SIGUSR2, NULL, &found) == 0);
     if (found.sa_handler == SIG_DFL) handle(SIGUSR2, do_nothing);
-    struct sigevent event = {.sigev_notify = SIGEV_SIGNAL, .sigev_signo = SIGUSR2};
-    struct itimerspec often = {{0, 100000}, {0, 100000}}, never = {0};
+}
+
+/* A timer that sends a signal each tenth of a millisecond. */
+static timer_t send_often(int signal) {
+    struct sigevent event = {.sigev_notify = SIGEV_SIGNAL, .sigev_signo = signal};
+    struct itimerspec often = {{0, 100000}, {0, 100000}};
     timer_t timer;
     CHECK(timer_create(CLOCK_MONOTONIC, &event, &timer) == 0 && timer_settime(timer, 0, &often, NULL) == 0);
+    return timer;
+}
+
+/* A process with one thread is asked to write all the time. */
+static void is_asked_to_write_often(void) {
+    survive_sigusr2();
+    timer_t timer = send_often(SIGUSR2);
     errno = 0;
     for (clock_t until = clock() + CLOCKS_PER_SEC / 10; clock() < until;) use_mutex();
-    CHECK(errno == 0 && timer_settime(timer, 0, &never, NULL) == 0);
+    CHECK(errno == 0 && timer_delete(timer) == 0);
     printf("done\n");
+}
+
+/* A thread that may not be cancelled writes what is recorded, and may not be cancelled afterwards. */
+static void writes_where_it_may_not_be_cancelled(void) {
+    int state;
+    survive_sigusr2();
+    CHECK(pthread_setcancelstate(PTHREAD_CANCEL_DISABLE, &state) == 0 && raise(SIGUSR2) == 0);
+    use_mutex(); /* it writes */
+    CHECK(pthread_setcancelstate(PTHREAD_CANCEL_ENABLE, &state) == 0);
+    printf("it %s be cancelled\n", state == PTHREAD_CANCEL_DISABLE ? "may not" : "may");
+}
+
+static atomic_int handled;
+
+static void post_once(int signal) {
+    (void)signal;
+    handled++;
+    failed_posts += sem_post(&posted) != 0;
+}
+
+/* A handler posts while a call writes files. When that call has returned, the posts are made. */
+static void handler_posts_while_files_are_written(void) {
+    sigset_t only;
+    int value, late = 0;
+    CHECK(sem_init(&posted, 0, 0) == 0 && sigemptyset(&only) == 0 && sigaddset(&only, SIGUSR1) == 0);
+    survive_sigusr2();
+    handle(SIGUSR1, post_once);
+    timer_t timer = send_often(SIGUSR1);
+    for (int i = 0; i < 40; i++) {
+        CHECK(raise(SIGUSR2) == 0);
+        use_mutex(); /* it writes */
+        CHECK(pthread_sigmask(SIG_BLOCK, &only, NULL) == 0 && sem_getvalue(&posted, &value) == 0);
+        late += value != handled;
+        CHECK(pthread_sigmask(SIG_UNBLOCK, &only, NULL) == 0);
+    }
+    CHECK(timer_delete(timer) == 0);
+    printf("late %d, failed %d\n", late, failed_posts);
 }
 
 static sem_t nothing_comes;
@@ -648,10 +696,8 @@ static void *use_shelf(void *nothing) {
 
 /* Children are made while another thread of the recorder writes what their parent did. */
 static void children_are_made_meanwhile(void) {
-    struct sigaction found;
     int status, ended = 0;
-    CHECK(sigaction(SIGUSR2, NULL, &found) == 0);
-    if (found.sa_handler == SIG_DFL) handle(SIGUSR2, do_nothing);
+    survive_sigusr2();
     for (int i = 0; i < 5; i++) {
         join(started(use_shelf, NULL));
         CHECK(raise(SIGUSR2) == 0);
@@ -727,20 +773,24 @@ static void reader_comes_while_a_writer_waits(void) {
     }
 }
 
-/* A moment before 1970 is over, as any that has passed, by whichever clock. */
+/* A moment before 1970 is over, as any that has passed, by whichever clock. The call leaves errno, and how its thread
+   is cancelled, as they were. */
 static void *wait_until_1969(void *lock) {
     static const clockid_t clocks[] = {CLOCK_REALTIME, CLOCK_MONOTONIC};
     static const struct timespec long_ago = {-1, 0};
     pthread_mutex_t own = PTHREAD_MUTEX_INITIALIZER;
     CHECK(pthread_mutex_lock(&own) == 0);
-    printf("mutex: %s", strerrorname_np(pthread_mutex_timedlock(&mutex, &long_ago)));
-    printf(", to read: %s\n", strerrorname_np(pthread_rwlock_timedrdlock(lock, &long_ago)));
+    errno = E2BIG;
+    tell("mutex", pthread_mutex_timedlock(&mutex, &long_ago));
+    tell("to read", pthread_rwlock_timedrdlock(lock, &long_ago));
+    tell("condition", pthread_cond_timedwait(&condition, &own, &long_ago));
+    tell("permit", sem_timedwait(&nothing_comes, &long_ago) ? errno : 0);
     for (int i = 0; i < 2; i++) {
-        printf("clock %d: mutex: %s", i, strerrorname_np(pthread_mutex_clocklock(&mutex, clocks[i], &long_ago)));
-        printf(", to read: %s", strerrorname_np(pthread_rwlock_clockrdlock(lock, clocks[i], &long_ago)));
-        printf(", to write: %s", strerrorname_np(pthread_rwlock_clockwrlock(lock, clocks[i], &long_ago)));
-        printf(", condition: %s", strerrorname_np(pthread_cond_clockwait(&condition, &own, clocks[i], &long_ago)));
-        printf(", permit: %s\n", strerrorname_np(sem_clockwait(&nothing_comes, clocks[i], &long_ago) ? errno : 0));
+        tell("mutex, by a clock", pthread_mutex_clocklock(&mutex, clocks[i], &long_ago));
+        tell("to read, by a clock", pthread_rwlock_clockrdlock(lock, clocks[i], &long_ago));
+        tell("to write, by a clock", pthread_rwlock_clockwrlock(lock, clocks[i], &long_ago));
+        tell("condition, by a clock", pthread_cond_clockwait(&condition, &own, clocks[i], &long_ago));
+        tell("permit, by a clock", sem_clockwait(&nothing_comes, clocks[i], &long_ago) ? errno : 0);
     }
     CHECK(pthread_mutex_unlock(&own) == 0);
     return NULL;
@@ -908,10 +958,8 @@ static void *wait_for_the_mutex(void *nothing) {
    are only counted, since they are of one place, and three are still to be written. */
 static void child_of_a_process_that_did_much(void) {
     struct timespec past = {1, 0};
-    struct sigaction found;
     int status;
-    CHECK(sigaction(SIGUSR2, NULL, &found) == 0);
-    if (found.sa_handler == SIG_DFL) handle(SIGUSR2, do_nothing);
+    survive_sigusr2();
     CHECK(pthread_mutex_lock(&mutex) == 0);
     pthread_t thread = started(wait_for_the_mutex, NULL);
     wait_for_stage(1);
@@ -1016,6 +1064,8 @@ static const struct {
     CASE(handler_posts_often),
     CASE(handlers_fork),
     CASE(is_asked_to_write_often),
+    CASE(writes_where_it_may_not_be_cancelled),
+    CASE(handler_posts_while_files_are_written),
     CASE(handlers_run_while_it_waits),
     CASE(first_call_keeps_the_signal_mask),
     CASE(waits_leave_errno_and_cancellation),

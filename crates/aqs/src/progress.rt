@@ -11,7 +11,7 @@ use streams::sink::Sink;
 use streams::watched::Watch;
 use streams::writing::write_all;
 
-/// The line is written when more bytes than this were read, and again after each so many more.
+/// The line is written when more bytes than this were read, and again each time that this many more were read.
 const STEP: u64 = 50_000_000;
 
 /// The unit of the line.
@@ -50,7 +50,7 @@ fn put_all(line: &mut Vec<u8>, size: Option<u64>, read: u64) -> Result<(), Alloc
     }
 }
 
-/// Returns what the line says of a text after so many bytes.
+/// Returns what the line says of a text after this many bytes.
 fn line_text(alloc: Global, size: Option<u64>, read: u64) -> Result<Vec<u8>, AllocError>
     ensures { IfOk result (λ line. line.items ≡ line_text size read) }
 {

@@ -10,10 +10,7 @@ use frame::hooks::{Gave, Hooks, Line, Taken};
 use history::entry::Mode;
 use history::fault::Fault;
 use history::header::{Object, Policy};
-use history::limits::MOST_AMOUNT;
-
-/// The greatest number of free permits.
-const MAX_PERMITS: i64 = MOST_AMOUNT as i64;
+use history::limits::MOST_PERMITS;
 
 /// The hooks of a semaphore. As in Java's Semaphore, the state is the number of free permits, which may be
 /// negative at the opening. Who holds permits isn't kept.
@@ -100,7 +97,7 @@ impl Hooks for SemaphoreHooks {
 
     fn give(&mut self, _who: u16, _mode: Mode, n: u32) -> Result<Gave, Fault> {
         let free = i64::from(self.free) + i64::from(n);
-        if free > MAX_PERMITS {
+        if free > MOST_PERMITS {
             return Err(Fault::TooManyPermits);
         }
         self.free = free as i32;

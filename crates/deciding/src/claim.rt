@@ -18,7 +18,7 @@ const MAX_HOLDS: u128 = MOST_HOLDS as u128;
 /// The greatest number of write holds of a read-write lock, and of read holds of all its seats.
 const MAX_READ_WRITE_HOLDS: u128 = MOST_READ_WRITE_HOLDS as u128;
 
-/// What decides whether one seat could acquire. What the object lacks is of no account.
+/// What decides whether one seat could acquire. A field that the object has no use for is ignored.
 #[derive(Clone, Copy)]
 pub struct Claim {
     /// The object, with its opening numbers.

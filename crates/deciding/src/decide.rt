@@ -24,11 +24,8 @@ use history::arrival::Arrival;
 use history::entry::{End, Entry, Mode, Word};
 use history::fault::Fault;
 use history::header::Object;
-use history::limits::MOST_AMOUNT;
+use history::limits::MOST_PERMITS;
 use history::step::Step;
-
-/// The most free permits.
-const MAX_PERMITS: i64 = MOST_AMOUNT as i64;
 
 /// Returns the seat of the head of the queue, if it could acquire what it asks for.
 pub fn ready<T: ObjectState>(state: &T) -> Option<u16>
@@ -136,7 +133,7 @@ fn gave<T: ObjectState>(state: &T, seat: u16, mode: Mode, n: u32) -> Word
             }
         }
         Object::Semaphore(_, _) => {
-            if free_permits(state) + i64::from(n) > MAX_PERMITS {
+            if free_permits(state) + i64::from(n) > MOST_PERMITS {
                 Word::Refused(Fault::TooManyPermits)
             } else {
                 Word::Gave

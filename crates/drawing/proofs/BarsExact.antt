@@ -2,6 +2,7 @@
 use Rattle.std.proofs.Common.{◌≡◌, ◌≢◌, ◌⊎◌, ◌↔◌, inl, inr, ⊎_elim, ℕ, zero, suc, ◌+◌, ◌-◌, ◌<◌, ◌≤◌, Bool, true, false, cond, eqb, ltb, List, [], ◌∷◌, length, get_or, drop, refl, ap, ◌∙◌, sym, subst, arith, eq-eqb, ne_eqb, lt-ltb, le-ltb, ltb-true}
 use Rattle.std.specs.List.{Contains, flat_map}
 use Rattle.std.proofs.lemmas.Bool.{cases_eq, cases_lt, eqb-false}
+use Rattle.std.proofs.lemmas.Bool.Decides.{nat_tests}
 use Rattle.std.proofs.lemmas.List.Elements.{Contains-append_left, Contains-append_right, Contains-append_cases}
 use Rattle.drawing.specs.Below.{Entry, Start}
 use Rattle.drawing.specs.Prelude.{Bar, Kind, Exclusive, Shared, InLine, Asleep, bar_at, bars, ended, ended_by, lasting, IsBar, IsKind, level_behind, Track, asleep_tracks, level, level_of, track, tracks, tracks_below, tracks_of_seat}
@@ -228,50 +229,32 @@ lasts s from (e ∷ h) t n first f l all before =
 lasting_within : (s : Start) (from : ℕ) (h : List Entry) (t : Track) (n : ℕ) →
     lasting s from h t n ≤ length h - from
 lasting_within s from [] t n = omega arith
-lasting_within s from (e ∷ h) t n =
-    ⊎_elim (λ early. let z = lasting_too_early s from e h t n early in omega (arith, z))
-    (λ l. ⊎_elim
-    (λ q. let m = lasting_on s from e h t n l q in
-    let ih = lasting_within s from h t n in omega (arith, m, ih, l))
-    (λ ne. let z = lasting_off s from e h t n ne in omega (arith, z))
-    (cases_eq (level_of s (e ∷ h) t) n))
-    (cases_lt (length h) from)
+lasting_within s from (e ∷ h) t n = grind (arith, nat_tests, lasting_within s from h t n)
 
 lasting_throughout : (s : Start) (from : ℕ) (h : List Entry) (t : Track) (n k : ℕ) →
     length h - lasting s from h t n ≤ k → k < length h → level_behind s h t.seat t.kind k ≡ n
 lasting_throughout s from [] t n k a b = absurd (omega (arith, b))
 lasting_throughout s from (e ∷ h) t n k a b =
-    ⊎_elim (λ early. let z = lasting_too_early s from e h t n early in absurd (omega (arith, z, a, b)))
-    (λ l. ⊎_elim
-    (λ q. let m = lasting_on s from e h t n l q in
-    ⊎_elim
-    (λ old. behind_same s e h t.seat t.kind k old
-    ∙ lasting_throughout s from h t n k (omega (arith, m, a)) old)
-    (λ new. behind_last s (e ∷ h) t.seat t.kind k (omega (arith, new, b)) ∙ q)
-    (cases_lt k (length h)))
-    (λ ne. let z = lasting_off s from e h t n ne in absurd (omega (arith, z, a, b)))
-    (cases_eq (level_of s (e ∷ h) t) n))
-    (cases_lt (length h) from)
+    grind (
+      arith,
+      nat_tests,
+      behind_same s e h t.seat t.kind k,
+      behind_last s (e ∷ h) t.seat t.kind k,
+      lasting_throughout s from h t n k,
+    )
 
 lasting_before : (s : Start) (from : ℕ) (h : List Entry) (t : Track) (n : ℕ) →
     from < length h - lasting s from h t n →
     level_behind s h t.seat t.kind (length h - lasting s from h t n - 1) ≡ n → ⊥
 lasting_before s from [] t n a q = absurd (omega (arith, a))
 lasting_before s from (e ∷ h) t n a q =
-    ⊎_elim (λ early. let z = lasting_too_early s from e h t n early in absurd (omega (arith, z, a, early)))
-    (λ l. ⊎_elim
-    (λ same. let m = lasting_on s from e h t n l same in
-    let place : length (e ∷ h) - lasting s from (e ∷ h) t n - 1 ≡ length h - lasting s from h t n - 1 =
-    omega (arith, m) in
-    lasting_before s from h t n (omega (arith, m, a))
-    (sym (behind_same s e h t.seat t.kind (length h - lasting s from h t n - 1) (omega (arith, m, a)))
-    ∙ sym (ap (level_behind s (e ∷ h) t.seat t.kind) place) ∙ q))
-    (λ ne. let z = lasting_off s from e h t n ne in
-    let place : length (e ∷ h) - lasting s from (e ∷ h) t n - 1 ≡ length h = omega (arith, z) in
-    ne (sym (behind_last s (e ∷ h) t.seat t.kind (length h) (omega arith))
-    ∙ sym (ap (level_behind s (e ∷ h) t.seat t.kind) place) ∙ q))
-    (cases_eq (level_of s (e ∷ h) t) n))
-    (cases_lt (length h) from)
+    grind (
+      arith,
+      nat_tests,
+      behind_same s e h t.seat t.kind (length h - lasting s from h t n - 1),
+      behind_last s (e ∷ h) t.seat t.kind (length h),
+      lasting_before s from h t n,
+    )
 
 -- the bar of a track that reaches the newest entry
 abbrev reaching : Start → ℕ → List Entry → Track → Bar

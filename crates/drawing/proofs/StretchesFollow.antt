@@ -1,7 +1,7 @@
 -- That the stretches and the bars follow each entry.
-use Rattle.std.proofs.Common.{◌≡◌, ⊎_elim, ℕ, ◌+◌, ◌-◌, ◌<◌, ◌≤◌, Bool, true, false, cond, eqb, List, [], ◌∷◌, ◌++◌, length, map, refl, ap, ◌∙◌, sym, arith, eq-eqb, ne_eqb, lt-ltb, le-ltb, append-nil}
+use Rattle.std.proofs.Common.{◌≡◌, ℕ, ◌+◌, ◌-◌, ◌<◌, ◌≤◌, Bool, true, false, cond, eqb, List, [], ◌∷◌, ◌++◌, length, map, refl, ap, ◌∙◌, sym, arith, eq-eqb, lt-ltb, le-ltb, append-nil}
 use Rattle.std.specs.List.{flat_map}
-use Rattle.std.proofs.lemmas.Bool.{cases_eq, cases_lt}
+use Rattle.std.proofs.lemmas.Bool.Decides.{nat_tests}
 use Rattle.drawing.specs.Below.{Entry, Start}
 use Rattle.drawing.specs.Prelude.{Bar, bar_at, ended, ended_by, lasting, Track, level_of, tracks, fresh, stretch, stretches}
 use Rattle.drawing.specs.declared.bar.Stretch.{Stretch}
@@ -17,10 +17,7 @@ lasting_more s from e h t l =
 pub lasting_none : (s : Start) (from : ℕ) (h : List Entry) (t : Track) (n : ℕ) →
     (from < length h → level_of s h t ≡ n → ⊥) → lasting s from h t n ≡ 0
 lasting_none s from [] t n ne = refl
-lasting_none s from (e ∷ h) t n ne =
-    ⊎_elim (λ l. rw (lt-ltb (length h) from l) refl)
-    (λ l. rw (le-ltb (length h) from l)
-    (rw (ne_eqb (level_of s (e ∷ h) t) n (ne (omega (arith, l)))) refl)) (cases_lt (length h) from)
+lasting_none s from (e ∷ h) t n ne = grind (arith, nat_tests)
 
 -- a stretch that is drawn, and one that isn't yet
 pub drawn : (s : Start) (from : ℕ) (h : List Entry) (t : Track) → from < length h →
@@ -43,74 +40,19 @@ at t first holds = record { seat = t.seat; kind = t.kind; first = first; holds =
 pub goes_on : (s : Start) (from : ℕ) (e : Entry) (h : List Entry) (t : Track) → from ≤ length h →
     going_on s (e ∷ h) (length h) (stretch s from h t) ≡ stretch s from (e ∷ h) t
 goes_on s from e h t l =
-    ⊎_elim (λ more. ap (going_on s (e ∷ h) (length h)) (drawn s from h t more) ∙ later more)
-    (λ less. ap (going_on s (e ∷ h) (length h)) (not_yet s from h t less) ∙ first less)
-    (cases_lt from (length h))
-  where
-    moved : (x : ℕ) → x ≡ length (e ∷ h) - lasting s from (e ∷ h) t (level_of s (e ∷ h) t) →
-        at t x (level_of s (e ∷ h) t) ≡ stretch s from (e ∷ h) t
-    moved x q = ap (λ n. at t n (level_of s (e ∷ h) t)) q ∙ sym (drawn s from (e ∷ h) t (omega (arith, l)))
-
-    later : from < length h → going_on s (e ∷ h) (length h)
-        (at t (length h - lasting s from h t (level_of s h t)) (level_of s h t)) ≡ stretch s from (e ∷ h) t
-    later more = ⊎_elim
-        (λ same. rw (eq-eqb (level_of s (e ∷ h) t) (level_of s h t) same)
-        (ap (at t (length h - lasting s from h t (level_of s h t))) (sym same)
-        ∙ moved _ (let a = lasting_more s from e h t l in
-        let b : lasting s from h t (level_of s (e ∷ h) t) ≡ lasting s from h t (level_of s h t) =
-        ap (lasting s from h t) same in
-        omega (arith, a, b))))
-        (λ ne. rw (ne_eqb (level_of s (e ∷ h) t) (level_of s h t) ne)
-        (moved _ (let a = lasting_more s from e h t l in
-        let b = lasting_none s from h t (level_of s (e ∷ h) t) (λ m q. ne (sym q)) in
-        omega (arith, a, b))))
-        (cases_eq (level_of s (e ∷ h) t) (level_of s h t))
-
-    first : length h ≤ from → going_on s (e ∷ h) (length h) (at t from 0) ≡ stretch s from (e ∷ h) t
-    first less =
-        let a = lasting_more s from e h t l in
-        let b : lasting s from h t (level_of s (e ∷ h) t) ≡ 0 =
-        lasting_none s from h t (level_of s (e ∷ h) t) (λ m. absurd (omega (arith, m, less))) in
-        ⊎_elim
-        (λ same. rw (eq-eqb (level_of s (e ∷ h) t) 0 same)
-        (ap (at t from) (sym same) ∙ moved from (omega (arith, a, b, less, l))))
-        (λ ne. rw (ne_eqb (level_of s (e ∷ h) t) 0 ne) (moved (length h) (omega (arith, a, b))))
-        (cases_eq (level_of s (e ∷ h) t) 0)
+    grind (arith, nat_tests, lasting_more s from e h t l, lasting_none s from h t (level_of s (e ∷ h) t))
 
 -- the bar of a stretch that ends
 pub bar_ends : (s : Start) (from : ℕ) (h : List Entry) (t : Track) →
     bar_of (length h) (stretch s from h t) ≡ bar_at s from h t
-bar_ends s from h t = ⊎_elim (λ more. rw (lt-ltb from (length h) more) refl)
-    (λ less. rw (le-ltb from (length h) less) (nothing (eqb (level_of s h t) 0))) (cases_lt from (length h))
-  where
-    nothing : (b : Bool) → ◌≡◌ {A = List Bar} [] (cond b [] [])
-    nothing true = refl
-    nothing false = refl
+bar_ends s from h t = grind (arith, nat_tests)
 
 no_bar : (s : Start) (from : ℕ) (h : List Entry) (t : Track) → length h ≤ from → bar_at s from h t ≡ []
-no_bar s from h t less = rw (le-ltb from (length h) less) (nothing (eqb (level_of s h t) 0))
-  where
-    nothing : (b : Bool) → ◌≡◌ {A = List Bar} (cond b [] []) []
-    nothing true = refl
-    nothing false = refl
+no_bar s from h t less = grind (arith, nat_tests)
 
 pub ends_by : (s : Start) (from : ℕ) (e : Entry) (h : List Entry) (t : Track) → from ≤ length h →
     ending s (e ∷ h) (length h) (stretch s from h t) ≡ ended_by s from e h t
-ends_by s from e h t l =
-    ⊎_elim
-    (λ more. ap (ending s (e ∷ h) (length h)) (drawn s from h t more)
-    ∙ ap (cond (eqb (level_of s (e ∷ h) t) (level_of s h t)) [])
-    (ap (bar_of (length h)) (sym (drawn s from h t more)) ∙ bar_ends s from h t))
-    (λ less. ap (ending s (e ∷ h) (length h)) (not_yet s from h t less)
-    ∙ same (eqb (level_of s (e ∷ h) t) 0) (eqb (level_of s (e ∷ h) t) (level_of s h t))
-    ∙ ap (cond (eqb (level_of s (e ∷ h) t) (level_of s h t)) []) (sym (no_bar s from h t less)))
-    (cases_lt from (length h))
-  where
-    same : (b c : Bool) → ◌≡◌ {A = List Bar} (cond b [] []) (cond c [] [])
-    same true true = refl
-    same true false = refl
-    same false true = refl
-    same false false = refl
+ends_by s from e h t l = grind (arith, nat_tests, bar_ends s from h t, no_bar s from h t)
 
 -- the same of all tracks
 pub map_map_same : {X Y Z : Type 0} (f : Y → Z) (g : X → Y) (k : X → Z) (xs : List X) →

@@ -1,8 +1,7 @@
 -- That the tables of holds, of the line and of sleepers follow each entry.
-use Rattle.std.proofs.Common.{◌≡◌, ⊎_elim, ℕ, ◌<◌, Bool, true, false, ◌&&◌, ◌||◌, not, cond, eqb, List, [], ◌∷◌, ◌++◌, length, get_or, set, map, take, Some, None, refl, ap, ◌∙◌, sym, eq-eqb, ne_eqb, eqb-true}
+use Rattle.std.proofs.Common.{◌≡◌, ℕ, ◌<◌, Bool, true, false, ◌&&◌, ◌||◌, not, cond, eqb, List, [], ◌∷◌, ◌++◌, length, get_or, set, map, take, refl, arith, ap, ◌∙◌, sym}
 use Rattle.std.specs.List.{All, filter, list_any}
-use Rattle.std.proofs.Math.Bool.{and-true, and-false}
-use Rattle.std.proofs.lemmas.Bool.{both_ways, cases_eq}
+use Rattle.std.proofs.lemmas.Bool.Decides.{nat_tests}
 use Rattle.std.proofs.lemmas.List.Elements.{All-push, All-drop, All-nil, All-filter}
 use Rattle.drawing.specs.Below.{Arrival, Entry, Mode, Word, held, ends_arrival, same_mode, arrivals_by, coming_back, line, place_of, has, sleepers, sleepers_after, Start, is_placed}
 use Rattle.history.specs.declared.entry.Word.TheVariants as word
@@ -25,100 +24,17 @@ holds_follow s e h m table = table_follows s e h m table (same_mode e.mode m) re
 there-append : (i : ℕ) (p q : List Arrival) →
     is_placed (place_of i (p ++ q)) ≡ (is_placed (place_of i p) || is_placed (place_of i q))
 there-append i [] q = refl
-there-append i (a ∷ p) q = by (eqb a.seat i) (there-append i p q)
-  where
-    by : (b : Bool) → is_placed (place_of i (p ++ q)) ≡ (is_placed (place_of i p) || is_placed (place_of i q)) →
-        is_placed (cond b (Some a) (place_of i (p ++ q)))
-        ≡ (is_placed (cond b (Some a) (place_of i p)) || is_placed (place_of i q))
-    by true ih = refl
-    by false ih = ih
-
-all_stay : (i : ℕ) (q : List Arrival) →
-    is_placed (place_of i (filter (λ a. true) q)) ≡ is_placed (place_of i q)
-all_stay i [] = refl
-all_stay i (a ∷ q) = by (eqb a.seat i) (all_stay i q)
-  where
-    by : (b : Bool) → is_placed (place_of i (filter (λ a. true) q)) ≡ is_placed (place_of i q) →
-        is_placed (cond b (Some a) (place_of i (filter (λ a. true) q)))
-        ≡ is_placed (cond b (Some a) (place_of i q))
-    by true ih = refl
-    by false ih = ih
-
-none_left : (i j : ℕ) (q : List Arrival) → j ≡ i →
-    is_placed (place_of i (filter (λ a. not (eqb j a.seat)) q)) ≡ false
-none_left i j [] same = refl
-none_left i j (a ∷ q) same = by (eqb j a.seat) refl (none_left i j q same)
-  where
-    by : (b : Bool) → eqb j a.seat ≡ b → is_placed (place_of i (filter (λ a. not (eqb j a.seat)) q)) ≡ false →
-        is_placed (place_of i (cond (not b) (a ∷ filter (λ a. not (eqb j a.seat)) q)
-        (filter (λ a. not (eqb j a.seat)) q))) ≡ false
-    by true t ih = ih
-    by false t ih =
-        let other : eqb a.seat i ≡ false =
-        ne_eqb a.seat i (λ x. both_ways (eqb j a.seat) t (eq-eqb j a.seat (same ∙ sym x))) in
-        rw other ih
-
-others_left : (i j : ℕ) (q : List Arrival) → (j ≡ i → ⊥) →
-    is_placed (place_of i (filter (λ a. not (eqb j a.seat)) q)) ≡ is_placed (place_of i q)
-others_left i j [] ne = refl
-others_left i j (a ∷ q) ne = by (eqb j a.seat) refl (others_left i j q ne)
-  where
-    by : (b : Bool) → eqb j a.seat ≡ b
-        → is_placed (place_of i (filter (λ a. not (eqb j a.seat)) q)) ≡ is_placed (place_of i q)
-        → is_placed (place_of i (cond (not b) (a ∷ filter (λ a. not (eqb j a.seat)) q)
-        (filter (λ a. not (eqb j a.seat)) q))) ≡ is_placed (cond (eqb a.seat i) (Some a) (place_of i q))
-    by true t ih =
-        let other : eqb a.seat i ≡ false = ne_eqb a.seat i (λ x. ne (eqb-true j a.seat t ∙ x)) in
-        rw other ih
-    by false t ih = kept (eqb a.seat i) ih
-      where
-        kept : (b : Bool)
-            → is_placed (place_of i (filter (λ a. not (eqb j a.seat)) q)) ≡ is_placed (place_of i q)
-            → is_placed (cond b (Some a) (place_of i (filter (λ a. not (eqb j a.seat)) q)))
-            ≡ is_placed (cond b (Some a) (place_of i q))
-        kept true ih = refl
-        kept false ih = ih
+there-append i (a ∷ p) q = grind (arith, there-append i p q)
 
 there-left : (i j : ℕ) (b : Bool) (q : List Arrival) →
     is_placed (place_of i (filter (λ a. not (b && eqb j a.seat)) q))
     ≡ (is_placed (place_of i q) && not (b && eqb j i))
-there-left i j false q = all_stay i q ∙ sym (and-true (is_placed (place_of i q)))
-there-left i j true q =
-    ⊎_elim
-    (λ same. none_left i j q same
-    ∙ sym (ap (λ b. is_placed (place_of i q) && not b) (eq-eqb j i same)
-    ∙ and-false (is_placed (place_of i q))))
-    (λ ne. others_left i j q ne
-    ∙ sym (ap (λ b. is_placed (place_of i q) && not b) (ne_eqb j i ne)
-    ∙ and-true (is_placed (place_of i q))))
-    (cases_eq j i)
+there-left i j b [] = refl
+there-left i j b (a ∷ q) = grind (arith, nat_tests, there-left i j b q)
 
 pub there-coming_back : (i : ℕ) (xs : List ℕ) → is_placed (place_of i (map coming_back xs)) ≡ has i xs
 there-coming_back i [] = refl
-there-coming_back i (x ∷ xs) = by (eqb x i) (there-coming_back i xs)
-  where
-    by : (b : Bool) → is_placed (place_of i (map coming_back xs)) ≡ has i xs →
-        is_placed (cond b (Some (coming_back x)) (place_of i (map coming_back xs))) ≡ (b || has i xs)
-    by true ih = refl
-    by false ih = ih
-
--- what an entry makes of a seat's place in line, by the word
-joined : (c b : Bool) (a : Arrival) →
-    (cond c true b || false) ≡ ((b && true) || is_placed (cond c (Some a) None))
-joined true true a = refl
-joined true false a = refl
-joined false true a = refl
-joined false false a = refl
-
-gone : (c b : Bool) → (cond c false b || false) ≡ ((b && not c) || false)
-gone true true = refl
-gone true false = refl
-gone false true = refl
-gone false false = refl
-
-stayed : (b : Bool) → (b || false) ≡ ((b && true) || false)
-stayed true = refl
-stayed false = refl
+there-coming_back i (x ∷ xs) = grind (arith, there-coming_back i xs)
 
 -- whether a seat is in the line after an entry: it was there and did not leave, or the entry brings it
 pub line_is : (s : Start) (e : Entry) (h : List Entry) (i : ℕ) →
@@ -146,29 +62,14 @@ line_follows s e h t i seat is =
         (get_or (line_by w e.seat t) i false || has i (woken w e.n (sleepers s h e.at)))
         ≡ ((get_or t i false && not (ends_arrival w && eqb e.seat i))
         || is_placed (place_of i (arrivals_by s w e h)))
-    by word.Queued =
-        ap (λ b. b || false) (at_set t e.seat i true false seat)
-        ∙ joined (eqb e.seat i) (get_or t i false) _
-    by word.Lapse =
-        ap (λ b. b || false) (at_set t e.seat i true false seat)
-        ∙ joined (eqb e.seat i) (get_or t i false) _
-    by word.Granted =
-        ap (λ b. b || false) (at_set t e.seat i false false seat) ∙ gone (eqb e.seat i) (get_or t i false)
-    by word.Left =
-        ap (λ b. b || false) (at_set t e.seat i false false seat) ∙ gone (eqb e.seat i) (get_or t i false)
-    by word.Back =
-        ap (λ b. b || false) (at_set t e.seat i false false seat) ∙ gone (eqb e.seat i) (get_or t i false)
-    by word.Signal = woke (take e.n (sleepers s h e.at))
-      where
-        woke : (xs : List ℕ) → (get_or t i false || has i xs)
-            ≡ ((get_or t i false && true) || is_placed (place_of i (map coming_back xs)))
-        woke xs = rw (there-coming_back i xs, and-true (get_or t i false)) refl
-    by word.SignalAll = woke (sleepers s h e.at)
-      where
-        woke : (xs : List ℕ) → (get_or t i false || has i xs)
-            ≡ ((get_or t i false && true) || is_placed (place_of i (map coming_back xs)))
-        woke xs = rw (there-coming_back i xs, and-true (get_or t i false)) refl
-    by _ = stayed (get_or t i false)
+    by word.Queued = grind (arith, at_set t e.seat i true false seat)
+    by word.Lapse = grind (arith, at_set t e.seat i true false seat)
+    by word.Granted = grind (arith, at_set t e.seat i false false seat)
+    by word.Left = grind (arith, at_set t e.seat i false false seat)
+    by word.Back = grind (arith, at_set t e.seat i false false seat)
+    by word.Signal = grind (arith, there-coming_back i (take e.n (sleepers s h e.at)))
+    by word.SignalAll = grind (arith, there-coming_back i (sleepers s h e.at))
+    by _ = grind arith
 
 -- the sleepers of a condition are seats of the object
 pub seated_after : (n : ℕ) (w : Word) (i m : ℕ) (xs : List ℕ) → i < n → All (λ j. j < n) xs →
@@ -194,8 +95,4 @@ pub sleepers_follow : (s : Start) (e : Entry) (h : List Entry) (t : List (List �
     e.at < length t → ((c : ℕ) → c < CONDITIONS → get_or t c [] ≡ sleepers s h c) → c < CONDITIONS → e.at < CONDITIONS →
     get_or (set t e.at (sleepers_after e.word e.seat e.n (get_or t e.at []))) c [] ≡ sleepers s (e ∷ h) c
 sleepers_follow s e h t c l is below at =
-    at_set t e.at c (sleepers_after e.word e.seat e.n (get_or t e.at [])) [] l
-    ∙ ⊎_elim
-    (λ q.
-    rw (eq-eqb e.at c q) (ap (sleepers_after e.word e.seat e.n) (ap (λ k. get_or t k []) q ∙ is c below)))
-    (λ ne. rw (ne_eqb e.at c ne) (is c below)) (cases_eq e.at c)
+    grind (arith, nat_tests, at_set t e.at c (sleepers_after e.word e.seat e.n (get_or t e.at [])) [] l, is c below)

@@ -1,7 +1,7 @@
 -- The lines of a base ahead of a reader's window.
-use Rattle.std.proofs.Common.{◌≡◌, inl, inr, ◌⊎◌, ℕ, ◌-◌, ◌≤◌, true, List, [], ◌∷◌, ◌++◌, length, map, drop, Option, None, Some, Ok, Err, IfSome, refl, sym, ap, subst, ◌∙◌, arith, append_assoc}
+use Rattle.std.proofs.Common.{◌≡◌, ℕ, ◌-◌, ◌≤◌, true, List, [], ◌∷◌, ◌++◌, length, map, drop, Option, None, Some, Ok, Err, IfSome, refl, sym, ap, subst, ◌∙◌, arith, append_assoc}
 use Rattle.std.specs.Io.KnownBytes.{Keeps, IsAtEnd, prepend_known}
-use Rattle.driver.specs.Below.{Header, Base, based, opening_base, or_opening, MOST_FOLDED, IsBaseOf, IsGood, Start, ended, TextFault, CutShort, Begins, MOST_LINES, BaseLine, Head, Place, base_line, base_lines, head_of, history_form, AreEntriesRead, HasShortLine, IsBaseLineNext, IsBaseLineTaken, LacksBaseLine, LinesRead, Based, Line, GoodBeginsSo, IsToldBase, StreamFault, Text, Memory, IsOfReading, IsTooLong, StaysAhead}
+use Rattle.driver.specs.Below.{Header, Base, or_opening, MOST_FOLDED, IsBaseOf, Start, ended, TextFault, CutShort, Begins, MOST_LINES, BaseLine, Head, Place, base_line, base_lines, head_of, history_form, AreEntriesRead, HasShortLine, IsBaseLineNext, IsBaseLineTaken, LacksBaseLine, LinesRead, Based, Line, GoodBeginsSo, IsToldBase, StreamFault, Text, Memory, IsOfReading, IsTooLong, StaysAhead}
 use Rattle.history.proofs.OpeningBase.{based_opening}
 use Rattle.line_text.proofs.OneReading.{lacks, same_lines}
 use Rattle.line_text.proofs.UnderWay.{last_bytes}
@@ -116,21 +116,8 @@ beginning_read (Some t) h k base p bytes (Some more) same were =
 -- what a reader has after a base is small
 pub few_after : (k : Header) (b : Base) (p : Place) → IsBaseOf k b → IsPlacedBehind b p →
     (p.calls ≤ MOST_FOLDED) × (p.folded ≤ MOST_FOLDED)
-few_after k b p of placed = by of.1
-  where
-    by : (b ≡ opening_base k) ⊎ ((1 ≤ b.entries) × IsGood b) → (p.calls ≤ MOST_FOLDED) ×
-        (p.folded ≤ MOST_FOLDED)
-    by (inl e) = (
-      omega (
-        arith,
-        placed.calls,
-        ap (λ (z : Base). (based z).calls) e,
-        ap (λ (s : Start). s.calls) (based_opening k),
-      ),
-      omega (arith, placed.folded, ap (λ (z : Base). z.entries) e),
-    )
-    by (inr q) = (
-      omega (arith, placed.calls, q.1.calls, q.1.entries),
-      omega
-          (arith, placed.folded, q.1.entries),
+few_after k b p of placed =
+    let opened = ap (λ (s : Start). s.calls) (based_opening k) in (
+      grind (arith, placed.calls, of.1, opened),
+      grind (arith, placed.folded, of.1),
     )

@@ -1,9 +1,8 @@
 -- Acts of a core, one after another, and what is kept of them.
-use Rattle.std.proofs.Common.{◌≡◌, inr, ⊎_elim, ℕ, ◌+◌, ◌≤◌, false, ltb, List, [], ◌++◌, All, length, reverse, Result, Ok, Err, refl, ap, sym, subst, ◌∙◌, arith, append-nil, lt-ltb, le-ltb, drop_at, length-append}
-use Rattle.std.proofs.lemmas.Bool.{cases_lt}
+use Rattle.std.proofs.Common.{◌≡◌, inr, ℕ, ◌+◌, ◌≤◌, List, [], ◌++◌, All, length, reverse, Result, Ok, Err, refl, ap, sym, subst, ◌∙◌, arith, append-nil, lt-ltb, drop_at, length-append}
 use Rattle.std.proofs.lemmas.List.{length-reverse, reverse-append, reverse-reverse}
 use Rattle.std.proofs.lemmas.List.Elements.{All-append, All-drop, All-from_recursion}
-use Rattle.driver.specs.Below.{Act, Do, Trim, IsOfSeats, CoreView, IsTrimmed, Entry, Fault, Header, Base, based, folded, ended_calls, IsSpelt, MOST_FOLDED, IsBaseOf, calls, CanFold, StepsHeader, IsAct}
+use Rattle.driver.specs.Below.{Act, Do, Trim, IsOfSeats, CoreView, IsTrimmed, Entry, Fault, Header, Base, based, ended_calls, IsSpelt, IsBaseOf, calls, CanFold, StepsHeader, IsAct}
 use Rattle.history.proofs.Folding.{fold_alike}
 use Rattle.history.proofs.GoodBases.{good_waits}
 use Rattle.history.proofs.Lists.{calls-ended, ended_append, ended_calls-reverse}
@@ -12,6 +11,7 @@ use Rattle.history_text.proofs.Spelt.{all_spelt_on}
 use Rattle.driver.specs.Answers.{AreFolded}
 use Rattle.driver.specs.inner.Logged.{gone}
 use Rattle.driver.proofs.ReplayUnderWay.{IsTrimOf, base_after, list_after}
+use Rattle.std.proofs.lemmas.Bool.Decides.{nat_tests}
 
 -- an act under a header is of one of its seats
 pub of_seats : (h : StepsHeader) (a : Act) → IsAct h a → IsOfSeats h.header.seats a
@@ -29,16 +29,11 @@ pub record HasTrimmed (old : CoreView) (r : Result ℕ Fault) (new : CoreView) :
 pub has_trimmed : (old new : CoreView) (r : Result ℕ Fault) → IsTrimmed old r new → HasTrimmed old r new
 has_trimmed old new (Ok count) t =
     record {
-      is = (t.1, few);
+      is = (t.1, grind (arith, nat_tests, t.0));
       base = ap (λ (v : CoreView). v.base) t.2;
       entries = ap (λ (v : CoreView). v.entries) t.2;
       header = ap (λ (v : CoreView). v.header) t.2;
     }
-  where
-    few : ltb MOST_FOLDED (old.base.entries + length old.entries) ≡ false
-    few =
-        ⊎_elim (λ over. absurd (t.0 over)) (λ le. le-ltb _ _ le)
-        (cases_lt MOST_FOLDED (old.base.entries + length old.entries))
 has_trimmed old new (Err fault) t =
     record {
       is = (t.1, lt-ltb _ _ t.0);
@@ -59,25 +54,27 @@ all_in_order past h = reverse-append h (reverse past)
 -- a trim leaves them
 pub all_stay : (r : Result ℕ Fault) (past h : List Entry) →
     list_after r h ++ reverse (past ++ gone r h) ≡ h ++ reverse past
-all_stay (Ok count) past h = reverse-append past (reverse h)
-    ∙ ap (λ (es : List Entry). es ++ reverse past) (reverse-reverse h)
-all_stay (Err fault) past h = ap (λ (es : List Entry). h ++ reverse es) (append-nil past)
+all_stay r past h =
+    grind (arith, reverse-append past (reverse h), reverse-reverse h, append-nil past)
 
 pub folded_counted : (r : Result ℕ Fault) (b : Base) (past h : List Entry) → b.entries ≡ length past →
     (base_after r b h).entries ≡ length (past ++ gone r h)
-folded_counted (Ok count) b past h same =
-    omega (arith, same, length-append past (reverse h), length-reverse h)
-folded_counted (Err fault) b past h same = same ∙ ap length (sym (append-nil past))
+folded_counted r b past h same =
+    grind (arith, same, length-append past (reverse h), length-reverse h, append-nil past)
 
 pub folded_calls : (r : Result ℕ Fault) (b : Base) (past h : List Entry) → CanFold b h →
     calls (based b) [] ≡ ended_calls past →
     calls (based (base_after r b h)) [] ≡ ended_calls (past ++ gone r h)
 folded_calls (Ok count) b past h can same =
-    let alike : calls (based b) h ≡ calls (based (folded b h)) [] =
-    (fold_alike b h can.good can.legal can.seated).ended in
-    sym alike ∙ calls-ended (based b) h ∙ ap (λ (n : ℕ). n + ended_calls h) same
-    ∙ ap (λ (n : ℕ). ended_calls past + n) (sym (ended_calls-reverse h))
-    ∙ sym (ended_append past (reverse h))
+    let alike = (fold_alike b h can.good can.legal can.seated).ended in
+    omega (
+      arith,
+      alike,
+      calls-ended (based b) h,
+      same,
+      ended_calls-reverse h,
+      ended_append past (reverse h),
+    )
 folded_calls (Err fault) b past h can same = same ∙ ap ended_calls (sym (append-nil past))
 
 -- ---- all entries have lines

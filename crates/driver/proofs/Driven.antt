@@ -1,18 +1,18 @@
 -- The acts of a text are done as their lines are read.
-use Rattle.std.proofs.Common.{◌≡◌, ℕ, ◌+◌, ◌≤◌, List, [], ◌∷◌, ◌++◌, All, length, reverse, Option, None, Some, Result, Ok, Err, IfSome, refl, subst, sym, ap, ◌∙◌, arith, length-append}
+use Rattle.std.proofs.Common.{◌≡◌, ℕ, ◌+◌, ◌≤◌, List, [], ◌∷◌, ◌++◌, All, length, reverse, Option, None, Some, Result, Ok, IfSome, refl, subst, sym, ap, arith, length-append}
 use Rattle.std.proofs.lemmas.List.{length-reverse}
 use Rattle.std.proofs.lemmas.List.Elements.{All-nil}
-use Rattle.driver.specs.Below.{Act, Do, Trim, CoreView, Entry, Fault, Answer, Recorded, Sleep, Step, answer, Base, based, opening_base, ended_calls, IsSpelt, calls, MayFold, CanFold, Start, ended, counts_line, history_text, IsText, StepsHeader, steps_form}
+use Rattle.driver.specs.Below.{Act, Do, Trim, CoreView, Entry, Fault, Answer, Step, answer, Base, based, opening_base, ended_calls, IsSpelt, calls, MayFold, CanFold, Start, ended, counts_line, IsText, StepsHeader, steps_form}
 use Rattle.history.proofs.Lists.{calls-ended, ended_append, ended_calls-reverse}
 use Rattle.history.proofs.OpeningBase.{based_opening}
-use Rattle.driver.specs.Prelude.{Form, Replay, History, Remark, AllAnswers, answers_text, remark_of, told_lines, trim_remark, AreAnswersBehind, IsLawful, answer_text, answer_line, behind_acts, done_lines, entries_of, header_line, trim_line, Progress, IsNext}
+use Rattle.driver.specs.Prelude.{Form, Replay, History, Remark, AllAnswers, answers_text, remark_of, trim_remark, AreAnswersBehind, IsLawful, answer_text, answer_line, behind_acts, entries_of, trim_line, Progress, IsNext}
 use Rattle.driver.specs.inner.Logged.{IsLogged, IsRemarked, Logged, gone}
 use Rattle.driver.specs.inner.ReplayStream.{IsAnswerTo}
 use Rattle.driver.proofs.ReadingAhead.{ReadOn}
 use Rattle.driver.proofs.WrittenAnswers.{replayed}
 use Rattle.driver.proofs.Doing.{all_counted, all_in_order, all_stay, folded_calls, folded_counted, has_trimmed, spelt_more}
 use Rattle.driver.proofs.Remarking.{Remarked, added_count, added_is, remarked_all, remarked_none, remarked_on, remarked_trim}
-use Rattle.driver.proofs.ReplayUnderWay.{IsTrimOf, PlayedSoFar, answered, base_all, base_after, entries_all, list_after, played_all, played_step, played_none, played_trim}
+use Rattle.driver.proofs.ReplayUnderWay.{IsTrimOf, PlayedSoFar, answered, base_after, list_after, played_all, played_step, played_none, played_trim}
 
 -- These acts were read. The entries that were folded, the oldest first, and the list after them, with these
 -- remarks, have all their answers.
@@ -125,9 +125,7 @@ answering_act first old new Trim core core' log log' left next same is may a =
     )
 
 entries_few : (r : Result Answer Fault) → entries_of r ≤ 1
-entries_few (Ok (Recorded e whom)) = omega arith
-entries_few (Ok Sleep) = omega arith
-entries_few (Err fault) = omega arith
+entries_few r = grind arith
 
 -- an act adds one entry at most
 pub one_entry_more : (act : Act) (core core' : CoreView) (log log' : Logged) → IsLogged core log act
@@ -155,13 +153,16 @@ end_is : (b : Base) (h past : List Entry) → b.entries ≡ length past →
     → counts_line (length (past ++ reverse h)) (ended_calls (past ++ reverse h))
     ≡ counts_line (b.entries + length h) (calls (based b) h)
 end_is b h past counted ends =
-    let entries : length (past ++ reverse h) ≡ b.entries + length h =
-    omega (arith, counted, length-append past (reverse h), length-reverse h) in
-    let several : ended_calls (past ++ reverse h) ≡ calls (based b) h =
-    ended_append past (reverse h) ∙ ap (λ (n : ℕ). ended_calls past + n) (ended_calls-reverse h)
-    ∙ ap (λ (n : ℕ). n + ended_calls h) (sym ends) ∙ sym (calls-ended (based b) h) in
-    ap (λ (n : ℕ). counts_line n (ended_calls (past ++ reverse h))) entries
-    ∙ ap (λ (n : ℕ). counts_line (b.entries + length h) n) several
+    grind (
+      arith,
+      counted,
+      ends,
+      length-append past (reverse h),
+      length-reverse h,
+      ended_append past (reverse h),
+      ended_calls-reverse h,
+      calls-ended (based b) h,
+    )
 
 -- the text of all answers, in each form
 text_is : (form : Form) (header : StepsHeader) (b : Base) (h past : List Entry) (remarks : List Remark)
@@ -172,32 +173,16 @@ text_is : (form : Form) (header : StepsHeader) (b : Base) (h past : List Entry) 
     (record { header = header; past = past; base = b; entries = h; remarks = remarks })
     ≡ answer_text form header acts
 text_is Replay header b h past remarks acts lines played remarked counted ends =
-    let o = behind_acts header acts in
-    let all = past ++ reverse h in
-    let first = ended (header_line header) in
-    let of_all : told_lines all 0 remarks ≡ done_lines 0 acts o.done =
-    ap (λ (es : List Entry). told_lines es 0 remarks) (sym (all_in_order past h))
-    ∙ remarked_all (h ++ reverse past) remarks lines remarked
-    ∙ played_all header.header acts lines b h played in
-    ap (λ (t : List ℕ). first ++ (t ++ ended (counts_line (length all) (ended_calls all)))) of_all
-    ∙ ap (λ (t : List ℕ). first ++ (done_lines 0 acts o.done ++ ended t)) (end_is b h past counted ends)
-    ∙ ap (λ (x : Base). first ++ (done_lines 0 acts o.done
-    ++ ended (counts_line (x.entries + length h) (calls (based x) h))))
-    (base_all header.header acts lines b h played)
-    ∙ ap (λ (es : List Entry). first ++ (done_lines 0 acts o.done
-    ++ ended (counts_line (o.base.entries + length es) (calls (based o.base) es))))
-    (entries_all header.header acts lines b h played)
+    grind (
+      arith,
+      all_in_order past h,
+      remarked_all (h ++ reverse past) remarks lines remarked,
+      played_all header.header acts lines b h played,
+      end_is b h past counted ends,
+    )
 text_is History header b h past remarks acts lines played remarked counted ends =
-    ap (λ (x : Base). history_text x h) (base_all header.header acts lines b h played)
-    ∙ ap (history_text (behind_acts header acts).base) (entries_all header.header acts lines b h played)
-
-lawful_is : (header : StepsHeader) (b : Base) (h : List Entry) (acts : List Act) (lines : List ℕ) →
-    PlayedSoFar header.header acts lines b h → IsLawful b h →
-    IsLawful (behind_acts header acts).base (behind_acts header acts).entries
-lawful_is header b h acts lines played lawful =
-    subst (λ (x : Base). IsLawful x (behind_acts header acts).entries)
-    (base_all header.header acts lines b h played)
-    (subst (IsLawful b) (entries_all header.header acts lines b h played) lawful)
+    let all = played_all header.header acts lines b h played in
+    cc
 
 answer_is : (form : Form) (text : Option (List ℕ)) (header : StepsHeader) (acts : List Act)
     (answers : AllAnswers) → answers_text form answers ≡ answer_text form header acts
@@ -224,6 +209,7 @@ answering_all first now new b h past remarks left same all lawful a = λ form te
     subst (λ (k : StepsHeader). PlayedSoFar k.header a.acts a.lines b h) same a.played in
     let is = subst (λ (k : StepsHeader). IfSome text (λ t. IsText steps_form t k a.acts)) same
     (all text a.acts (a.read text were)) in
+    let whole = played_all header.header a.acts a.lines b h played in
     answer_is form text header a.acts _
     (text_is form header b h past remarks a.acts a.lines played a.remarked a.counted a.ended)
-    (lawful_is header b h a.acts a.lines played lawful) is
+    (rw (← whole.1, ← whole.2) lawful) is

@@ -1,7 +1,7 @@
 -- The entries of a history text ahead of a reader's window.
 use Rattle.std.proofs.Common.{◌≡◌, ℕ, ◌+◌, ◌-◌, ◌<◌, ◌≤◌, ◌^◌, List, [], ◌∷◌, ◌++◌, length, drop, Option, None, Some, Result, Ok, Err, IfSome, refl, sym, ap, subst, ◌∙◌, arith, append_assoc, append-nil, length-append}
 use Rattle.std.specs.Io.KnownBytes.{Keeps, IsAtEnd, prepend_known}
-use Rattle.driver.specs.Below.{Entry, Header, Base, MOST_FOLDED, IsInRange, ended, LINE_BYTES, TextFault, BadLine, CutShort, Begins, IsText, AreRead, SoFar, BaseLine, Head, Place, IsBaseLine, base_line, entry_line, head_of, IsHistoryText, history_form, AreEntriesRead, IsEntryBehind, LacksBaseLine, behind, Line, lines_on, StreamFault, Text, ReadFailed, WriteFailed, Memory, IsReadNoFurther, IsOfReading, IsTooLong, StaysAhead, room}
+use Rattle.driver.specs.Below.{Entry, Header, Base, MOST_FOLDED, IsInRange, ended, LINE_BYTES, TextFault, BadLine, CutShort, Begins, IsText, AreRead, SoFar, Head, Place, entry_line, head_of, IsHistoryText, history_form, AreEntriesRead, IsEntryBehind, LacksBaseLine, behind, Line, lines_on, StreamFault, Text, ReadFailed, WriteFailed, Memory, IsReadNoFurther, IsOfReading, IsTooLong, StaysAhead, room}
 use Rattle.line_text.proofs.Growing.{broken}
 use Rattle.line_text.proofs.LongLines.{uncut}
 use Rattle.line_text.proofs.UnderWay.{last_bytes}
@@ -19,9 +19,6 @@ use Rattle.driver.proofs.ReadingAhead.{all_kept, ended_here, fault_ahead, left_o
 
 -- ---- the lines of a base
 
-pub base_line_short : (x : BaseLine) → IsBaseLine x → length (base_line x) < LINE_BYTES
-base_line_short x is = base_short x is (λ p fits. waiting_short p p.who.back fits.1)
-
 -- where what is ahead begins with no line of a base, no window on it does
 pub front_lacks : (window more : List ℕ) → LacksBaseLine (window ++ more) → LacksBaseLine window
 front_lacks window more lacks = λ line after x parts whole is.
@@ -31,7 +28,11 @@ front_lacks window more lacks = λ line after x parts whole is.
 pub window_lacks : (ahead window ys : List ℕ) → IsAhead ahead window ys → LacksBaseLine ahead →
     LacksBaseLine window
 window_lacks ahead window ys s lacks = λ line after x parts whole is same.
-    let few : length line < LINE_BYTES = omega (arith, ap length same, base_line_short x is) in
+    let few : length line < LINE_BYTES = omega (
+      arith,
+      ap length same,
+      base_short x is (λ p fits. waiting_short p p.who.back fits.1),
+    ) in
     let all = uncut LINE_BYTES s.line s.rest line after s.one_line few (sym s.seen ∙ parts) in
     let there : s.line ++ s.rest ≡ line ++ 10 ∷ after =
     ap (λ (t : List ℕ). t ++ s.rest) (sym all) ∙ sym s.seen ∙ parts in
@@ -53,10 +54,7 @@ module _ (h : Head) (b : Base) (es : List Entry) (p : Place) where
   pub entries_kept : (text : Option (List ℕ)) (old new : List ℕ) (left after : Option (List ℕ)) →
       Keeps (prepend_known old left) (prepend_known new after) → EntriesBehind text h b es p old left →
       EntriesBehind text h b es p new after
-  entries_kept None old new left after keeps were = tt
-  entries_kept (Some t) old new None after keeps were = absurd were
-  entries_kept (Some t) old new (Some xs) None keeps were = absurd keeps
-  entries_kept (Some t) old new (Some xs) (Some ys) keeps were = rw keeps were
+  entries_kept text old new left after keeps were = grind arith
 
   -- the lines are those of the base and the entries
   lines_read : (text : Option (List ℕ)) (window : List ℕ) (left : Option (List ℕ)) →
@@ -71,14 +69,6 @@ module _ (h : Head) (b : Base) (es : List Entry) (p : Place) where
   entries_no_further text window left few were =
       no_further history_form text (here h b es) window left (lines_on b es) few
       (lines_read text window left were)
-
-  -- the source gave no more
-  pub entries_unread : (text : Option (List ℕ)) (old : List ℕ) (left after : Option (List ℕ))
-      (fault : StreamFault) → IsOfReading fault → (fault ≡ Memory → IfSome left IsTooLong) →
-      EntriesBehind text h b es p old left → IsFaultOf history_form text after fault
-  entries_unread text old left after fault of long were =
-      reading_fault history_form text left after fault of long
-      (left_of history_form text (here h b es) old left (lines_on b es) (lines_read text old left were))
 
   -- ---- the next entry
 
@@ -210,8 +200,11 @@ entries_ended old new window grown left mid after (Err WriteFailed) same was is 
 pub entries_read_failed : (old new : EntriesHeld) (left after : Option (List ℕ)) (fault : StreamFault) →
     IsOfReading fault → (fault ≡ Memory → IfSome left IsTooLong) → IsEntryNext old left (Err fault) new after
 entries_read_failed old new left after fault of long = λ text es were.
-    entries_unread (head_of (base_held old)) (base_held old) es old.place text old.bytes left after fault of
-    long were
+    let b = base_held old in
+    let so_far = here (head_of b) b es in
+    reading_fault history_form text left after fault of long
+    (left_of history_form text so_far old.bytes left (lines_on b es)
+    (lines_read (head_of b) b es old.place text old.bytes left were))
 
 -- a fault of the next line
 pub entry_failed : (old new : EntriesHeld) (window : List ℕ) (left after : Option (List ℕ))

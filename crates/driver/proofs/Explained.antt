@@ -1,9 +1,9 @@
 -- The place in a history that is explained, and the entries before it.
-use Rattle.std.proofs.Common.{◌≡◌, ℕ, zero, suc, ◌+◌, ◌-◌, ◌<◌, ◌≤◌, ◌^◌, true, ltb-true, arith, List, [], ◌∷◌, ◌++◌, length, take, drop, reverse, Option, None, Some, Result, Ok, Err, IfSome, refl, ap, ◌∙◌, sym, subst, lit<, Bool, IfOk, IsSomeAnd, if◌then◌else◌, drop_at, get_or-take, length-drop, length-take, take-append-drop, take-take}
+use Rattle.std.proofs.Common.{◌≡◌, ℕ, zero, suc, ◌+◌, ◌-◌, ◌<◌, ◌≤◌, ◌^◌, true, arith, List, [], ◌∷◌, length, take, drop, reverse, Option, None, Some, Result, IfSome, refl, ap, ◌∙◌, sym, subst, lit<, Bool, IfOk, IsSomeAnd, length-drop, take-append-drop, take-take, drop-drop}
 use Rattle.std.specs.List.{All, AllByRecursion, slice_get}
 use Rattle.std.proofs.lemmas.List.{length-reverse, reverse-append, reverse-reverse}
 use Rattle.std.proofs.lemmas.Option.{get_or_from_slice_get, slice_get_within}
-use Rattle.driver.specs.Below.{Judgement, Verdict, IsNext, IsJudgement, front, verdict_of, Entry, Base, based, folded, IsGood, IsInRange, AreSeated, IsLegal, CanFold, Start, unfolded_text, fits_fold}
+use Rattle.driver.specs.Below.{Judgement, Verdict, IsNext, IsJudgement, front, verdict_of, Entry, Base, based, folded, IsGood, IsInRange, AreSeated, IsLegal, CanFold, Start, fits_fold}
 use Rattle.audit.specs.declared.verdict.Judgement.TheVariants.{Legal, NotLegal}
 use Rattle.audit.proofs.Fronts.{front_next}
 use Rattle.history.proofs.Alike.{entry_alike}
@@ -11,6 +11,9 @@ use Rattle.history.proofs.Folding.{goes_on}
 use Rattle.history_text.proofs.Lists.{each-reverse}
 use Rattle.driver.specs.Prelude.{before_wrong, wrong_of, is_legal_at, legal_count, place_before, text_after, text_of}
 use Rattle.driver.specs.inner.ExplainStream.{IsLegalNext, IsNextOf, kept_for}
+use Rattle.std.proofs.lemmas.Bool.Decides.{nat_tests}
+use Rattle.std.proofs.lemmas.Grind.{common_steps}
+use Rattle.std.proofs.lemmas.List.Elements.{All-take, recursion_from_All}
 
 -- a front of legal entries
 pub legal_drop : (s : Start) (n : ℕ) (h : List Entry) → IsLegal s h → IsLegal s (drop n h)
@@ -19,10 +22,9 @@ legal_drop s (suc n) [] l = l
 legal_drop s (suc n) (e ∷ h) l = legal_drop s n h l.1
 
 legal_further : (s : Start) (m n : ℕ) (h : List Entry) → m ≤ n → IsLegal s (drop m h) → IsLegal s (drop n h)
-legal_further s zero n h le l = legal_drop s n h l
-legal_further s (suc m) zero h le l = absurd (omega (arith, le))
-legal_further s (suc m) (suc n) [] le l = tt
-legal_further s (suc m) (suc n) (e ∷ h) le l = legal_further s m n h (omega (arith, le)) l
+legal_further s m n h le l =
+    let same : drop (n - m) (drop m h) ≡ drop n h = grind (arith, drop-drop (n - m) m h) in
+    subst (IsLegal s) same (legal_drop s (n - m) (drop m h) l)
 
 -- the entries before a place that isn't past the first illegal one
 pub front_legal : (s : Start) (h : List Entry) (j : Judgement) (n : ℕ) → IsJudgement s h j →
@@ -41,44 +43,36 @@ count_within s h (NotLegal w) is = omega (arith, is.0.stands)
 pub front_is : (h : List Entry) (n : ℕ) → n ≤ length h → reverse (take n (reverse h)) ≡ front n h
 front_is h n le =
     let xs = reverse h in
-    let back = reverse (drop n xs) in
-    let whole : back ++ reverse (take n xs) ≡ h =
-    sym (reverse-append (take n xs) (drop n xs)) ∙ ap reverse (take-append-drop n xs) ∙ reverse-reverse h in
-    let long : length back ≡ length h - n =
-    length-reverse (drop n xs) ∙ length-drop n xs ∙ ap (λ m. m - n) (length-reverse h) in
-    sym (drop_at back (reverse (take n xs)) (length h - n) long) ∙ ap (drop (length h - n)) whole
+    grind (
+      arith,
+      common_steps,
+      reverse-append (take n xs) (drop n xs),
+      take-append-drop n xs,
+      reverse-reverse h,
+      length-reverse (drop n xs),
+      length-drop n xs,
+      length-reverse h,
+    )
 
 -- all entries are of seats of the object
-by_recursion : (P : Entry → Type 0) (xs : List Entry) → All P xs → AllByRecursion P xs
-by_recursion P [] all = tt
-by_recursion P (x ∷ xs) all =
-    (all 0 x (omega arith), by_recursion P xs (λ i d lt. all (suc i) d (omega (arith, lt))))
-
 seated_each : (s : Start) (xs : List Entry) → AllByRecursion (λ e. e.seat < s.header.seats) xs → AreSeated s xs
 seated_each s [] all = tt
 seated_each s (x ∷ xs) all = (all.0, seated_each s xs all.1)
-
-pub all_taken : (P : Entry → Type 0) (n : ℕ) (xs : List Entry) → All P xs → All P (take n xs)
-all_taken P n xs all i d lt =
-    let within = length-take n xs in
-    subst P (sym (get_or-take n xs i d (omega (arith, lt, within)))) (all i d (omega (arith, lt, within)))
 
 pub taken_seated : (s : Start) (n : ℕ) (xs : List Entry) → All (λ e. e.seat < s.header.seats) xs →
     AreSeated s (reverse (take n xs))
 taken_seated s n xs all =
     let P : Entry → Type 0 = λ e. e.seat < s.header.seats in
     seated_each s (reverse (take n xs))
-    (each-reverse P (take n xs) (by_recursion P (take n xs) (all_taken P n xs all)))
+    (each-reverse P (take n xs) (recursion_from_All P (take n xs) (All-take P n xs all)))
 
 -- the place is among the entries that are kept
 pub place_kept : (at : Option ℕ) (folded front : ℕ) → front < 2 ^ 32 →
     place_before at folded front < kept_for at folded
-place_kept None folded front few = omega (arith, few)
-place_kept (Some n) folded front few = omega (arith, few)
+place_kept at folded front few = grind arith
 
 pub place_within : (at : Option ℕ) (folded front : ℕ) → place_before at folded front ≤ front
-place_within None folded front = omega arith
-place_within (Some n) folded front = omega arith
+place_within at folded front = grind arith
 
 -- what is kept has the same entries before the place, and the same one there
 pub at_place : (xs : List Entry) (n i : ℕ) → i < n → slice_get (take n xs) i ≡ slice_get xs i
@@ -88,14 +82,12 @@ at_place (x ∷ xs) (suc n) zero lt = refl
 at_place (x ∷ xs) (suc n) (suc i) lt = at_place xs n i (omega (arith, lt))
 
 pub if_some : {A : Type 0} (o : Option A) (P : A → Type 0) → ((x : A) → o ≡ Some x → P x) → IfSome o P
-if_some None P f = tt
-if_some (Some x) P f = f x refl
+if_some o P f = grind arith
 
 -- the entry at a place is legal where it is said to be
 next_by : (s : Start) (h : List Entry) (j : Judgement) (n : ℕ) (e : Entry) → IsJudgement s h j →
     n < length h → is_legal_at (verdict_of j) n ≡ true → n + 1 ≤ legal_count (verdict_of j) (length h)
-next_by s h (Legal totals) n e is lt legal = omega (arith, lt)
-next_by s h (NotLegal w) n e is lt legal = omega (arith, ltb-true n w legal)
+next_by s h j n e is lt legal = grind (arith, nat_tests)
 
 next_legal : (s : Start) (h : List Entry) (j : Judgement) (n : ℕ) (e : Entry) → IsJudgement s h j →
     is_legal_at (verdict_of j) n ≡ true → slice_get (reverse h) n ≡ Some e → IsNext s (front n h) e
@@ -162,15 +154,7 @@ next_of b verdict n kept can legal all =
 pub same_text : (b : Base) (verdict : Verdict) (n end : ℕ) (xs kept : List Entry) → kept ≡ take end xs →
     n < end → text_of b verdict n kept ≡ text_of b verdict n xs
 same_text b verdict n end xs kept items lt =
-    let told : List Entry → Option Entry → List ℕ = λ before next.
-    if fits_fold b (length before) then
-    text_after (folded b (reverse before)) (wrong_of b.entries verdict) (b.entries + n) next
-    (is_legal_at verdict n)
-    else unfolded_text (wrong_of b.entries verdict) in
-    ap (λ (ys : List Entry). text_of b verdict n ys) items
-    ∙ ap (λ (before : List Entry). told before (slice_get (take end xs) n))
-    (take-take n end xs (omega (arith, lt)))
-    ∙ ap (λ (next : Option Entry). told (take n xs) next) (at_place xs end n lt)
+    rw (items, take-take n end xs (omega (arith, lt)), at_place xs end n lt) refl
 
 -- What is known of the place: the entries before it can be folded, the entry there is legal where it is said to
 -- be, and the text about it is the same for the kept entries and for all.
@@ -230,8 +214,7 @@ state_next (Some x) b verdict n before kept is_legal next q l e range can legal 
 
 -- what holds of a result follows from what is known of it
 pub if_ok : {A E : Type 0} {P Q : A → Type 0} (r : Result A E) → ((x : A) → P x → Q x) → IfOk r P → IfOk r Q
-if_ok (Ok x) f p = f x p
-if_ok (Err e) f p = tt
+if_ok r f p = grind arith
 
 -- the text about the entry after that state is the text about the place
 pub text_there : (o : Option Base) (b : Base) (verdict : Verdict) (n : ℕ) (before kept : List Entry)
@@ -241,15 +224,5 @@ pub text_there : (o : Option Base) (b : Base) (verdict : Verdict) (n : ℕ) (bef
     IsSomeAnd o (λ x. xs ≡ text_after x wrong m next is_legal) → xs ≡ text_of b verdict n kept
 text_there None b verdict n before kept is_legal next wrong m xs q l e w num fits is told = absurd is
 text_there (Some x) b verdict n before kept is_legal next wrong m xs q l e w num fits is told =
-    let state : Base = folded b (reverse (take n kept)) in
-    let first : Option ℕ = wrong_of b.entries verdict in
-    let number : ℕ = b.entries + n in
-    told
-    ∙ ap (λ (y : Base). text_after y wrong m next is_legal)
-    (is ∙ ap (λ (ys : List Entry). folded b (reverse ys)) q)
-    ∙ ap (λ (v : Option ℕ). text_after state v m next is_legal) w
-    ∙ ap (λ (k : ℕ). text_after state first k next is_legal) num
-    ∙ ap (λ (m : Option Entry). text_after state first number m is_legal) e
-    ∙ ap (λ (t : Bool). text_after state first number (slice_get kept n) t) l
-    ∙ ap (λ (t : Bool). if t then text_after state first number (slice_get kept n) (is_legal_at verdict n)
-    else unfolded_text first) (fits ∙ ap (λ (ys : List Entry). fits_fold b (length ys)) q)
+    let known = rw q at fits in
+    rw (sym known) (rw (is, q, l, e, w, num) at told)

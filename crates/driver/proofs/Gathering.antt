@@ -1,7 +1,7 @@
 -- Bytes are gathered, and written in pieces.
-use Rattle.std.proofs.Common.{◌≡◌, ◌⊎◌, inl, inr, ℕ, ◌+◌, ◌<◌, ◌≤◌, List, [], ◌++◌, length, take, take_all, Option, Result, Ok, Err, sym, ap, ◌∙◌, arith, append_assoc, append-nil, subst}
+use Rattle.std.proofs.Common.{◌≡◌, ◌⊎◌, inl, inr, ℕ, ◌+◌, ◌<◌, ◌≤◌, List, [], ◌++◌, length, take, take_all, Option, Result, sym, ap, ◌∙◌, arith, append_assoc, append-nil, subst}
 use Rattle.std.proofs.Math.Seq.{take-append-add, take-append_seam}
-use Rattle.std.proofs.lemmas.Bool.{cases_lt, false≢true}
+use Rattle.std.proofs.lemmas.Bool.{cases_lt}
 use Rattle.std.proofs.lemmas.List.{take-append-le}
 use Rattle.std.proofs.KnownBytes.{Appends-trans}
 use Rattle.std.specs.Io.KnownBytes.{Appends}
@@ -27,9 +27,7 @@ gathered_more a b c old mid new x y p q =
     record {
       written = p.written ++ q.written;
       appends = Appends-trans a b c p.written q.written p.appends q.appends;
-      parts = sym (append_assoc old x y) ∙ ap (λ (t : List ℕ). t ++ y) p.parts
-          ∙ append_assoc p.written mid y ∙ ap (λ (t : List ℕ). p.written ++ t) q.parts
-          ∙ sym (append_assoc p.written q.written new);
+      parts = grind (arith, p.parts, q.parts, append_assoc {A = ℕ});
     }
 
 -- bytes are added after those that stayed gathered
@@ -39,8 +37,7 @@ gathered_added a b old mid new x p same =
     record {
       written = p.written;
       appends = p.appends;
-      parts = ap (λ (t : List ℕ). t ++ x) (sym (append-nil old) ∙ p.parts)
-          ∙ append_assoc p.written mid x ∙ ap (λ (t : List ℕ). p.written ++ t) (sym same);
+      parts = grind (arith, p.parts, same, append-nil old, append_assoc p.written mid x);
     }
 
 -- what was gathered is written too
@@ -72,8 +69,7 @@ written_front a b c old mid x p q =
 pub gathers_failed : (held after : Option (List ℕ)) (old new added : List ℕ)
     (r : Result (Unit {0}) DeviceFailed) → IsErr r → AppendsFront held after (old ++ added) →
     Gathers held old r after new added
-gathers_failed held after old new added (Ok done) is front = absurd (false≢true is)
-gathers_failed held after old new added (Err e) is front = front
+gathers_failed held after old new added r is front = grind arith
 
 -- nothing is added where no room is made
 pub no_room : (held after : Option (List ℕ)) (old new added : List ℕ)
@@ -85,13 +81,10 @@ no_room held after old new added r is front =
 
 -- what holds where writing fails or doesn't
 pub if_failed : (r : Result (Unit {0}) DeviceFailed) (P : Type 0) → P → OnErr r P
-if_failed (Ok done) P p = tt
-if_failed (Err failed) P p = p
+if_failed r P p = grind arith
 
 pub where_failed : (r : Result (Unit {0}) DeviceFailed) (P Q : Type 0) → (P → Q) → OnErr r P → OnErr r Q
-where_failed (Ok done) P Q f p = tt
-where_failed (Err failed) P Q f p = f p
+where_failed r P Q f p = grind arith
 
 pub where_written : (r : Result (Unit {0}) DeviceFailed) (P Q : Type 0) → (P → Q) → OnOk r P → OnOk r Q
-where_written (Ok done) P Q f p = f p
-where_written (Err failed) P Q f p = tt
+where_written r P Q f p = grind arith

@@ -1,5 +1,5 @@
 -- The entries of a text are judged, and the first of them kept, as their lines are read.
-use Rattle.std.proofs.Common.{◌≡◌, ℕ, ◌+◌, ◌-◌, ◌<◌, ◌≤◌, ◌^◌, Bool, true, false, List, [], ◌∷◌, ◌++◌, length, reverse, take, Option, None, Some, Ok, IfSome, refl, sym, ap, ◌∙◌, arith, subst, ltb-true, ltb-false, length-append, take_all, nat_lt, if◌then◌else◌}
+use Rattle.std.proofs.Common.{◌≡◌, ℕ, ◌+◌, ◌-◌, ◌<◌, ◌≤◌, ◌^◌, Bool, true, false, List, [], ◌∷◌, ◌++◌, length, reverse, take, Option, None, Some, Ok, IfSome, sym, ap, ◌∙◌, arith, subst, length-append, take_all, nat_lt, if◌then◌else◌}
 use Rattle.std.proofs.lemmas.List.{length-reverse, reverse-append, take-append-le}
 use Rattle.std.proofs.lemmas.List.Elements.{All-push}
 use Rattle.std.specs.List.{All}
@@ -11,6 +11,7 @@ use Rattle.driver.specs.declared.judged.Judged.{Judged}
 use Rattle.driver.specs.Prelude.{IsVerdict, AreCounted, EntriesHeld, IsEntryNext, base_held}
 use Rattle.driver.specs.inner.Judged.{IsJudged, kept_with}
 use Rattle.driver.proofs.EntriesAhead.{EntriesOn}
+use Rattle.std.proofs.lemmas.Bool.Decides.{nat_tests}
 
 pub verdict_is : (b : Base) (entries : List Entry) (j : Judgement) → IsJudgement (based b) entries j →
     IsVerdict b entries (verdict_of j)
@@ -41,19 +42,17 @@ pub record Judging (first : EntriesHeld) (left : Option (List ℕ)) (now : Entri
   pub range : IsInRange first.header
   pub well : IsBasedWell first.header first.base
 
-more_by : (xs : List Entry) (e : Entry) (n end : ℕ) (b : Bool) → nat_lt n end ≡ b → n ≡ length xs →
-    (if b then take end xs ++ e ∷ [] else take end xs) ≡ take end (xs ++ e ∷ [])
-more_by xs e n end true within count =
-    let lt = ltb-true n end within in
-    let long = length-append xs (e ∷ []) in
-    ap (λ ys. ys ++ e ∷ []) (take_all end xs (omega (arith, lt, count)))
-    ∙ sym (take_all end (xs ++ e ∷ []) (omega (arith, lt, count, long)))
-more_by xs e n end false beyond count =
-    sym (take-append-le end xs (e ∷ []) (omega (arith, ltb-false n end beyond, count)))
-
 kept_more : (xs : List Entry) (e : Entry) (n end : ℕ) → n ≡ length xs →
     kept_with (take end xs) e n end ≡ take end (xs ++ e ∷ [])
-kept_more xs e n end count = more_by xs e n end (nat_lt n end) refl count
+kept_more xs e n end count =
+    grind (
+      arith,
+      nat_tests,
+      take_all end xs,
+      take_all end (xs ++ e ∷ []),
+      length-append xs (e ∷ []),
+      take-append-le end xs (e ∷ []),
+    )
 
 seated_by : (P : Entry → Type 0) (kept : List Entry) (e : Entry) (b : Bool) → All P kept → P e →
     All P (if b then kept ++ e ∷ [] else kept)

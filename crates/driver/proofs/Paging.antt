@@ -6,7 +6,8 @@ use Rattle.driver.specs.Below.{Judgement, Verdict, IsJudgement, verdict_of, Entr
 use Rattle.audit.specs.declared.verdict.Judgement.TheVariants.{Legal, NotLegal}
 use Rattle.audit.specs.declared.verdict.Verdict.TheVariants as verdict
 use Rattle.driver.specs.Prelude.{Choice, end_of, first_of, legal_front, pictured, page_on, paged_text}
-use Rattle.driver.proofs.Explained.{all_taken, front_is, front_legal, taken_seated}
+use Rattle.driver.proofs.Explained.{front_is, front_legal, taken_seated}
+use Rattle.std.proofs.lemmas.List.Elements.{All-take}
 
 -- the first of the first entries
 take_twice : (m n : ℕ) (xs : List Entry) → take m (take n xs) ≡ take n (take m xs)
@@ -48,7 +49,7 @@ shown_few (verdict.NotLegal w) kept = omega (arith, length-take w kept)
 pub shown_seated : (v : Verdict) (n : ℕ) (kept : List Entry) → All (λ e. e.seat < n) kept →
     All (λ e. e.seat < n) (legal_front v kept)
 shown_seated verdict.Legal n kept all = all
-shown_seated (verdict.NotLegal w) n kept all = all_taken (λ e. e.seat < n) w kept all
+shown_seated (verdict.NotLegal w) n kept all = All-take (λ e. e.seat < n) w kept all
 
 -- those before the first one that is shown can be folded
 pub can_fold_shown : (b : Base) (h kept : List Entry) (j : Judgement) (v : Verdict) (n end : ℕ) → IsGood b →
@@ -72,15 +73,4 @@ pub same_page : (names : Given) (choice : Choice) (v : Verdict) (own held b : Ba
     count ≡ length h → shown ≡ legal_front v kept → kept ≡ take (end_of choice b.entries) (reverse h) →
     p ≡ pictured held choice count v (legal_front v kept) → text ≡ page_on names own p n shown →
     text ≡ paged_text names choice b h v
-same_page names choice v own held b p n count shown kept h text owned same from counted front items drawn is =
-    let xs = take (end_of choice b.entries) (reverse h) in
-    let first = first_of choice b.entries in
-    is
-    ∙ ap (λ (x : Base). page_on names x p n shown) owned
-    ∙ ap (λ (m : ℕ). page_on names b p m shown) from
-    ∙ ap (λ (ys : List Entry). page_on names b p first ys) (front ∙ ap (legal_front v) items)
-    ∙ ap (λ (w : View). page_on names b w first (legal_front v xs))
-    (drawn
-    ∙ ap (λ (x : Base). pictured x choice count v (legal_front v kept)) same
-    ∙ ap (λ (m : ℕ). pictured b choice m v (legal_front v kept)) counted
-    ∙ ap (λ (ys : List Entry). pictured b choice (length h) v (legal_front v ys)) items)
+same_page names choice v own held b p n count shown kept h text owned same from counted front items drawn is = cc

@@ -1,10 +1,9 @@
 -- The picture of the entries that were kept.
-use Rattle.std.proofs.Common.{◌≡◌, ℕ, ◌-◌, ◌<◌, ◌^◌, Bool, true, false, List, [], ◌∷◌, length, get_or, take, Option, None, Some, refl, ap, sym, ◌∙◌, arith, ◌↔◌, nat_lt, if◌then◌else◌, length-take, take-take, take_all}
-use Rattle.std.proofs.lemmas.Bool.{false≢true}
+use Rattle.std.proofs.Common.{◌≡◌, ℕ, ◌-◌, ◌<◌, ◌^◌, Bool, true, false, List, [], ◌∷◌, length, get_or, take, Option, None, Some, arith, ◌↔◌, nat_lt, if◌then◌else◌, length-take, take-take, take_all, ◌≤◌}
 use Rattle.std.specs.List.{All, Contains}
 use Rattle.std.proofs.lemmas.List.Elements.{All-append, All-contains_itself, All-nil, All-push}
 use Rattle.driver.specs.Below.{Verdict, Legal, NotLegal, Bar, Sign, bars, IsBar, barges, mark_of, marks, sign_at, Entry, Base, Start, Given, overview_text, svg_text, IsShort, IsEarly, View}
-use Rattle.driver.specs.Prelude.{Choice, end_between, end_of, is_summed, is_summed_between, kept_between, kept_of, chosen_text, legal_front, pictured, summed_text, text_of_kept}
+use Rattle.driver.specs.Prelude.{Choice, end_between, end_of, is_summed, is_summed_between, kept_between, kept_of, legal_front, pictured, text_of_kept}
 
 short : (s : Start) (from : ℕ) (h : List Entry) (b : Bar) → length h < 2 ^ 32 → IsBar s from h b → IsShort b
 short s from h b few is = record { order = is.order; last = omega (arith, is.ends_within, few) }
@@ -39,40 +38,31 @@ pub front_short : (verdict : Verdict) (entries : List Entry) → length entries 
 front_short Legal entries few = few
 front_short (NotLegal number) entries few = omega (arith, few, length-take number entries)
 
-take_kept : (n : ℕ) (xs : List Entry) → take n (take n xs) ≡ take n xs
-take_kept n xs = take-take n n xs (omega arith)
-
 -- of the entries that are kept, all are left if they are summed up
 kept_whole : (from to : Option ℕ) (count folded : ℕ) (xs : List Entry) → length xs < 2 ^ 32 →
     is_summed_between from to count ≡ true → take (kept_between from to folded) xs ≡ xs
-kept_whole (Some from) to count folded xs few all = absurd (false≢true all)
-kept_whole None (Some to) count folded xs few all = absurd (false≢true all)
-kept_whole None None count folded xs few all = take_all (2 ^ 64 - 1) xs (omega (arith, few))
+kept_whole from to count folded xs few all =
+    let le : length xs ≤ kept_between from to folded = grind arith in
+    take_all (kept_between from to folded) xs le
 
 -- and all that are chosen
 kept_front : (from to : Option ℕ) (folded : ℕ) (xs : List Entry) → length xs < 2 ^ 32 →
     take (end_between from to folded) (take (kept_between from to folded) xs)
     ≡ take (end_between from to folded) xs
-kept_front (Some from) to folded xs few = take_kept (end_between (Some from) to folded) xs
-kept_front None (Some to) folded xs few = take_kept (end_between None (Some to) folded) xs
-kept_front None None folded xs few =
-    ap (take (end_between None None folded)) (take_all (2 ^ 64 - 1) xs (omega (arith, few)))
-
-one_of : (s : Bool) (a a' b b' : List ℕ) → (s ≡ true → a ≡ a') → b ≡ b' →
-    (if s then a else b) ≡ (if s then a' else b')
-one_of true a a' b b' summed chosen = summed refl
-one_of false a a' b b' summed chosen = chosen
+kept_front from to folded xs few =
+    let le : end_between from to folded ≤ kept_between from to folded = grind arith in
+    take-take (end_between from to folded) (kept_between from to folded) xs le
 
 -- so the text of what is kept is that of all entries
 kept_text : (names : Given) (choice : Choice) (verdict : Verdict) (b : Base) (count : ℕ) (xs : List Entry) →
     length xs < 2 ^ 32 → text_of_kept names choice b count verdict (take (kept_of choice b.entries) xs)
     ≡ text_of_kept names choice b count verdict xs
 kept_text names choice verdict b count xs few =
-    one_of (is_summed choice count) _ _ _ _
-    (λ all. ap (summed_text names choice b count verdict)
-    (kept_whole choice.from choice.to count b.entries xs few all))
-    (ap (λ ys. svg_text names (pictured b choice count verdict (legal_front verdict ys)) ys)
-    (kept_front choice.from choice.to b.entries xs few))
+    grind (
+      arith,
+      kept_whole choice.from choice.to count b.entries xs few,
+      kept_front choice.from choice.to b.entries xs few,
+    )
 
 -- the text of the same entries
 pub same_text : (names : Given) (choice : Choice) (verdict : Verdict) (b b' : Base) (count count' : ℕ)
@@ -81,28 +71,15 @@ pub same_text : (names : Given) (choice : Choice) (verdict : Verdict) (b b' : Ba
     text ≡ text_of_kept names choice b count verdict kept →
     text ≡ text_of_kept names choice b' count' verdict xs
 same_text names choice verdict b b' count count' kept xs text base counts items few is =
-    is ∙ ap (λ h. text_of_kept names choice h count verdict kept) base
-    ∙ ap (λ n. text_of_kept names choice b' n verdict kept) counts
-    ∙ ap (λ ys. text_of_kept names choice b' count' verdict ys) items
-    ∙ kept_text names choice verdict b' count' xs few
-
-then_of : (s : Bool) (a b : List ℕ) → s ≡ true → a ≡ (if s then a else b)
-then_of true a b is = refl
-then_of false a b is = absurd (false≢true is)
-
-else_of : (s : Bool) (a b : List ℕ) → s ≡ false → b ≡ (if s then a else b)
-else_of true a b is = absurd (false≢true (sym is))
-else_of false a b is = refl
+    let whole = kept_text names choice verdict b' count' xs few in
+    cc
 
 -- the summary is the text if the history is summed up
 pub text_summed : (names : Given) (choice : Choice) (verdict : Verdict) (b : Base) (count : ℕ)
     (kept : List Entry) (p : View) → is_summed choice count ≡ true →
     p ≡ pictured b choice count verdict (legal_front verdict kept) →
     overview_text names p kept ≡ text_of_kept names choice b count verdict kept
-text_summed names choice verdict b count kept p summed drawn =
-    ap (λ (w : View). overview_text names w kept) drawn
-    ∙ then_of (is_summed choice count) (summed_text names choice b count verdict kept)
-    (chosen_text names choice b count verdict kept) summed
+text_summed names choice verdict b count kept p summed drawn = grind (arith, summed, drawn)
 
 -- otherwise the picture of the chosen ones is
 pub text_chosen : (names : Given) (choice : Choice) (verdict : Verdict) (b : Base) (count : ℕ)
@@ -110,9 +87,4 @@ pub text_chosen : (names : Given) (choice : Choice) (verdict : Verdict) (b : Bas
     chosen ≡ take (end_of choice b.entries) kept →
     p ≡ pictured b choice count verdict (legal_front verdict chosen) →
     svg_text names p chosen ≡ text_of_kept names choice b count verdict kept
-text_chosen names choice verdict b count kept chosen p whole front drawn =
-    ap (λ (w : View). svg_text names w chosen) drawn
-    ∙ ap (λ (xs : List Entry). svg_text names (pictured b choice count verdict (legal_front verdict xs)) xs)
-    front
-    ∙ else_of (is_summed choice count) (summed_text names choice b count verdict kept)
-    (chosen_text names choice b count verdict kept) whole
+text_chosen names choice verdict b count kept chosen p whole front drawn = grind (arith, whole, front, drawn)

@@ -1,7 +1,6 @@
 -- The items of a text ahead of a reader's window.
-use Rattle.std.proofs.Common.{Bool, true, false, inl, inr, ◌≡◌, ◌≢◌, ℕ, ◌+◌, ◌-◌, ◌<◌, ◌≤◌, List, [], ◌∷◌, ◌++◌, length, drop, Option, None, Some, Result, Ok, Err, IfSome, refl, sym, ap, ◌∙◌, arith, append_assoc, append-nil, subst, length-append}
+use Rattle.std.proofs.Common.{Bool, true, false, inr, ◌≡◌, ◌≢◌, ℕ, ◌+◌, ◌-◌, ◌<◌, ◌≤◌, List, [], ◌∷◌, ◌++◌, length, drop, Option, None, Some, Result, Ok, Err, IfSome, refl, sym, ap, ◌∙◌, arith, append_assoc, append-nil, subst, length-append}
 use Rattle.std.proofs.KnownBytes.{Keeps-refl, Keeps-trans}
-use Rattle.std.proofs.lemmas.Bool.{false≢true}
 use Rattle.std.specs.Result.{IsErr}
 use Rattle.std.specs.Io.KnownBytes.{Keeps, IsAtEnd, prepend_known}
 use Rattle.driver.specs.Below.{ended, LINE_BYTES, TextFault, BadHeader, BadLine, CutShort, Form, lines_of, Begins, IsText, IsReading, HasShortLines, SoFar, AreRead, IsAhead, IsLineBehind, StreamFault, Text, ReadFailed, WriteFailed, Memory, IsReadNoFurther, IsOfReading, IsTooLong, Grows, StaysAhead, room}
@@ -15,31 +14,21 @@ use Rattle.driver.specs.inner.TextReader.{IsAfterEnd}
 
 -- ---- the source
 
-some_more : (more rest : List ℕ) (n : ℕ) → length more ≡ n → 0 < n → (more ++ rest) ≢ []
-some_more [] rest n count lt = absurd (omega (arith, count, lt))
-some_more (b ∷ more) rest n count lt = λ e. cc
-
 pub more_left : (old new : List ℕ) (left after : Option (List ℕ)) (n : ℕ) → Grows old new left after n →
     0 < n → IfSome left (λ more. more ≢ [])
-more_left old new None after n g lt = tt
-more_left old new (Some xs) None n g lt = absurd g.consumed
-more_left old new (Some xs) (Some ys) n g lt = λ e. some_more g.more ys n g.count lt (sym g.consumed ∙ e)
+more_left old new left after n g lt =
+    grind (arith, g.consumed, g.count, length-append {A = ℕ})
 
 -- what was read more stands in the window
 pub grown_keeps : (old new : List ℕ) (left after : Option (List ℕ)) (n : ℕ) → Grows old new left after n →
     Keeps (prepend_known old left) (prepend_known new after)
-grown_keeps old new None after n g = tt
-grown_keeps old new (Some xs) None n g = absurd g.consumed
-grown_keeps old new (Some xs) (Some ys) n g =
-    ap (λ (t : List ℕ). t ++ ys) g.behind ∙ append_assoc old g.more ys
-    ∙ ap (λ (t : List ℕ). old ++ t) (sym g.consumed)
+grown_keeps old new left after n g =
+    grind (arith, g.consumed, g.behind, append_assoc {A = ℕ})
 
 -- the window stays, and so does what is left
 pub same_keeps : (old new : List ℕ) (left after : Option (List ℕ)) → new ≡ old → Keeps left after →
     Keeps (prepend_known old left) (prepend_known new after)
-same_keeps old new None after same keeps = tt
-same_keeps old new (Some xs) None same keeps = absurd keeps
-same_keeps old new (Some xs) (Some ys) same keeps = rw (same, keeps) refl
+same_keeps old new left after same keeps = grind arith
 
 -- nothing was let go of
 pub keeps_stays : (old new : List ℕ) (left after : Option (List ℕ)) →
@@ -72,10 +61,7 @@ pub kept : {H I : Type 0} (form : Form H I) (text : Option (List ℕ)) (so_far :
     (a b : Option (List ℕ)) (items : List I) → Keeps a b
     → WereRead form text (record { so_far = so_far; ahead = a }) items →
     WereRead form text (record { so_far = so_far; ahead = b }) items
-kept form None so_far a b items keeps were = tt
-kept form (Some t) so_far None b items keeps were = absurd were
-kept form (Some t) so_far (Some xs) None items keeps were = absurd keeps
-kept form (Some t) so_far (Some xs) (Some ys) items keeps were = rw keeps were
+kept form text so_far a b items keeps were = grind arith
 
 further : {H I : Type 0} (form : Form H I) (text : Option (List ℕ)) (so_far : SoFar H I)
     (known : List I → Type 0) (window after : List ℕ) (left : Option (List ℕ)) (items : List I) (x : I)
@@ -143,29 +129,22 @@ no_further form (Some t) so_far window (Some xs) items few were =
     }))
 
 pub unread_yet : {H I : Type 0} (form : Form H I) (text : Option (List ℕ)) → IsReadNoFurther form text text
-unread_yet form None = tt
-unread_yet form (Some t) = inr (inl refl)
+unread_yet form text = grind arith
 
 -- its reads can't be counted
 pub too_long : {H I : Type 0} (form : Form H I) (text left after : Option (List ℕ)) →
     IfSome left IsTooLong → IsPartLeft text left → IsReadNoFurther form text after
-too_long form None left after long part = tt
-too_long form (Some t) None after long part = absurd part
-too_long form (Some t) (Some xs) after long part = inl (omega (arith, long, part))
+too_long form text left after long part = grind arith
 
 pub whole_left : (text : Option (List ℕ)) → IsPartLeft text text
-whole_left None = tt
-whole_left (Some t) = omega arith
+whole_left text = grind arith
 
 -- the faults of reading
 pub reading_fault : {H I : Type 0} (form : Form H I) (text left after : Option (List ℕ))
     (fault : StreamFault) →
     IsOfReading fault → (fault ≡ Memory → IfSome left IsTooLong) → IsPartLeft text left →
     IsFaultOf form text after fault
-reading_fault form text left after ReadFailed of long part = tt
-reading_fault form text left after Memory of long part = too_long form text left after (long refl) part
-reading_fault form text left after (Text fault) of long part = absurd of
-reading_fault form text left after WriteFailed of long part = absurd of
+reading_fault form text left after fault of long part = grind (arith, too_long form text left after)
 
 -- the next line is in the window, and this many bytes after it
 pub item_ahead : {H I : Type 0} (form : Form H I) (text : Option (List ℕ)) (so_far : SoFar H I)
@@ -372,15 +351,12 @@ next_kept form so_far a b (Err fault) new after keeps next =
 pub stands_failed : {I : Type 0} (old new : List ℕ) (left after : Option (List ℕ))
     (r : Result (Option I) StreamFault) → IsErr r → StaysAhead old left new after →
     KeepsPlace old left r new after
-stands_failed old new left after (Ok next) failed s = absurd (false≢true failed)
-stands_failed old new left after (Err fault) failed s = s
+stands_failed old new left after r failed s = grind arith
 
 pub stands_still : {I : Type 0} (old new : List ℕ) (left after : Option (List ℕ))
     (r : Result (Option I) StreamFault) → Keeps (prepend_known old left) (prepend_known new after) →
     KeepsPlace old left r new after
-stands_still old new left after (Ok (Some item)) keeps = tt
-stands_still old new left after (Ok None) keeps = keeps
-stands_still old new left after (Err fault) keeps = keeps_stays old new left after keeps
+stands_still old new left after r keeps = grind (arith, keeps_stays old new left after keeps)
 
 pub stands_after : {I : Type 0} (old window new : List ℕ) (left mid after : Option (List ℕ))
     (r : Result (Option I) StreamFault) → Keeps (prepend_known old left) (prepend_known window mid) →
@@ -407,11 +383,7 @@ sure x = Ok x
 -- a source goes on after an answer
 pub goes_on : {T : Type 0} (x : T) (failed : Bool) → (failed ≡ true →
     sure x ≡ Err ReadFailed) → failed ≡ false
-goes_on x true failing = absurd (no_fault x (failing refl))
-  where
-    no_fault : {T : Type 0} (x : T) → sure x ≡ Err ReadFailed → ⊥
-    no_fault x e = cc
-goes_on x false failing = refl
+goes_on x failed failing = grind arith
 
 -- ---- where memory is refused
 

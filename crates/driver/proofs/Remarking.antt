@@ -42,35 +42,34 @@ pub remarked_none : Remarked [] [] []
 remarked_none =
     record { number = 0; front = []; within = omega arith; lines = λ left more. refl; rest = refl }
 
-newest_last : (e : Entry) (h : List Entry) → reverse (e ∷ h) ≡ reverse h ++ e ∷ []
-newest_last e h = reverse-append (e ∷ []) h
-
 -- nothing was remarked of the newest entry
 pub remarked_plain : (h : List Entry) (remarks : List Remark) (out : List ℕ) (e : Entry) →
     Remarked h remarks out → Remarked (e ∷ h) remarks (out ++ ended (entry_line (length h) e))
 remarked_plain h remarks out e was =
     let n = was.number in
     let old = drop n (reverse h) in
-    let within : n ≤ length (reverse h) = omega (arith, was.within, length-reverse h) in
-    let last : n + length old ≡ length h =
-    omega (arith, within, length-drop n (reverse h), length-reverse h) in
-    let lines : entry_lines n (drop n (reverse h ++ e ∷ [])) ≡ entry_lines n old
-    ++ ended (entry_line (length h) e) =
-    ap (entry_lines n) (drop-append-le n (reverse h) (e ∷ []) within)
-    ∙ entry_lines-push n old e
-    ∙ ap (λ (k : ℕ). entry_lines n old ++ ended (entry_line k e)) last in
     record {
       number = n;
       front = was.front;
       within = omega (arith, was.within);
-      lines = λ left more. subst (λ (es : List Entry). told_lines es 0 (remarks ++ left) ≡ was.front
-          ++ told_lines es n left) (sym (ap (λ (es : List Entry). es ++ more) (newest_last e h)
-          ∙ append_assoc (reverse h) (e ∷ []) more)) (was.lines left (e ∷ more));
-      rest = ap (λ (t : List ℕ). t ++ ended (entry_line (length h) e)) was.rest
-          ∙ append_assoc was.front (entry_lines n old) (ended (entry_line (length h) e))
-          ∙ ap (λ (t : List ℕ). was.front ++ t) (sym lines)
-          ∙ ap (λ (es : List Entry). was.front ++ entry_lines n (drop n es))
-          (sym (newest_last e h));
+      lines = λ left more.
+          grind (
+            arith,
+            reverse-append (e ∷ []) h,
+            append_assoc (reverse h) (e ∷ []) more,
+            was.lines left (e ∷ more),
+          );
+      rest = grind (
+        arith,
+        was.rest,
+        was.within,
+        reverse-append (e ∷ []) h,
+        drop-append-le n (reverse h) (e ∷ []),
+        entry_lines-push n old e,
+        length-drop n (reverse h),
+        length-reverse h,
+        append_assoc was.front (entry_lines n old) (ended (entry_line (length h) e)),
+      );
     }
 
 -- a remark after all entries so far
@@ -97,9 +96,6 @@ lines_after h remarks out r here was left more =
     ∙ ap (λ (t : List ℕ). t ++ (line ++ after)) (sym was.rest)
     ∙ sym (append_assoc out line after)
 
-nothing_after : (xs : List Entry) (n : ℕ) → n ≡ length xs → entry_lines n (drop n xs) ≡ []
-nothing_after xs n all = ap (entry_lines n) (drop_all n xs (omega (arith, all)))
-
 -- the step was answered by no entry
 pub remarked_aside : (h : List Entry) (remarks : List Remark) (out : List ℕ) (r : Remark) (line : List ℕ) →
     r.before ≡ length h → entries_said r.said ≡ 0
@@ -115,9 +111,7 @@ remarked_aside h remarks out r line here none says was =
           (r.before + entries_said r.said) left) (says (slice_get (reverse h ++ more) r.before))
           ∙ ap (λ (n : ℕ). (out ++ line) ++ told_lines (reverse h ++ more) n left)
           (omega (arith, here, none));
-      rest = sym (append-nil (out ++ line))
-          ∙ ap (λ (t : List ℕ). (out ++ line) ++ t)
-          (sym (nothing_after (reverse h) (length h) (sym (length-reverse h))));
+      rest = grind (arith, append-nil (out ++ line), drop_all (length h) (reverse h), length-reverse h);
     }
 
 -- the newest entry names a seat
@@ -137,12 +131,15 @@ remarked_named h remarks out e r here said was =
           ∙ get_after (reverse h) e more in
           subst (λ (es : List Entry). told_lines es 0 ((remarks ++ r ∷ []) ++ left) ≡ (out ++ line)
           ++ told_lines es (length h + 1) left)
-          (sym (ap (λ (es : List Entry). es ++ more) (newest_last e h)
+          (sym (ap (λ (es : List Entry). es ++ more) (reverse-append (e ∷ []) h)
           ∙ append_assoc (reverse h) (e ∷ []) more))
           (lines_after h remarks out r here was left (e ∷ more) ∙ (rw (at, said, here) refl));
-      rest = sym (append-nil (out ++ line))
-          ∙ ap (λ (t : List ℕ). (out ++ line) ++ t)
-          (sym (nothing_after (reverse (e ∷ h)) (length h + 1) (omega (arith, length-reverse (e ∷ h)))));
+      rest = grind (
+        arith,
+        append-nil (out ++ line),
+        drop_all (length h + 1) (reverse (e ∷ h)),
+        length-reverse (e ∷ h),
+      );
     }
   where
     get_after : (xs : List Entry) (x : Entry) (more : List Entry) →
@@ -160,9 +157,7 @@ remarked_all h remarks out was =
 
 -- the entries that an answer adds are counted
 pub added_count : (r : Result Answer Fault) (h : List Entry) → length (added r h) ≡ length h + entries_of r
-added_count (Ok (Recorded e whom)) h = omega arith
-added_count (Ok Sleep) h = omega arith
-added_count (Err fault) h = omega arith
+added_count r h = grind arith
 
 pub added_is : (s : Start) (h : List Entry) (i : ℕ) (step : Step) (r : Result Answer Fault)
     (h' : List Entry) → r ≡ (answer s h i step).0 → h' ≡ (answer s h i step).1 → h' ≡ added r h
@@ -171,9 +166,7 @@ added_is s h i step r h' p q = q ∙ answer_adds s h i step
 
 -- after others
 added-append : (r : Result Answer Fault) (h past : List Entry) → added r h ++ past ≡ added r (h ++ past)
-added-append (Ok (Recorded e whom)) h past = refl
-added-append (Ok Sleep) h past = refl
-added-append (Err fault) h past = refl
+added-append r h past = grind arith
 
 step_remarked : (h : List Entry) (seat : ℕ) (r : Result Answer Fault) (remarks remarks' : List Remark)
     (out : List ℕ) → IsRemarked remarks (remark_of (length h) seat r) remarks'

@@ -1,5 +1,5 @@
 -- The entries of a text are judged and summed up as their lines are read.
-use Rattle.std.proofs.Common.{◌≡◌, ℕ, ◌<◌, ◌≤◌, ◌^◌, List, [], ◌∷◌, length, reverse, Option, None, Some, Ok, IfSome, refl, sym, ap, ◌∙◌, arith, subst}
+use Rattle.std.proofs.Common.{◌≡◌, ℕ, ◌<◌, ◌≤◌, ◌^◌, List, [], ◌∷◌, length, reverse, Option, None, Some, Ok, IfSome, sym, ap, ◌∙◌, arith, subst}
 use Rattle.std.proofs.lemmas.List.{reverse-append}
 use Rattle.audit.proofs.Beginnings.{header_from}
 use Rattle.audit.proofs.Fronts.{front_same}
@@ -71,8 +71,7 @@ verdict_found b h (NotLegal number) found = found
 -- the entries that were summed up, by the verdict
 pub front_found : (wrong : Option ℕ) (h : List Entry) →
     legal_front wrong h ≡ front (legal_count (found_by wrong) (length h)) h
-front_found None h = sym (front_same h)
-front_found (Some number) h = refl
+front_found wrong h = grind (arith, front_same h)
 
 pub told_found : (text_for : Base → List Entry → Verdict → List ℕ) (left : Option (List ℕ)) (b : Base)
     (h : List Entry) (verdict : Verdict) (text : List ℕ) →

@@ -1,5 +1,5 @@
 -- Lines of entries and of remarks, one after another.
-use Rattle.std.proofs.Common.{◌≡◌, ℕ, ◌+◌, ◌-◌, ◌≤◌, ◌<◌, List, [], ◌∷◌, ◌++◌, length, take, drop, get_or, Option, Some, Result, Ok, Err, sym, ap, ◌∙◌, subst, arith, append_assoc, take_all, take-take, take-append-drop, get_or-drop, length-take-le, length-drop}
+use Rattle.std.proofs.Common.{◌≡◌, ℕ, ◌+◌, ◌-◌, ◌≤◌, ◌<◌, List, ◌++◌, length, take, drop, get_or, Option, Some, Result, Ok, Err, sym, ap, ◌∙◌, subst, arith, append_assoc, take_all, take-take, take-append-drop, get_or-drop, length-take-le, length-drop}
 use Rattle.std.specs.List.{slice_get}
 use Rattle.std.proofs.lemmas.List.{take_more, drop_more, drop_all}
 use Rattle.std.proofs.lemmas.Option.{get_or_from_slice_get, slice_get_within}
@@ -14,10 +14,12 @@ pub lines_longer : (xs : List Entry) (k few many : ℕ) → few ≤ many
     → entry_lines k (take many xs) ≡ entry_lines k (take few xs)
     ++ entry_lines (k + length (take few xs)) (drop few (take many xs))
 lines_longer xs k few many less =
-    let front : take few (take many xs) ≡ take few xs = take-take few many xs less in
-    ap (entry_lines k) (sym (take-append-drop few (take many xs)))
-    ∙ ap (λ (es : List Entry). entry_lines k (es ++ drop few (take many xs))) front
-    ∙ entry_lines-append k (take few xs) (drop few (take many xs))
+    grind (
+      arith,
+      take-take few many xs less,
+      take-append-drop few (take many xs),
+      entry_lines-append k (take few xs) (drop few (take many xs)),
+    )
 
 -- one more entry
 pub entry_more : (xs : List Entry) (from number : ℕ) (e : Entry) → from ≤ number →
@@ -27,19 +29,16 @@ pub entry_more : (xs : List Entry) (from number : ℕ) (e : Entry) → from ≤ 
 entry_more xs from number e since at =
     let k = number - from in
     let ys = drop from xs in
-    let lt = slice_get_within xs number e at in
-    let within : k < length ys = omega (arith, since, lt, length-drop from xs) in
-    let next : (number + 1) - from ≡ k + 1 = omega (arith, since) in
-    let place : from + k ≡ number = omega (arith, since) in
-    let last : get_or ys k e ≡ e = get_or-drop from xs k e ∙ ap (λ (n : ℕ). get_or xs n e) place
-    ∙ get_or_from_slice_get xs number e e at in
-    let counted : from + length (take k ys) ≡ number =
-    omega (arith, place, within, length-take-le k ys (omega (arith, within))) in
-    ap (λ (n : ℕ). entry_lines from (take n ys)) next
-    ∙ ap (entry_lines from) (take_more ys k e within
-    ∙ ap (λ (x : Entry). take k ys ++ x ∷ []) last)
-    ∙ entry_lines-push from (take k ys) e
-    ∙ ap (λ (n : ℕ). entry_lines from (take k ys) ++ ended (entry_line n e)) counted
+    grind (
+      arith,
+      slice_get_within xs number e at,
+      length-drop from xs,
+      get_or-drop from xs k e,
+      get_or_from_slice_get xs number e e at,
+      length-take-le k ys,
+      take_more ys k e,
+      entry_lines-push from (take k ys) e,
+    )
 
 -- one more remark
 pub remark_next : (es : List Entry) (remarks : List Remark) (index number : ℕ) (d : Remark)
@@ -66,20 +65,15 @@ pub remark_further : (es : List Entry) (remarks : List Remark) (index number : �
     ++ told_lines es ((get_or remarks index d).before + entries_said (get_or remarks index d).said)
     (drop (index + 1) remarks)
 remark_further es remarks index number d all so_far lt is =
-    let r = get_or remarks index d in
-    remark_next es remarks index number d all so_far lt is
-    ∙ sym (append_assoc (so_far ++ entry_lines number (take (r.before - number) (drop number es)))
-    (said_line r.said r.before r.seat (slice_get es r.before))
-    (told_lines es (r.before + entries_said r.said) (drop (index + 1) remarks)))
+    grind (arith, remark_next es remarks index number d all so_far lt is, append_assoc {A = ℕ})
 
 -- no further remark
 pub remark_last : (es : List Entry) (remarks : List Remark) (index number count : ℕ) (all so_far : List ℕ) →
     length remarks ≤ index → count ≡ length es → all ≡ so_far ++ told_lines es number (drop index remarks)
     → all ≡ so_far ++ entry_lines number (take (count - number) (drop number es))
 remark_last es remarks index number count all so_far past counted is =
-    is ∙ ap (λ (rs : List Remark). so_far ++ told_lines es number rs) (drop_all index remarks past)
-    ∙ ap (λ (xs : List Entry). so_far ++ entry_lines number xs)
-    (sym (take_all (count - number) (drop number es) (omega (arith, counted, length-drop number es))))
+    let left = drop number es in
+    grind (arith, is, drop_all index remarks past, take_all (count - number) left, length-drop number es)
 
 -- adding goes on
 pub gathers_more : (a b c : Option (List ℕ)) (old mid new x y : List ℕ)

@@ -153,7 +153,7 @@ pub(crate) fn front(entries: &[Entry], count: u64) -> &[Entry]
     }
 }
 
-/// Returns the number of the entry at a place after so many folded ones.
+/// Returns the number of the entry at a place after this many folded ones.
 fn number_at(folded: u64, place: u64) -> u64
     requires { folded + place < 2 ^ 64 }
     ensures { result ≡ folded + place }
@@ -161,14 +161,14 @@ fn number_at(folded: u64, place: u64) -> u64
     folded + place
 }
 
-/// Returns the entry after so many others, if there is one.
+/// Returns the entry after this many others, if there is one.
 fn entry_at(entries: &[Entry], place: u64) -> Option<Entry>
     ensures { result ≡ slice_get entries.now place }
 {
     entries.get(place as usize).copied()
 }
 
-/// Returns the text about the place after so many of the kept entries.
+/// Returns the text about the place after this many of the kept entries.
 fn text_of(
     alloc: Global,
     base: Base,

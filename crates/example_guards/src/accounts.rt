@@ -115,7 +115,7 @@ fn pay<P: Parking, R: Wait + Clock>(
     Ok(false)
 }
 
-/// Pays so many times, each time if there is enough.
+/// Pays this many times, each time if there is enough.
 pub fn pay_often<P: Parking, R: Wait + Clock>(
     rt: &R,
     parking: &P,

@@ -15,7 +15,7 @@ use history::fault::Fault;
 use history::header::Object;
 use history::limits::{MOST_AMOUNT, MOST_FOLDED};
 
-/// Returns whether each seat holds at most so many permits.
+/// Returns whether each seat holds at most this many permits.
 fn few_permits(seats: &[SeatBase], most: u128) -> bool
     ensures { result ≡ few_permits most seats.now }
 {
@@ -34,7 +34,7 @@ fn is_modest(base: &Base) -> bool
     }
 }
 
-/// Returns whether so many entries can be folded into a base.
+/// Returns whether this many entries can be folded into a base.
 fn fits_fold(base: &Base, count: u64) -> bool
     requires { base.now.entries ≤ MOST_FOLDED }
     ensures { result ≡ fits_fold base.now count }

@@ -5,7 +5,7 @@ ghost use Rattle.fault_places.specs.Lines.{follows_end, is_ended_after, line_aft
 
 use history::text::first_line;
 
-/// Returns what follows so many lines of a text, or None if it has fewer breaks.
+/// Returns what follows this many lines of a text, or None if it has fewer breaks.
 pub(crate) fn behind_lines(text: &[u8], count: u64) -> Option<&[u8]>
     ensures { MatchOption result (length (lines_in text.entry.now) ≤ count)
         (λ rest. lines_in rest.now ≡ drop count (lines_in text.entry.now)) }
@@ -31,7 +31,7 @@ pub(crate) fn line_ahead(bytes: &[u8]) -> (&[u8], bool)
     }
 }
 
-/// Returns the line after so many, and whether it has a break. Behind the last one there is an empty one.
+/// Returns the line after this many, and whether it has a break. Behind the last one there is an empty one.
 pub(crate) fn line_after(text: &[u8], count: u64) -> (&[u8], bool)
     ensures line { result.0.now ≡ line_after text.entry.now count }
     ensures ended { result.1 ≡ is_ended_after text.entry.now count }

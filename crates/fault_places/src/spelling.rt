@@ -70,7 +70,7 @@ fn put_bytes(out: &mut Vec<u8>, bytes: &[u8]) -> Result<(), AllocError>
     }
 }
 
-/// Returns the first bytes, or all if there are no more than so many.
+/// Returns the first bytes, or all if there are no more than that many.
 fn first_bytes(bytes: &[u8], count: usize) -> &[u8]
     ensures { result.now ≡ take count bytes.entry.now }
 {
@@ -169,7 +169,7 @@ fn slot_at(shape: &[Slot], place: usize) -> Option<Slot>
     shape.get(place).copied()
 }
 
-/// Returns whether so many first words of the line fit the shape, and what follows them was not told last.
+/// Returns whether this many first words of the line fit the shape, and what follows them was not told last.
 fn is_due(shape: &[Slot], line: &[u8], place: usize, told: Option<Option<Slot>>) -> bool
     ensures { result ≡ is_due shape.now (words_of line.now) place told }
 {
@@ -300,7 +300,7 @@ pub(crate) fn put_example(
     Ok(out.push(b'\n')?)
 }
 
-/// Returns what follows so many words of a line, or None if it has no more.
+/// Returns what follows this many words of a line, or None if it has no more.
 pub(crate) fn behind_words(line: &[u8], count: usize) -> Option<&[u8]>
     ensures words { words_left result ≡ drop count (words_of line.entry.now) }
     ensures column { bytes_left result + column_of line.entry.now count ≡ length line.entry.now + 1 }

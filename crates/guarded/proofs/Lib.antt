@@ -1,6 +1,7 @@
 pub mod Stowing
 pub mod Waits
 pub mod Calling
+pub mod Failing
 pub mod Readers
 pub mod Shelving
 pub mod Fetching

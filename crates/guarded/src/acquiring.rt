@@ -25,7 +25,7 @@ use std::sync::Wait;
 use std::time::Clock;
 
 /// Each acquire returns as many items as were asked for. After an `Err` or a `None` the pool has all items
-/// that it had. `HistoryFull` and `TrimFull` come as the page of this crate says, `OutOfMemory` if memory for
+/// that it had. `HistoryFull` and `TrimFull` come as `WhenFull` says, `OutOfMemory` if memory for
 /// the history is refused, `BadAmount` above 2147483647, and `Interrupted` from methods that say so.
 impl<T: Drop, I: Keeps<T>> Pool<T, I> {
     /// Waits until the pool has `n` items, or is interrupted: `Err(Interrupted)`, also if an interrupt was

@@ -6,7 +6,7 @@ use monitor::How;
 pub(crate) enum Asked {
     /// Waits in the queue for the lock.
     Acquire(How),
-    /// Acquires the lock, past all waiters.
+    /// Acquires the lock if it is free, past the waiters unless the lock is strict.
     Try,
     /// Releases the lock, waits on the condition, and acquires the lock again.
     Await(u8, How),
@@ -17,7 +17,7 @@ pub(crate) enum Asked {
 pub(crate) enum Reading {
     /// Waits in the queue for a read hold.
     Acquire(How),
-    /// Acquires a read hold, past all waiters.
+    /// Acquires a read hold if nobody writes, past the waiters unless the lock is strict.
     Try,
 }
 
@@ -26,7 +26,7 @@ pub(crate) enum Reading {
 pub(crate) enum PoolCall {
     /// Waits in the queue for this many items.
     Acquire(u32, How),
-    /// Acquires this many items, past all waiters.
+    /// Acquires this many items if the pool has them, past the waiters unless it is strict.
     Try(u32),
     /// Releases this many items.
     Release(u32),

@@ -1,8 +1,9 @@
 //! The owner's side of a lock that guards a value.
-ghost use Rattle.std.specs.Prelude.{◌≡◌, ◌+◌, ◌<◌, IfErr, IfOk, Ok, true, false, not};
+ghost use Rattle.std.specs.Prelude.{◌≡◌, ◌≢◌, ◌+◌, ◌<◌, IfErr, IfOk, Ok, true, false, not};
 ghost use Rattle.std.specs.Borrow.{sem};
 ghost use Rattle.std.specs.Fn.{FnReturnsAt};
 ghost use Rattle.history.specs.declared.entry.Mode.TheVariants.{X};
+ghost use Rattle.history.specs.declared.fault.Fault.TheVariants.{Interrupted};
 ghost use Rattle.history.specs.declared.step.Step.TheVariants.{Give};
 ghost use Rattle.monitor.specs.Calling.{Called};
 ghost use Rattle.monitor.specs.Acquire.{moment_after};
@@ -45,10 +46,10 @@ fn moment_after(moment: u64, milliseconds: u32) -> u64
 /// hold when it is dropped: call [`leave`](Guard::leave) once for each [`again`](Guard::again). The value must then
 /// meet the invariant that the lock keeps.
 ///
-/// After an `Err` the pass has as many holds as before, and the guard has the value. `HistoryFull` and `TrimFull` come
-/// as the page of this crate says, `OutOfMemory` if memory for the history is refused, and `NoSuchCondition` if the
-/// lock lacks the condition: after these nothing was recorded. `HoldsRead` is the answer to a wait by a writer that
-/// reads too.
+/// After an `Err` the pass has as many holds as before, and the guard has the value. If it is not `Interrupted`, a wait
+/// without a predicate has left the value as it was. `HistoryFull` and `TrimFull` come as `WhenFull` says,
+/// `OutOfMemory` if memory for the history is refused, and `NoSuchCondition` if the lock lacks the condition: after
+/// these nothing was recorded. `HoldsRead` is the answer to a wait by a writer that reads too.
 pub struct Guard<
     'a,
     T: Drop,
@@ -94,7 +95,8 @@ impl<'a, T: Drop, P: Parking, R: Wait + Clock, I: Keeps<T>, H: Hooks + Drop> Gua
     /// Waits on the condition until it is signalled, or interrupted: `Err(Interrupted)`, and the interrupt is taken.
     /// It releases the lock and the value while it waits, and has both again when it returns, whatever ended the
     /// wait. So the value must meet the lock's invariant, and meets it afterwards. Another thread may have changed it,
-    /// so test again what was waited for. This is `Condition.await()` of Java SE 8.
+    /// so test again what was waited for. `Ok(true)`, or a fault: only a timed wait returns `Ok(false)`. This is
+    /// `Condition.await()` of Java SE 8.
     pub fn wait(&mut self, condition: u8) -> Result<bool, Fault>
         requires guards { Guards self.old.lock.now (P.seats self.old.parking.now) self.old.pass.now self.old.slot }
         requires kept { Kept I.invariant self.old.slot }
@@ -104,6 +106,7 @@ impl<'a, T: Drop, P: Parking, R: Wait + Clock, I: Keeps<T>, H: Hooks + Drop> Gua
         ensures guards { Guards self.new.lock.now (P.seats self.new.parking.now) self.new.pass.now self.new.slot }
         ensures kept { Kept I.invariant self.new.slot }
         ensures keeps { holds self.new.pass.now ≡ holds self.old.pass.now }
+        ensures value { IfErr result (λ fault. fault ≢ Interrupted → self.new.slot ≡ self.old.slot) }
         ensures awaited { CallReturns self.old.lock.now.when_full
             (awaits (P.did self.old.parking.now) condition Interruptible)
             self.old.pass.now self.new.pass.now result }
@@ -124,6 +127,7 @@ impl<'a, T: Drop, P: Parking, R: Wait + Clock, I: Keeps<T>, H: Hooks + Drop> Gua
         ensures guards { Guards self.new.lock.now (P.seats self.new.parking.now) self.new.pass.now self.new.slot }
         ensures kept { Kept I.invariant self.new.slot }
         ensures keeps { holds self.new.pass.now ≡ holds self.old.pass.now }
+        ensures value { IfErr result (λ fault. fault ≢ Interrupted → self.new.slot ≡ self.old.slot) }
         ensures awaited { CallReturns self.old.lock.now.when_full
             (awaits (P.did self.old.parking.now) condition (Timed ms))
             self.old.pass.now self.new.pass.now result }
@@ -144,6 +148,7 @@ impl<'a, T: Drop, P: Parking, R: Wait + Clock, I: Keeps<T>, H: Hooks + Drop> Gua
         ensures guards { Guards self.new.lock.now (P.seats self.new.parking.now) self.new.pass.now self.new.slot }
         ensures kept { Kept I.invariant self.new.slot }
         ensures keeps { holds self.new.pass.now ≡ holds self.old.pass.now }
+        ensures value { IfErr result (λ fault. fault ≢ Interrupted → self.new.slot ≡ self.old.slot) }
         ensures awaited { LastsUntil (P.did self.old.parking.now) moment (λ how.
             CallReturns self.old.lock.now.when_full (awaits (P.did self.old.parking.now) condition how)
             self.old.pass.now self.new.pass.now result) }
@@ -152,7 +157,7 @@ impl<'a, T: Drop, P: Parking, R: Wait + Clock, I: Keeps<T>, H: Hooks + Drop> Gua
         self.wait_for(condition, ms)
     }
 
-    /// [`wait`](Guard::wait), but an interrupt doesn't end it, and stays pending. This is
+    /// [`wait`](Guard::wait), but an interrupt doesn't end it, and stays pending. `Ok(true)`, or a fault. This is
     /// `Condition.awaitUninterruptibly()`.
     pub fn wait_uninterruptibly(&mut self, condition: u8) -> Result<bool, Fault>
         requires guards { Guards self.old.lock.now (P.seats self.old.parking.now) self.old.pass.now self.old.slot }
@@ -163,6 +168,7 @@ impl<'a, T: Drop, P: Parking, R: Wait + Clock, I: Keeps<T>, H: Hooks + Drop> Gua
         ensures guards { Guards self.new.lock.now (P.seats self.new.parking.now) self.new.pass.now self.new.slot }
         ensures kept { Kept I.invariant self.new.slot }
         ensures keeps { holds self.new.pass.now ≡ holds self.old.pass.now }
+        ensures value { IfErr result (λ fault. fault ≢ Interrupted → self.new.slot ≡ self.old.slot) }
         ensures awaited { CallReturns self.old.lock.now.when_full
             (awaits (P.did self.old.parking.now) condition Plain)
             self.old.pass.now self.new.pass.now result }
@@ -319,7 +325,7 @@ impl<'a, T: Drop, P: Parking, R: Wait + Clock, I: Keeps<T>, H: Hooks + Drop> Gua
         done(self.lock.tell(self.rt, self.parking, pass, condition, true))
     }
 
-    /// Acquires the lock once more, and returns whether it did. `Err(TooManyHolds)` with 2147483647 holds. This is
+    /// Acquires the lock once more: `Ok(true)`, or a fault. `Err(TooManyHolds)` with 2147483647 holds. This is
     /// `ReentrantLock.lock()` by its owner.
     pub fn again(&mut self) -> Result<bool, Fault>
         requires guards { Guards self.old.lock.now (P.seats self.old.parking.now) self.old.pass.now self.old.slot }

@@ -20,12 +20,13 @@
 //!
 //! There are two kinds of invariant of a value. A thread that has the value may rely on both.
 //!
-//! - One of its type, in an `impl Model` or a ghost field. It holds at every moment: who changes the value proves it
-//!   again at once.
+//! - One of its type, in an `impl Model` or a ghost field. It holds at every moment: a thread that changes the value
+//!   proves it again at once.
 //! - One of its lock or pool, which a type `I` stands for ([`Keeps`]), as in `Mutex<Accounts, Balanced>`. It holds
-//!   whenever no thread has the value. Who has the value may break it, and proves it again before a wait and before
-//!   the guard is dropped, also where a `?` drops it. `signal`, [`again`](Guard::again), [`leave`](Guard::leave) and
-//!   [`read`](Guard::read) don't ask for it: the guard keeps the value. `Any`, the default, asks for nothing.
+//!   whenever no thread has the value. A thread that has the value may break it, and proves it again before a wait and
+//!   before the guard is dropped, also where a `?` drops it. `signal`, [`again`](Guard::again),
+//!   [`leave`](Guard::leave) and [`read`](Guard::read) don't ask for it: the guard keeps the value. `Any`, the default,
+//!   asks for nothing.
 //!
 //! A guard that is forgotten keeps the lock for ever, so no thread finds a value that breaks the invariant.
 //!

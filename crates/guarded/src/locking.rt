@@ -23,7 +23,7 @@ use std::sync::Wait;
 use std::time::Clock;
 
 /// Each of these is called by a pass that doesn't hold the lock, and returns a guard, which has the value.
-/// After an `Err` the pass doesn't hold the lock. `HistoryFull` and `TrimFull` come as the page of this crate
+/// After an `Err` the pass doesn't hold the lock. `HistoryFull` and `TrimFull` come as `WhenFull`
 /// says, `OutOfMemory` if memory for the history is refused, and `Interrupted` from methods that say so.
 ///
 /// The pass is the first argument, as in `Mutex::lock(pass, &lock, rt, parking)`, since the guard borrows it.

@@ -1,11 +1,11 @@
 //! A reentrant lock that guards a value.
-ghost use Rattle.std.specs.Prelude.{◌≡◌, ◌<◌, ◌≤◌, ◌+◌, All, IfOk, IfErr, IfSome, Err};
+ghost use Rattle.std.specs.Prelude.{◌≡◌, ◌≢◌, ◌<◌, ◌≤◌, ◌+◌, All, IfOk, IfErr, IfSome, Err, true};
 ghost use Rattle.frame.specs.Core.{header_of};
 ghost use Rattle.history.specs.Counts.{counts};
 ghost use Rattle.history.specs.Entries.{start_on};
 ghost use Rattle.history.specs.Header.{IsInRange};
 ghost use Rattle.history.specs.declared.entry.Mode.TheVariants.{X};
-ghost use Rattle.history.specs.declared.fault.Fault.TheVariants.{OutOfMemory};
+ghost use Rattle.history.specs.declared.fault.Fault.TheVariants.{Interrupted, OutOfMemory};
 ghost use Rattle.history.specs.declared.header.Object.TheVariants.{Lock};
 ghost use Rattle.history.specs.declared.header.Policy.TheVariants.{NonFair};
 ghost use Rattle.history.specs.declared.step.Step.TheVariants.{Give};
@@ -15,6 +15,7 @@ ghost use Rattle.monitor.specs.declared.how.How.TheVariants.{Plain};
 ghost use Rattle.monitor.specs.Closing.{Closes, IsMissing};
 ghost use Rattle.monitor.specs.declared.closing.CloseFault.TheVariants.{MissingPass};
 ghost use Rattle.monitor.specs.Lawful.{blank};
+ghost use Rattle.monitor.specs.Load.{was_refused};
 ghost use Rattle.monitor.specs.Shown.{opening_passes};
 ghost use Rattle.monitor.specs.Stepping.{IsSame};
 ghost use Rattle.monitor.specs.declared.room.WhenFull.TheVariants.{Trim};
@@ -258,6 +259,7 @@ impl<T: Drop, I: Keeps<T>, H: Hooks + Drop> Mutex<T, I, H> {
         ensures gains { holds pass.new ≡ holds pass.old + gained_by asked result }
         ensures carries { Carries (holds pass.new) slot.new }
         ensures fit { MayLie I.invariant slot.old → MayLie I.invariant slot.new }
+        ensures stays { was_refused result ≡ true → slot.new ≡ slot.old }
     {
         let when_full = self.when_full;
         match asked {
@@ -387,6 +389,7 @@ impl<T: Drop, I: Keeps<T>, H: Hooks + Drop> Mutex<T, I, H> {
         ensures kept { Kept I.invariant slot.new }
         ensures awaited { CallReturns self.now.when_full (awaits (P.did parking.now) condition how) pass.old pass.new result }
         ensures keeps { holds pass.new ≡ holds pass.old }
+        ensures stays { IfErr result (λ fault. fault ≢ Interrupted → slot.new ≡ slot.old) }
     {
         whether(self.call(rt, parking, pass, slot, Asked::Await(condition, how)))
     }

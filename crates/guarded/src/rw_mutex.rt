@@ -58,8 +58,8 @@ use std::time::Clock;
 /// `I` is the invariant that the lock keeps of its value, or [`Any`] for none.
 ///
 /// A writer that acquires a read hold and then unlocks becomes a reader, and no other writer comes in
-/// between. A reader can't become a writer: its `write` waits for its own read hold until an interrupt or its
-/// time ends it.
+/// between. A reader can't become a writer: `write` would wait for its own read hold for ever, and the other
+/// kinds until an interrupt or their time.
 #[derive(Drop)]
 pub struct RwMutex<T: Drop, I: Keeps<T> = Any> {
     pub(crate) mutex: Mutex<T, I, RwHooks>,
@@ -481,8 +481,8 @@ impl<T: Drop, I: Keeps<T>> RwMutex<T, I> {
         self.mutex.look(rt, pass, look)
     }
 
-    /// Releases a read hold. It never lacks room or memory. `Err(OutOfPhase)` if its own steps on the monitor
-    /// left the pass in the middle of another call. This is `ReadLock.unlock()`.
+    /// Releases a read hold. It never lacks room or memory. `Err(OutOfPhase)` if the pass is in the middle of
+    /// another call. No call of this crate leaves it there, but no contract says so. This is `ReadLock.unlock()`.
     pub fn unread<P: Parking, R: Wait + Clock>(
         &self,
         rt: &R,
@@ -502,8 +502,8 @@ impl<T: Drop, I: Keeps<T>> RwMutex<T, I> {
 
 /// A writer may read too, and so become a reader.
 impl<T: Drop, P: Parking, R: Wait + Clock, I: Keeps<T>> Guard<'_, T, P, R, I, RwHooks> {
-    /// Acquires a read hold beside the write hold, and returns whether it did. This is `ReadLock.lock()` by the
-    /// owner of the write lock.
+    /// Acquires a read hold beside the write hold: `Ok(true)`, or a fault. This is `ReadLock.lock()` by the owner
+    /// of the write lock.
     pub fn read(&mut self) -> Result<bool, Fault>
         requires guards { Guards self.old.lock.now (P.seats self.old.parking.now) self.old.pass.now self.old.slot }
         ensures same_reference { self.new.pass.ghost_name ≡ self.old.pass.ghost_name }

@@ -47,7 +47,8 @@ impl<H: Hooks + Drop, L: Load> View<'_, H, L> {
         self.monitor.is_held(rt, pass)
     }
 
-    /// Whether a waiter was woken, and has not looked since. If the head of the queue could go, it was.
+    /// Whether a waiter was told that it could acquire, or lapsed, and has not looked in vain since. It is true of
+    /// the head of the queue if that could acquire.
     pub fn is_told<R: Wait>(&self, rt: &R, pass: &mut Pass, seat: u16) -> bool
         requires is_of { pass.old.lock ≡ self.now.monitor.now }
         requires seat { seat < self.now.monitor.now.header.seats }

@@ -9,6 +9,9 @@ pub const MOST_READ_WRITE_HOLDS: u32 = 65_535;
 /// The greatest amount: of a request, of free permits, and of a latch's count.
 pub const MOST_AMOUNT: u32 = 2_147_483_647;
 
+/// [`MOST_AMOUNT`] as a number of free permits, which may be negative.
+pub const MOST_PERMITS: i64 = MOST_AMOUNT as i64;
+
 /// The greatest number of seats of an object.
 pub const MOST_SEATS: u16 = 256;
 

@@ -1,11 +1,11 @@
 -- Each entry of a legal history of an object in range has a line of a history text: its amount and its
 -- condition are small.
-use Rattle.std.proofs.Common.{◌≡◌, ⊎_elim, ℕ, zero, suc, ℤ, pos, negsuc, ◌+◌, ◌<◌, ◌≤◌, Bool, true, false, cond, eqb, ltb, List, [], ◌∷◌, length, Some, ap, sym, subst, arith, FitsSigned, length-append}
+use Rattle.std.proofs.Common.{◌≡◌, ⊎_elim, ℕ, zero, suc, ℤ, ◌<◌, ◌≤◌, List, [], ◌∷◌, length, Some, ap, sym, subst, arith, FitsSigned, length-append}
 use Rattle.std.specs.Int.{w32}
 use Rattle.std.specs.List.{AllByRecursion}
-use Rattle.std.proofs.lemmas.Bool.{cases_eq}
 use Rattle.std.proofs.lemmas.Int.{ints}
-use Rattle.history_text.specs.Below.{LAST_CONDITION, MOST_AMOUNT, MOST_CONDITIONS, Arrival, Entry, Word, Header, Object, Lock, ReadWrite, Semaphore, Latch, Base, based, free, IsSpelt, IsWritten, IsBaseOf, IsGood, IsInRange, IsOpening, IsLegal, AreSeated, line, place_of, sleepers, last_sleep, CanFold, Start, at_least_none, at_most_one, asleep, most_exclusive}
+use Rattle.std.proofs.lemmas.Bool.Decides.{nat_tests}
+use Rattle.history_text.specs.Below.{LAST_CONDITION, MOST_AMOUNT, MOST_CONDITIONS, Arrival, Entry, Word, Header, Object, Base, based, free, IsSpelt, IsWritten, IsBaseOf, IsGood, IsInRange, IsOpening, IsLegal, AreSeated, line, place_of, sleepers, CanFold, Start, at_least_none, at_most_one, asleep, most_exclusive}
 use Rattle.history.specs.declared.entry.Word.TheVariants as word
 use Rattle.history.proofs.Asking.{asked_few, AsksFew, line_few_on}
 use Rattle.history.proofs.Entering.{KnownBy, known}
@@ -21,45 +21,21 @@ use Rattle.history_text.proofs.Spelt.{all_spelt_on}
 -- no more sleep on one condition than on all
 asleep_part : (s : Start) (h : List Entry) (c n : ℕ) → c < n → length (sleepers s h c) ≤ length (asleep n s h)
 asleep_part s h c zero l = absurd (omega (arith, l))
-asleep_part s h c (suc n) l = ⊎_elim same (other (λ below. asleep_part s h c n below)) (cases_eq c n)
-  where
-    all : length (asleep (suc n) s h) ≡ length (asleep n s h) + length (sleepers s h n)
-    all = length-append (asleep n s h) (sleepers s h n)
-
-    same : c ≡ n → length (sleepers s h c) ≤ length (asleep (suc n) s h)
-    same q = let z = ap (λ d. length (sleepers s h d)) q in let a = all in omega (arith, z, a)
-
-    other : (c < n → length (sleepers s h c) ≤ length (asleep n s h)) → (c ≡ n → ⊥) →
-        length (sleepers s h c) ≤ length (asleep (suc n) s h)
-    other before ne = let p = before (omega (arith, l, ne)) in let a = all in omega (arith, p, a)
+asleep_part s h c (suc n) l =
+    grind (arith, nat_tests, length-append (asleep n s h) (sleepers s h n), asleep_part s h c n)
 
 most_few : (o : Object) → most_exclusive o ≤ MOST_AMOUNT
-most_few (Lock p) = omega arith
-most_few (ReadWrite p) = omega arith
-most_few (Semaphore p c) = omega arith
-most_few (Latch c) = omega arith
+most_few o = grind arith
 
 pub free_few : (z : ℤ) → FitsSigned w32 z → at_least_none z ≤ MOST_AMOUNT
-free_few (pos n) p = by (ltb n 0)
-  where
-    by : (b : Bool) → cond b 0 n ≤ MOST_AMOUNT
-    by true = omega arith
-    by false = omega (arith, ints, p)
-free_few (negsuc n) p = omega arith
+free_few z p = grind (arith, ints, nat_tests)
 
 one_few : (n : ℕ) → at_most_one n ≤ 1
-one_few n = by (eqb n 0)
-  where
-    by : (b : Bool) → cond b 0 1 ≤ 1
-    by true = omega arith
-    by false = omega arith
+one_few n = grind (arith, nat_tests)
 
 -- an object has few conditions
 pub few_conditions : (o : Object) (c : ℕ) → IsOpening o c → c ≤ MOST_CONDITIONS
-few_conditions (Lock p) c r = r
-few_conditions (ReadWrite p) c r = r
-few_conditions (Semaphore p n) c r = omega (arith, r.0)
-few_conditions (Latch n) c r = omega (arith, r.0)
+few_conditions o c r = grind arith
 
 -- who comes back gets what it saved, on the condition where it slept
 back_saved : (s : Start) (h : List Entry) (e : Entry) → Waits s h → KnownBy s h e word.Back → Saved s h e.seat
@@ -83,66 +59,42 @@ module _ (b : Base) (h : List Entry) (e : Entry) (range : IsInRange b.header) (c
       subst (λ n. n ≤ MOST_AMOUNT) (sym q) (placed AsksFew e.seat (line s h) a few_in_line p)
 
   amount : e.seat < k.seats → (w : Word) → KnownBy s h e w → e.n ≤ MOST_AMOUNT
-  amount seat word.Got r = asked_few k.object e.n r.0.amount
-  amount seat word.TryGot r = asked_few k.object e.n r.0.amount
-  amount seat word.Queued r = asked_few k.object e.n r.amount
-  amount seat word.Missed r = asked_few k.object e.n r.amount
-  amount seat (word.Refused f) r = asked_few k.object e.n r.amount
-  amount seat word.Gave r = asked_few k.object e.n r.0.amount
-  amount seat word.Counted r = asked_few k.object e.n r.0.amount
   amount seat word.Granted r = left_few r.0 r.1.stands (ap (λ (x : Entry). x.n) r.1.entry)
   amount seat word.Left r = left_few r.0 r.1.stands (ap (λ (x : Entry). x.n) r.1.entry)
   amount seat word.Back r =
-      let saved = back_saved s h e waits r in
-      let n : e.n ≡ (last_sleep s h e.seat).holds = ap (λ (x : Entry). x.n) r.4 in
-      let most = saved.most in
-      let few = most_few k.object in
-      omega (arith, n, most, few)
-  amount seat word.Await r =
-      let held = waits.holds e.seat seat r.0.lock in
-      let n = r.2 in
-      let few = most_few k.object in
-      omega (arith, n, held, few)
-  amount seat word.Signal r = let n = r.1 in let few = one_few (length (sleepers s h e.at)) in
-      omega (arith, n, few)
+      omega (arith, ap (λ (x : Entry). x.n) r.4, (back_saved s h e waits r).most, most_few k.object)
+  amount seat word.Await r = omega (arith, r.2, waits.holds e.seat seat r.0.lock, most_few k.object)
+  amount seat word.Signal r = omega (arith, r.1, one_few (length (sleepers s h e.at)))
   amount seat word.SignalAll r =
-      let n = r.1 in
-      let part = asleep_part s h e.at k.conditions r.0.condition in
-      let all = few_wait s h waits (line_seated_on b can.good h can.legal can.seated) in
-      let seats = range.seats in
-      omega (arith, n, part, all, seats)
-  amount seat word.Lapse r = let n : e.n ≡ 0 = ap (λ (x : Entry). x.n) r.2 in omega (arith, n)
+      omega (
+        arith,
+        r.1,
+        asleep_part s h e.at k.conditions r.0.condition,
+        few_wait s h waits (line_seated_on b can.good h can.legal can.seated),
+        range.seats,
+      )
+  amount seat word.Lapse r = omega (arith, ap (λ (x : Entry). x.n) r.2)
   amount seat word.Drained r =
-      let n : e.n ≡ at_least_none (free s h) = ap (λ (x : Entry). x.n) r.2 in
-      let few = free_few (free s h) (free_fits_base b h range can r.1) in
-      omega (arith, n, few)
+      omega (arith, ap (λ (x : Entry). x.n) r.2, free_few (free s h) (free_fits_base b h range can r.1))
+  amount seat w r = grind (arith, asked_few k.object e.n)
 
   few_at : e.at < k.conditions → e.at ≤ LAST_CONDITION
-  few_at l = let c = few_conditions k.object k.conditions range.opening in omega (arith, l, c)
-
-  none_at : e.at ≡ 0 → e.at ≤ LAST_CONDITION
-  none_at q = omega (arith, q)
+  few_at l = omega (arith, l, few_conditions k.object k.conditions range.opening)
 
   condition : (w : Word) → KnownBy s h e w → e.at ≤ LAST_CONDITION
-  condition word.Got r = none_at r.0.at
-  condition word.TryGot r = none_at r.0.at
-  condition word.Queued r = none_at r.at
-  condition word.Missed r = none_at r.at
-  condition (word.Refused f) r = none_at r.at
-  condition word.Gave r = none_at r.0.at
-  condition word.Counted r = none_at r.0.at
-  condition word.Granted r = none_at (ap (λ (x : Entry). x.at) r.1.entry)
-  condition word.Left r = none_at (ap (λ (x : Entry). x.at) r.1.entry)
+  condition word.Granted r = omega (arith, ap (λ (x : Entry). x.at) r.1.entry)
+  condition word.Left r = omega (arith, ap (λ (x : Entry). x.at) r.1.entry)
   condition word.Back r =
-      let saved = back_saved s h e waits r in
-      few_at (subst (λ c. c < k.conditions) (sym (ap (λ (x : Entry). x.at) r.4)) saved.condition)
+      few_at (subst (λ c. c < k.conditions) (sym (ap (λ (x : Entry). x.at) r.4))
+      (back_saved s h e waits r).condition)
   condition word.Await r = few_at r.0.condition
   condition word.Signal r = few_at r.0.condition
   condition word.SignalAll r = few_at r.0.condition
   condition word.Lapse r =
       let u = (lapsing s h e waits r.0 r.2).1 in
       few_at (subst (λ c. c < k.conditions) u.condition u.saved.condition)
-  condition word.Drained r = none_at (ap (λ (x : Entry). x.at) r.2)
+  condition word.Drained r = omega (arith, ap (λ (x : Entry). x.at) r.2)
+  condition w r = grind arith
 
 entry_written : (b : Base) (h : List Entry) (e : Entry) → IsInRange b.header → CanFold b h →
     IsLegal (based b) (e ∷ h) → e.seat < b.header.seats → IsSpelt e → IsWritten e

@@ -1,6 +1,6 @@
 -- Lines of a base, taken up one after another.
-use Rattle.std.proofs.Common.{◌≡◌, ℕ, ◌+◌, ◌<◌, Bool, true, false, IsTrue, List, [], ◌∷◌, ◌++◌, length, map, get_or, drop, refl, sym, ap, subst, ◌∙◌}
-use Rattle.std.proofs.lemmas.List.{drop_more}
+use Rattle.std.proofs.Common.{◌≡◌, ℕ, ◌+◌, ◌<◌, ◌≤◌, Bool, true, false, IsTrue, List, [], ◌∷◌, ◌++◌, length, map, get_or, drop, refl, sym, ap, subst, ◌∙◌}
+use Rattle.std.proofs.lemmas.List.{drop_all, drop_more}
 use Rattle.history_text.specs.Below.{Sleeper, Base}
 use Rattle.history_text.specs.Prelude.{BaseLine, Sleeps, Stands, after_told, base_lines, first_line, seat_lines, sleeper_lines, BaseSums, with_sums, no_sums}
 use Rattle.history_text.specs.inner.BaseFollowing.{AllFollow, HaveFollowed}
@@ -35,10 +35,8 @@ pub taken : (b : Base) (first now next : BaseSums) (all left xs rest : List Base
     Left b first now all left → AllFollow b now xs × (next ≡ after_told now xs) → Left b first next all rest
 taken b first now next all left xs rest e was is =
     record {
-      to = λ p. was.to (subst (AllFollow b now) (sym e)
-          (follow-append b now xs rest is.0 (subst (λ t. AllFollow b t rest) is.1 p)));
-      from = λ p. subst (λ t. AllFollow b t rest) (sym is.1)
-          (follow_behind b now xs rest (subst (AllFollow b now) e (was.from p)));
+      to = λ p. was.to (rw e (follow-append b now xs rest is.0 (rw is.1 at p)));
+      from = λ p. rw is.1 (follow_behind b now xs rest (rw e at (was.from p)));
       sums = ap (λ (t : BaseSums). after_told t rest) is.1 ∙ sym (told-append now xs rest)
           ∙ ap (after_told now) (sym e) ∙ was.sums;
     }
@@ -56,14 +54,30 @@ all_taken b first now all is = (is.to tt, is.sums)
 
 -- ---- lines of the parts of a base, from one on
 
-pub standing_left : {X : Type 0} (f : X → BaseLine) (xs : List X) (i : ℕ) (d : X) → i < length xs →
-    map f (drop i xs) ≡ (f (get_or xs i d) ∷ []) ++ map f (drop (i + 1) xs)
-standing_left f xs i d lt = ap (map f) (drop_more xs i d lt)
+module _ {X : Type 0} (f : X → BaseLine) (xs : List X) (i : ℕ) (b : Base) (first now : BaseSums)
+    (left : Left b first now (map f xs) (map f (drop i xs))) where
+  pub one_taken : (d : X) (next : BaseSums) → i < length xs →
+      HaveFollowed true b now next (f (get_or xs i d) ∷ []) →
+      Left b first next (map f xs) (map f (drop (i + 1) xs))
+  one_taken d next lt is =
+      taken b first now next (map f xs) (map f (drop i xs)) (f (get_or xs i d) ∷ [])
+      (map f (drop (i + 1) xs)) (ap (map f) (drop_more xs i d lt)) left is
 
-pub sleepers_left : (lists : List (List Sleeper)) (c : ℕ) → c < length lists →
-    sleeper_lines c (drop c lists)
-    ≡ map (Sleeps c) (get_or lists c []) ++ sleeper_lines (c + 1) (drop (c + 1) lists)
-sleepers_left lists c lt = ap (sleeper_lines c) (drop_more lists c [] lt)
+  pub one_refused : (d : X) → i < length xs → (AllFollow b now (f (get_or xs i d) ∷ []) → ⊥) →
+      AllFollow b first (map f xs) → ⊥
+  one_refused d lt =
+      refused b first now (map f xs) (map f (drop i xs)) (f (get_or xs i d) ∷ []) (map f (drop (i + 1) xs))
+      (ap (map f) (drop_more xs i d lt)) left
+
+  pub list_taken : length xs ≤ i → HaveFollowed true b first now (map f xs)
+  list_taken le =
+      all_taken b first now (map f xs)
+      (subst (λ l. Left b first now (map f xs) (map f l)) (drop_all i xs le) left)
+
+pub sleepers_left : (lists : List (List Sleeper)) (c : ℕ) (list : List Sleeper) → c < length lists →
+    list ≡ get_or lists c [] →
+    sleeper_lines c (drop c lists) ≡ map (Sleeps c) list ++ sleeper_lines (c + 1) (drop (c + 1) lists)
+sleepers_left lists c list lt is = rw is (ap (sleeper_lines c) (drop_more lists c [] lt))
 
 -- ---- the lines of a base, part by part
 

@@ -1,8 +1,8 @@
 -- What the line of a base spells is read again, and is no other line.
-use Rattle.std.proofs.Common.{◌≡◌, ⊎_elim, ℕ, ◌+◌, ◌*◌, ◌^◌, ◌<◌, ◌≤◌, Bool, true, false, List, [], ◌∷◌, length, get_or, Some, refl, sym, ap, subst, ◌∙◌, arith, decimal, codes, length-append}
+use Rattle.std.proofs.Common.{◌≡◌, ⊎_elim, ℕ, ◌+◌, ◌*◌, ◌^◌, ◌<◌, ◌≤◌, Bool, true, false, List, [], ◌∷◌, length, get_or, Some, refl, sym, ap, ◌∙◌, arith, decimal, codes, length-append}
 use Rattle.std.specs.List.{AllByRecursion}
 use Rattle.std.proofs.lemmas.Fmt.{length-decimal-le_wide}
-use Rattle.history_text.specs.Below.{LinePlace, SeatBase, End, Entry, Mode, Header, Object, Lock, ReadWrite, Semaphore, Latch, Base, IsWritten, entry_words, LAST_CONDITION, MOST_AMOUNT, MOST_BASE_PERMITS, MOST_FOLDED, MOST_HOLDS, Asks, GaveUp, Returns, IsInRange, IsOpening, coming_back, opening_count, Words, line_of, words_of}
+use Rattle.history_text.specs.Below.{LinePlace, SeatBase, Entry, Header, Object, Base, IsWritten, entry_words, LAST_CONDITION, MOST_AMOUNT, MOST_BASE_PERMITS, MOST_FOLDED, MOST_HOLDS, Asks, GaveUp, Returns, IsInRange, IsOpening, opening_count, Words, line_of, words_of}
 use Rattle.history.specs.declared.entry.End.TheVariants as end
 use Rattle.history.proofs.Asking.{asked_few}
 use Rattle.history.proofs.EntryAgain.{plain_entry, words_again_read}
@@ -22,26 +22,6 @@ use Rattle.history_text.proofs.EntryLemmas.{counts_line-words, counts_plain, ent
 
 -- ---- the words of a line
 
-folded_again : (x : BaseLine) (t : ℕ) (ws : Words) → 1 ≤ t → t ≤ MOST_FOLDED → beside_at t ws ≡ Some (x, []) →
-    folded_at (decimal t ∷ ws) ≡ Some (x, [])
-unfolding folded_at
-folded_again x t ws some most is = rw (wide_at_again 1 MOST_FOLDED t ws (omega (arith, most)) some most) is
-
-unheld_again : (t u : ℕ) → u ≤ MOST_BASE_PERMITS →
-    beside_at t (codes "unheld" ∷ decimal u ∷ []) ≡ Some (Released t u, [])
-unfolding beside_at
-unheld_again t u most =
-    rw (wide_at_again 0 MOST_BASE_PERMITS u [] (omega (arith, most)) (omega arith) most) refl
-
-count_again : (t q : ℕ) → q ≤ MOST_AMOUNT →
-    beside_at t (codes "count" ∷ decimal q ∷ []) ≡ Some (CountedDown t q, [])
-unfolding beside_at
-count_again t q most = rw (number_at_again 0 MOST_AMOUNT q [] (omega (arith, most)) (omega arith) most) refl
-
-alone_again : (t : ℕ) → beside_at t [] ≡ Some (Folded t, [])
-unfolding beside_at
-alone_again t = refl
-
 seat_again : (i : ℕ) (has : SeatBase) → i ≤ LAST_SEAT → has.calls ≤ MOST_FOLDED → has.exclusive ≤ MOST_HOLDS →
     has.shared ≤ MOST_BASE_PERMITS
     → has_at (decimal i ∷ codes "calls" ∷ decimal has.calls ∷ codes "x" ∷ decimal has.exclusive ∷ codes "s"
@@ -59,18 +39,13 @@ stands_again : (p : LinePlace) (b : Bool) → p.who.seat ≤ LAST_SEAT → IsWri
     p ≡ stood_by b (waiting_by b p) →
     stands_at (decimal p.who.seat ∷ entry_words (waiting_by b p)) ≡ Some (Stands p, [])
 unfolding stands_at
-stands_again p true small written same =
-    rw (
-      number_at_again 0 LAST_SEAT p.who.seat (entry_words (waiting_by true p)) (omega (arith, small))
+stands_again p b small written same =
+    grind (
+      arith,
+      number_at_again 0 LAST_SEAT p.who.seat (entry_words (waiting_by b p)) (omega (arith, small))
           (omega arith) small,
-      words_again_read (waiting_by true p) written,
-    ) (ap (λ (q : LinePlace). Some (Stands q, [])) (sym same))
-stands_again p false small written same =
-    rw (
-      number_at_again 0 LAST_SEAT p.who.seat (entry_words (waiting_by false p)) (omega (arith, small))
-          (omega arith) small,
-      words_again_read (waiting_by false p) written,
-    ) (ap (λ (q : LinePlace). Some (Stands q, [])) (sym same))
+      words_again_read (waiting_by b p) written,
+    )
 
 sleeps_again : (c i h : ℕ) → c ≤ LAST_CONDITION → i ≤ LAST_SEAT → h ≤ MOST_HOLDS →
     sleeps_at (decimal c ∷ decimal i ∷ decimal h ∷ []) ≡ Some (Sleeps c (record { seat = i; holds = h }), [])
@@ -83,48 +58,24 @@ sleeps_again c i h few small most =
     ) refl
 
 base_again : (x : BaseLine) → IsBaseLine x → base_line_at (base_words x) ≡ Some (x, [])
-unfolding base_line_at
-base_again (Folded t) is = folded_again (Folded t) t [] is.0 is.1 (alone_again t)
-base_again (Released t u) is = folded_again (Released t u) t _ is.0 is.1 (unheld_again t u is.2)
-base_again (CountedDown t q) is = folded_again (CountedDown t q) t _ is.0 is.1 (count_again t q is.2)
+unfolding base_line_at folded_at beside_at
+base_again (Folded t) is = rw (wide_at_again 1 MOST_FOLDED t [] (omega (arith, is.1)) is.0 is.1) refl
+base_again (Released t u) is =
+    rw (
+      wide_at_again 1 MOST_FOLDED t _ (omega (arith, is.1)) is.0 is.1,
+      wide_at_again 0 MOST_BASE_PERMITS u [] (omega (arith, is.2)) (omega arith) is.2,
+    ) refl
+base_again (CountedDown t q) is =
+    rw (
+      wide_at_again 1 MOST_FOLDED t _ (omega (arith, is.1)) is.0 is.1,
+      number_at_again 0 MOST_AMOUNT q [] (omega (arith, is.2)) (omega arith) is.2,
+    ) refl
 base_again (Seat i has) is = seat_again i has is.0 is.1 is.2 is.3
 base_again (Stands p) is = stands_again p p.who.back is.0 is.1 is.2
 base_again (Sleeps c x) is = sleeps_again c x.seat x.holds is.0 is.1 is.2
 
 base_plain : (x : BaseLine) → IsBaseLine x → ArePlain (base_words x)
-base_plain (Folded t) is = (refl, (wide_plain t (omega (arith, is.1)), tt))
-base_plain (Released t u) is =
-    (refl, (wide_plain t (omega (arith, is.1)), (refl, (wide_plain u (omega (arith, is.2)), tt))))
-base_plain (CountedDown t q) is =
-    (refl, (wide_plain t (omega (arith, is.1)), (refl, (wide_plain q (omega (arith, is.2)), tt))))
-base_plain (Seat i has) is = (
-  refl,
-  (
-    wide_plain i (omega (arith, is.0)),
-    (
-      refl,
-      (
-        wide_plain has.calls (omega (arith, is.1)),
-        (
-          refl,
-          (
-            wide_plain has.exclusive (omega (arith, is.2)),
-            (refl, (wide_plain has.shared (omega (arith, is.3)), tt)),
-          ),
-        ),
-      ),
-    ),
-  ),
-)
-base_plain (Stands p) is =
-    (refl, (wide_plain p.who.seat (omega (arith, is.0)), plain_entry (waiting_by p.who.back p) is.1))
-base_plain (Sleeps c x) is = (
-  refl,
-  (
-    wide_plain c (omega (arith, is.0)),
-    (wide_plain x.seat (omega (arith, is.1)), (wide_plain x.holds (omega (arith, is.2)), tt)),
-  ),
-)
+base_plain x is = grind (arith, wide_plain, plain_entry)
 
 -- the first word, and what follows it
 abbrev name_of : BaseLine → List ℕ
@@ -137,11 +88,7 @@ name_of (Sleeps c x) = codes "sleeper"
 
 named : (x : BaseLine) → (rest : Words) × (base_words x ≡ name_of x ∷ rest)
 named (Folded t) = (_, refl)
-named (Released t u) = (_, refl)
-named (CountedDown t q) = (_, refl)
-named (Seat i has) = (_, refl)
-named (Stands p) = (_, refl)
-named (Sleeps c x) = (_, refl)
+named _ = (_, refl)
 
 words_kept : (ws : Words) (w : List ℕ) (rest : Words) → ws ≡ w ∷ rest → ArePlain ws →
     words_of (line_of ws) ≡ ws
@@ -164,28 +111,13 @@ base_lacks x is = line_lacks (base_words x) (base_plain x is)
 -- ---- it is no other line
 
 letter : (x : BaseLine) → 57 < get_or (name_of x) 0 0
-letter (Folded t) = omega arith
-letter (Released t u) = omega arith
-letter (CountedDown t q) = omega arith
-letter (Seat i has) = omega arith
-letter (Stands p) = omega arith
-letter (Sleeps c x) = omega arith
+letter x = grind arith
 
 not_e : (x : BaseLine) → get_or (name_of x) 0 0 ≡ 101 → ⊥
-not_e (Folded t) e = omega (arith, e)
-not_e (Released t u) e = omega (arith, e)
-not_e (CountedDown t q) e = omega (arith, e)
-not_e (Seat i has) e = omega (arith, e)
-not_e (Stands p) e = omega (arith, e)
-not_e (Sleeps c x) e = omega (arith, e)
+not_e x e = grind arith
 
 some_bytes : (x : BaseLine) → 0 < length (name_of x)
-some_bytes (Folded t) = omega arith
-some_bytes (Released t u) = omega arith
-some_bytes (CountedDown t q) = omega arith
-some_bytes (Seat i has) = omega arith
-some_bytes (Stands p) = omega arith
-some_bytes (Sleeps c x) = omega arith
+some_bytes x = grind arith
 
 -- the words of two lines that are the same
 same_first : (x : BaseLine) (w : List ℕ) (ws : Words) → IsBaseLine x → ArePlain (w ∷ ws) →
@@ -223,97 +155,52 @@ short_weight : (ws : Words) → AllByRecursion (λ w. length w ≤ 20) ws → we
 short_weight [] short = omega arith
 short_weight (w ∷ ws) short = omega (arith, short.0, short_weight ws short.1)
 
-digits : (k n : ℕ) → 0 < k → n < 10 ^ k → n < 10 ^ 64 → length (decimal n) ≤ k
-digits = length-decimal-le_wide
-
 few_bytes : (n : ℕ) → n ≤ MOST_AMOUNT → length (decimal n) ≤ 10
-few_bytes n lt = digits 10 n (omega arith) (omega (arith, lt)) (omega (arith, lt))
+few_bytes n lt = length-decimal-le_wide 10 n (omega arith) (omega (arith, lt)) (omega (arith, lt))
 
 folded_bytes : (n : ℕ) → n ≤ MOST_FOLDED → length (decimal n) ≤ 16
-folded_bytes n lt = digits 16 n (omega arith) (omega (arith, lt)) (omega (arith, lt))
+folded_bytes n lt = length-decimal-le_wide 16 n (omega arith) (omega (arith, lt)) (omega (arith, lt))
 
 permit_bytes : (n : ℕ) → n ≤ MOST_BASE_PERMITS → length (decimal n) ≤ 26
-permit_bytes n lt = digits 26 n (omega arith) (omega (arith, lt)) (omega (arith, lt))
+permit_bytes n lt = length-decimal-le_wide 26 n (omega arith) (omega (arith, lt)) (omega (arith, lt))
 
 base_weight : (x : BaseLine) → IsBaseLine x →
     ((p : LinePlace) → IsBaseLine (Stands p) → weight (entry_words (waiting_by p.who.back p)) ≤ 84) →
     weight (base_words x) < 256
-base_weight (Folded t) is stands = omega (arith, folded_bytes t is.1)
-base_weight (Released t u) is stands = omega (arith, folded_bytes t is.1, permit_bytes u is.2)
-base_weight (CountedDown t q) is stands = omega (arith, folded_bytes t is.1, few_bytes q is.2)
-base_weight (Seat i has) is stands =
-    omega (
-      arith,
-      few_bytes i (omega (arith, is.0)),
-      folded_bytes has.calls is.1,
-      few_bytes has.exclusive is.2,
-      permit_bytes has.shared is.3,
-    )
-base_weight (Stands p) is stands = omega (arith, few_bytes p.who.seat (omega (arith, is.0)), stands p is)
-base_weight (Sleeps c x) is stands =
-    omega (
-      arith,
-      few_bytes c (omega (arith, is.0)),
-      few_bytes x.seat (omega (arith, is.1)),
-      few_bytes x.holds is.2,
-    )
+base_weight x is stands = grind (arith, few_bytes, folded_bytes, permit_bytes, stands)
 
 pub base_short : (x : BaseLine) → IsBaseLine x
     → ((p : LinePlace) → IsBaseLine (Stands p)
     → AllByRecursion (λ w. length w ≤ 20) (entry_words (waiting_by p.who.back p))
     × (length (entry_words (waiting_by p.who.back p)) ≤ 4)) → length (base_line x) < 256
 base_short x is stands =
-    let all = base_weight x is (λ p fits. omega (
-      arith,
-      short_weight (entry_words (waiting_by p.who.back p)) (stands p fits).0,
-      (stands p fits).1,
-    )) in
+    let all = base_weight x is (λ p fits. (let short = stands p fits in
+    omega (arith, short_weight (entry_words (waiting_by p.who.back p)) short.0))) in
     omega (arith, line_weight (base_words x), all)
 
 -- ---- a line that may follow is spelt
 
 opening_few : (o : Object) (c : ℕ) → IsOpening o c → opening_count o ≤ MOST_AMOUNT
-opening_few (Lock p) c r = omega arith
-opening_few (ReadWrite p) c r = omega arith
-opening_few (Semaphore p n) c r = omega arith
-opening_few (Latch n) c r = omega (arith, r.1)
+opening_few o c r = grind arith
 
 few_held : (o : Object) (seats : ℕ) (t : BaseSums) (has : SeatBase) → MayHold o seats t has →
     (has.exclusive ≤ MOST_HOLDS) × (has.shared ≤ MOST_BASE_PERMITS)
-few_held (Lock p) seats t has may = (omega (arith, may.0), omega (arith, may.1))
-few_held (ReadWrite p) seats t has may = (omega (arith, may.0), omega (arith, may.1))
-few_held (Semaphore p c) seats t has may = (omega (arith, may.0), may.1)
-few_held (Latch c) seats t has may = (omega (arith, may.0), omega (arith, may.1))
-
-abbrev standing : ℕ → Mode → ℕ → Bool → ℕ → ℕ → End → LinePlace
-standing seat mode n back condition holds how =
-    record {
-      who = record { seat = seat; mode = mode; n = n; back = back };
-      condition = condition;
-      holds = holds;
-      how = how;
-    }
-
-stood : (p : LinePlace) (b : Bool) → p.who.back ≡ b → IsWritten (waiting_by b p) →
-    p ≡ stood_by b (waiting_by b p)
-    → IsWritten (waiting_by p.who.back p) × (p ≡ stood_by p.who.back (waiting_by p.who.back p))
-stood p b back written is =
-    subst (λ (z : Bool). IsWritten (waiting_by z p) × (p ≡ stood_by z (waiting_by z p))) (sym back)
-    (written, is)
+few_held o seats t has may = grind arith
 
 asks_line : (b : Base) (p : LinePlace) → IsInRange b.header → p.who.back ≡ false → Asks b p →
     IsBaseLine (Stands p)
 asks_line b p range back asks =
     let amount = asked_few b.header.object p.who.n asks.amount in
-    let is : p ≡ standing p.who.seat p.who.mode p.who.n false 0 0 end.None =
-    ap (λ (x : Bool). standing p.who.seat p.who.mode p.who.n x p.condition p.holds p.how) back
-    ∙ ap (λ (x : ℕ). standing p.who.seat p.who.mode p.who.n false x p.holds p.how) asks.condition
-    ∙ ap (λ (x : ℕ). standing p.who.seat p.who.mode p.who.n false 0 x p.how) asks.holds
-    ∙ ap (λ (x : End). standing p.who.seat p.who.mode p.who.n false 0 0 x) asks.how in
-    let both =
-    stood p false back
-    (record { words = (refl, refl); amount = omega (arith, amount); condition = omega arith }) is in
-    (omega (arith, range.seats, asks.seat), both.0, both.1)
+    rw back (
+      omega (arith, range.seats, asks.seat),
+      record { words = (refl, refl); amount = omega (arith, amount); condition = omega arith },
+      λ j. record {
+        who = record { seat = p.who.seat; mode = p.who.mode; n = p.who.n; back = false };
+        condition = asks.condition j;
+        holds = asks.holds j;
+        how = asks.how j;
+      },
+    )
 
 gave_few : (b : Base) (i c n : ℕ) → IsInRange b.header → GaveUp b i c n →
     (i ≤ LAST_SEAT) × (c ≤ LAST_CONDITION) × (n ≤ MOST_HOLDS)
@@ -327,17 +214,21 @@ returns_line : (b : Base) (p : LinePlace) → IsInRange b.header → p.who.back 
     IsBaseLine (Stands p)
 returns_line b p range back returns =
     let few = gave_few b p.who.seat p.condition p.holds range returns.gave in
-    let is : p ≡ record {
-      who = coming_back p.who.seat;
-      condition = p.condition;
-      holds = p.holds;
-      how = p.how;
-    } = ap (λ (w : _). record { who = w; condition = p.condition; holds = p.holds; how = p.how })
-    returns.who in
-    let both =
-    stood p true back
-    (record { words = (refl, came_back p.how returns.how); amount = few.2; condition = few.1 }) is in
-    (few.0, both.0, both.1)
+    rw back (
+      few.0,
+      record { words = (refl, came_back p.how returns.how); amount = few.2; condition = few.1 },
+      λ j. record {
+        who = record {
+          seat = p.who.seat;
+          mode = (returns.who j).mode;
+          n = (returns.who j).n;
+          back = true;
+        };
+        condition = p.condition;
+        holds = p.holds;
+        how = p.how;
+      },
+    )
 
 pub may_follow_spelt : (t : BaseSums) (b : Base) (x : BaseLine) → IsInRange b.header →
     t.entries ≤ MOST_FOLDED → MayFollow t b x → IsBaseLine x

@@ -2,7 +2,7 @@
 use Rattle.std.proofs.Common.{◌≡◌, ℕ, zero, suc, ◌+◌, ◌-◌, ◌≤◌, ◌<◌, Bool, true, false, List, [], ◌∷◌, ◌++◌, length, get_or, set, refl, sym, ap, subst, ◌∙◌, arith, length-append}
 use Rattle.std.proofs.lemmas.Bool.{false≢true}
 use Rattle.history_text.specs.Below.{SeatBase, Sleeper, LinePlace, Header, Base, opening_base, sleepers_of, IsInRange}
-use Rattle.history_text.specs.Prelude.{BaseLine, Folded, Released, CountedDown, Seat, Sleeps, Stands, AllRead, after_told, with_lines, base_lines, MOST_LINES, AllSeated, MayFollow, BaseSums, with_sums, no_sums, with_line, Follow, base_by, sums_of, calls_sum, IsUnderWay, lines_by, lines_read, LinesRead, GoodBeginsSo, GoodHas, IsToldBase}
+use Rattle.history_text.specs.Prelude.{BaseLine, Seat, Sleeps, Stands, AllRead, after_told, with_lines, base_lines, MOST_LINES, AllSeated, MayFollow, BaseSums, with_sums, no_sums, with_line, Follow, base_by, sums_of, calls_sum, IsUnderWay, lines_by, lines_read, LinesRead, GoodBeginsSo, GoodHas, IsToldBase}
 use Rattle.history_text.proofs.BaseRetold.{good_follows, good_is_told}
 use Rattle.history_text.proofs.BaseTold.{SoFar, asleep_place, goes_on, header_kept, line_place, stands_seated, told_so_far, whole_told}
 use Rattle.history_text.proofs.BaseWhole.{base-append, follow-append, some_base, told-append}
@@ -42,20 +42,13 @@ to_tell seats t = first_to_tell t.entries + ((seats - t.seats) + places_free t.w
 -- behind one line more, one line fewer may follow
 one_fewer : (t : BaseSums) (b : Base) (x : BaseLine) → IsInRange b.header → length t.waits ≡ 256 →
     MayFollow t b x → suc (to_tell b.header.seats (with_sums t x)) ≤ to_tell b.header.seats t
-one_fewer t b (Folded n) range long may =
-    omega (arith, first_told n may.0.some, ap first_to_tell may.0.none)
-one_fewer t b (Released n u) range long may =
-    omega (arith, first_told n may.0.some, ap first_to_tell may.0.none)
-one_fewer t b (CountedDown n q) range long may =
-    omega (arith, first_told n may.0.some, ap first_to_tell may.0.none)
 one_fewer t b (Seat i has) range long may = omega (arith, may.next, may.seat)
 one_fewer t b (Stands p) range long may =
-    omega (
-      arith,
-      one_taken t.waits p.who.seat (omega (arith, range.seats, long, stands_seated b p may.3)) may.2,
-    )
+    let small = stands_seated b p may.3 in
+    omega (arith, one_taken t.waits p.who.seat (omega (arith, range.seats, small)) may.2)
 one_fewer t b (Sleeps c x) range long may =
     omega (arith, one_taken t.waits x.seat (omega (arith, range.seats, long, may.3.seat)) may.2)
+one_fewer t b x range long may = grind (arith, first_told)
 
 few_more : (done xs : List BaseLine) (t : BaseSums) (b : Base) → SoFar done t b → AllRead b t xs →
     length xs ≤ to_tell b.header.seats t
@@ -88,10 +81,7 @@ module _ (t : BaseSums) (b : Base) (lines : ℕ) (is : IsUnderWay t b lines) whe
   xs = lines_read t b
 
   known : SoFar xs t b
-  known =
-      subst (λ (z : Base). SoFar xs t z) is.base
-      (subst (λ (z : BaseSums). SoFar xs z (base_by b.header xs)) is.told
-      (told_so_far b.header xs is.range is.follow))
+  known = rw (is.told, is.base) at (told_so_far b.header xs is.range is.follow)
 
   pub few : length xs ≤ MOST_LINES
   few =
@@ -104,14 +94,10 @@ module _ (t : BaseSums) (b : Base) (lines : ℕ) (is : IsUnderWay t b lines) whe
   pub may_next : (x : BaseLine) → GoodBeginsSo b.header (xs ++ x ∷ []) → MayFollow t b x
   may_next x (g, more, told, e) =
       let all = good_follows b.header g (xs ++ x ∷ []) more is.range told e in
-      let last = last_may no_sums (opening_base b.header) xs x all in
-      subst (λ (z : BaseSums). MayFollow z b x) is.told
-      (subst (λ (z : Base). MayFollow (sums_of xs) z x) is.base last)
+      rw (is.told, is.base) at (last_may no_sums (opening_base b.header) xs x all)
 
   may_last : (x : BaseLine) → MayFollow t b x → MayFollow (sums_of xs) (base_by b.header xs) x
-  may_last x may =
-      subst (λ (z : Base). MayFollow (sums_of xs) z x) (sym is.base)
-      (subst (λ (z : BaseSums). MayFollow z b x) (sym is.told) may)
+  may_last x may = rw (is.told, is.base) may
 
   follow_more : (x : BaseLine) → MayFollow t b x → Follow b.header (xs ++ x ∷ [])
   follow_more x may =
@@ -141,9 +127,8 @@ module _ (t : BaseSums) (b : Base) (lines : ℕ) (is : IsUnderWay t b lines) whe
       let line = one_line x may in
       let header = header_kept b x in
       record {
-        range = subst IsInRange (sym header) is.range;
-        follow = subst (λ (k : Header). Follow k (lines_read (with_sums t x) (with_line b x))) (sym header)
-            (subst (Follow b.header) (sym line) (follow_more x may));
+        range = rw header is.range;
+        follow = rw (header, line) (follow_more x may);
         base = ap (λ (k : Header). base_by k (lines_read (with_sums t x) (with_line b x))) header
             ∙ ap (base_by b.header) line ∙ base-append (opening_base b.header) xs (x ∷ [])
             ∙ ap (λ (z : Base). with_line z x) is.base;
@@ -154,11 +139,7 @@ module _ (t : BaseSums) (b : Base) (lines : ℕ) (is : IsUnderWay t b lines) whe
 
   module _ (x : BaseLine) (may : MayFollow t b x) where
     pub seat_here : (i : ℕ) (has : SeatBase) → x ≡ Seat i has → i < length b.seats
-    seat_here i has e = let seat = (subst (MayFollow t b) e may).seat in omega (
-      arith,
-      seat,
-      known.summed.length,
-    )
+    seat_here i has e = omega (arith, (subst (MayFollow t b) e may).seat, known.summed.length)
 
     -- one more finds a place in line, or among the sleepers of its condition
     pub place_in_line : (p : LinePlace) → x ≡ Stands p → length b.line < b.header.seats

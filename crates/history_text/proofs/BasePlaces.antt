@@ -3,9 +3,9 @@ use Rattle.std.proofs.Common.{◌≡◌, ℕ, zero, suc, ◌+◌, ◌<◌, eqb, 
 use Rattle.std.specs.List.{AllByRecursion}
 use Rattle.std.proofs.Math.ListN.{set}
 use Rattle.std.proofs.lemmas.List.{map-append}
-use Rattle.history_text.specs.Below.{Arrival, SeatBase, Sleeper, LinePlace, Object, Lock, ReadWrite, Semaphore, Latch, Base, nothing, total, seats_of, times}
+use Rattle.history_text.specs.Below.{SeatBase, Sleeper, LinePlace, Object, Base, nothing, total, seats_of, times}
 use Rattle.history.proofs.Sums.{total_change}
-use Rattle.history.proofs.Times.{one_if, times-append}
+use Rattle.history.proofs.Times.{one_if, times-append, times-line}
 use Rattle.history_text.specs.Prelude.{Seat, Sleeps, first_line, seat_lines, sleeper_lines}
 
 pub seat_lines_push : (i : ℕ) (xs : List SeatBase) (x : SeatBase) (n : ℕ) → i + length xs ≡ n →
@@ -27,14 +27,8 @@ pub sleeper_lines_push : (c : ℕ) (lists : List (List Sleeper)) (n m : ℕ) (x 
     sleeper_lines c (set lists n (get_or lists n [] ++ x ∷ [])) ≡ sleeper_lines c lists ++ Sleeps m x ∷ []
 sleeper_lines_push c [] n m x e l none = absurd (omega arith)
 sleeper_lines_push c (xs ∷ rest) zero m x e l none =
-    let z : sleeper_lines (c + 1) rest ≡ [] = no_lines (c + 1) rest (λ d. none (suc d) (omega arith)) in
-    let q : c ≡ m = omega arith in
-    ap (λ t. map (Sleeps c) (xs ++ x ∷ []) ++ t) z
-    ∙ append-nil (map (Sleeps c) (xs ++ x ∷ []))
-    ∙ map-append (Sleeps c) xs (x ∷ [])
-    ∙ ap (λ (j : ℕ). map (Sleeps c) xs ++ Sleeps j x ∷ []) q
-    ∙ ap (λ t. t ++ Sleeps m x ∷ []) (sym (append-nil (map (Sleeps c) xs)))
-    ∙ ap (λ t. (map (Sleeps c) xs ++ t) ++ Sleeps m x ∷ []) (sym z)
+    let same : c ≡ m = omega arith in
+    simp (no_lines (c + 1) rest (λ d. none (suc d) (omega arith)), map-append, append-nil, ← same)
 sleeper_lines_push c (xs ∷ rest) (suc n) m x e l none =
     ap (λ t. map (Sleeps c) xs ++ t)
     (sleeper_lines_push (c + 1) rest n m x (omega arith) (omega arith)
@@ -44,10 +38,7 @@ sleeper_lines_push c (xs ∷ rest) (suc n) m x e l none =
 -- the first line says no more than this
 pub first_line_same : (o : Object) (a b : Base) → a.entries ≡ b.entries → a.unheld ≡ b.unheld →
     a.count ≡ b.count → first_line o a ≡ first_line o b
-first_line_same (Lock p) a b e u q = cc
-first_line_same (ReadWrite p) a b e u q = cc
-first_line_same (Semaphore p c) a b e u q = cc
-first_line_same (Latch c) a b e u q = cc
+first_line_same o a b e u q = grind arith
 
 -- one seat's part is put into a sum over all
 pub total_put : (n : ℕ) (f : SeatBase → ℕ) (xs : List SeatBase) (i : ℕ) (x : SeatBase) → i < n →
@@ -60,25 +51,18 @@ total_put n f xs i x l m z =
     omega (arith, e, d, z)
 
 -- who waits, once more
-pub times_stands : (i : ℕ) (q : List LinePlace) (p : LinePlace) →
-    times i (seats_of (map (λ p. p.who) (q ++ p ∷ [])))
-    ≡ times i (seats_of (map (λ p. p.who) q)) + one_if (eqb p.who.seat i)
-times_stands i q p =
-    let e : times i (seats_of (map (λ p. p.who) (q ++ p ∷ [])))
-    ≡ times i (seats_of (map (λ p. p.who) q)) + times i (p.who.seat ∷ []) =
-    ap (λ l. times i (seats_of l)) (map-append (λ (p : LinePlace). p.who) q (p ∷ []))
-    ∙ ap (times i) (map-append (λ (a : Arrival). a.seat) (map (λ p. p.who) q) (p.who ∷ []))
-    ∙ times-append i (seats_of (map (λ p. p.who) q)) (p.who.seat ∷ []) in
-    omega (arith, e)
+pub times_standing : (i : ℕ) (p q : List LinePlace) →
+    times i (seats_of (map (λ p. p.who) (p ++ q)))
+    ≡ times i (seats_of (map (λ p. p.who) p)) + times i (seats_of (map (λ p. p.who) q))
+times_standing i p q =
+    rw (map-append (λ (p : LinePlace). p.who) p q)
+    (times-line i (map (λ p. p.who) p) (map (λ p. p.who) q))
 
-times_sleeps : (i : ℕ) (xs : List Sleeper) (x : Sleeper) →
-    times i (map (λ x. x.seat) (xs ++ x ∷ [])) ≡ times i (map (λ x. x.seat) xs) + one_if (eqb x.seat i)
-times_sleeps i xs x =
-    let e : times i (map (λ x. x.seat) (xs ++ x ∷ []))
-    ≡ times i (map (λ x. x.seat) xs) + times i (x.seat ∷ []) =
-    ap (times i) (map-append (λ (x : Sleeper). x.seat) xs (x ∷ []))
-    ∙ times-append i (map (λ x. x.seat) xs) (x.seat ∷ []) in
-    omega (arith, e)
+pub times_sleeping : (i : ℕ) (xs ys : List Sleeper) →
+    times i (map (λ x. x.seat) (xs ++ ys)) ≡ times i (map (λ x. x.seat) xs) + times i (map (λ x. x.seat) ys)
+times_sleeping i xs ys =
+    rw (map-append (λ (x : Sleeper). x.seat) xs ys)
+    (times-append i (map (λ x. x.seat) xs) (map (λ x. x.seat) ys))
 
 pub total_sleeps : (n i : ℕ) (lists : List (List Sleeper)) (c : ℕ) (x : Sleeper) → c < n →
     c < length lists →
@@ -91,8 +75,7 @@ total_sleeps n i lists c x l m =
     (λ d ne. ap of (get_or-set_other lists c d (get_or lists c [] ++ x ∷ []) [] ne)) in
     let d : of (get_or (set lists c (get_or lists c [] ++ x ∷ [])) c []) ≡ of (get_or lists c [] ++ x ∷ []) =
     ap of (get_or-set_same lists c (get_or lists c [] ++ x ∷ []) [] m) in
-    let g = times_sleeps i (get_or lists c []) x in
-    omega (arith, e, d, g)
+    omega (arith, e, d, times_sleeping i (get_or lists c []) (x ∷ []))
 
 -- what follows from each holds of each
 pub each_then : {A : Type 0} (P Q : A → Type 0) → ((x : A) → P x → Q x) → (xs : List A) →

@@ -18,11 +18,8 @@ module _ (text : List ℕ) (h : Head) (based : h.is_based ≡ true) where
       rest ≡ ended (base_line x) ++ after → new ≡ xs ++ x ∷ [] → last ≡ after →
       Begins history_form text h (map Based new) last
   line_begins xs new rest after last x begun good parts more same =
-      subst (Begins history_form text h (map Based new)) (sym same)
-      (subst (λ (l : List Line). Begins history_form text h l after)
-      (sym (ap (λ (l : List BaseLine). map Based l) more ∙ map-append Based xs (x ∷ [])))
-      (one_more history_form text h (map Based xs) rest (base_line x) after (Based x) begun
-      (parts ∙ broken (base_line x) after) (based_item h xs x based good) refl))
+      rw (same, more, map-append Based xs (x ∷ [])) (one_more history_form text h (map Based xs) rest
+      (base_line x) after (Based x) begun (parts ∙ broken (base_line x) after) (based_item h xs x based good) refl)
 
   -- the base was read whole
   pub whole_begins : (xs : List BaseLine) (rest : List ℕ) (b : Base) → IsToldBase h.header b →
@@ -46,11 +43,4 @@ module _ (text : List ℕ) (h : Head) (based : h.is_based ≡ true) where
 -- its numbers are small
 pub told_few : (h : Head) (b : Base) → IsToldBase h.header b →
     (b.entries ≤ MOST_FOLDED) × (calls_sum b.seats ≤ MOST_FOLDED)
-told_few h b is = let few = sum_few b is.good in let most = is.good.entries in (
-  most,
-  omega (
-    arith,
-    few,
-    most,
-  ),
-)
+told_few h b is = (is.good.entries, omega (arith, sum_few b is.good, is.good.entries))

@@ -1,7 +1,7 @@
 -- The lines of a base and good bases.
 use Rattle.std.proofs.Common.{◌≡◌, ◌≤◌, List, [], ◌∷◌, ap, ◌∙◌, sym, subst, refl, arith}
-use Rattle.history_text.specs.Below.{Header, Base, opening_base, seat_of, Object, Lock, ReadWrite, Semaphore, Latch, IsGood, IsInRange}
-use Rattle.history_text.specs.Prelude.{BaseLine, Folded, Released, CountedDown, Seat, Stands, Sleeps, AllRead, after_told, with_lines, base_lines, first_line, AllSeated, MayFollow, BaseSums, with_sums, no_sums, with_line, IsToldBase, base_by}
+use Rattle.history_text.specs.Below.{Header, Base, opening_base, seat_of, Object, IsGood, IsInRange}
+use Rattle.history_text.specs.Prelude.{BaseLine, Seat, Stands, Sleeps, AllRead, after_told, with_lines, base_lines, first_line, AllSeated, MayFollow, BaseSums, with_sums, no_sums, with_line, IsToldBase, base_by}
 use Rattle.history_text.specs.inner.BaseFollowing.{AllFollow, HasShape}
 use Rattle.history_text.proofs.BaseRetold.{good_told}
 use Rattle.history_text.proofs.BaseTold.{gave_moved, header_after, header_kept, stands_moved, whole_told}
@@ -20,13 +20,8 @@ of_header k b range is =
 -- lines behind the last seat leave the seats
 one_kept : (t : BaseSums) (b : Base) (x : BaseLine) → AllSeated b.header t → MayFollow t b x →
     ((with_line b x).seats ≡ b.seats) × AllSeated b.header (with_sums t x)
-one_kept t b (Folded n) all may = (refl, record { begun = may.0.some; seats = all.seats })
-one_kept t b (Released n u) all may = (refl, record { begun = may.0.some; seats = all.seats })
-one_kept t b (CountedDown n q) all may = (refl, record { begun = may.0.some; seats = all.seats })
-one_kept t b (Seat i has) all may =
-    let n = may.next in let l = may.seat in let e = all.seats in absurd (omega (arith, n, l, e))
-one_kept t b (Stands p) all may = (refl, record { begun = all.begun; seats = all.seats })
-one_kept t b (Sleeps c x) all may = (refl, record { begun = all.begun; seats = all.seats })
+one_kept t b (Seat i has) all may = absurd (omega (arith, may.next, may.seat, all.seats))
+one_kept t b x all may = (refl, assumption)
 
 seats_kept : (t : BaseSums) (b : Base) (xs : List BaseLine) → AllSeated b.header t → AllRead b t xs →
     (with_lines b xs).seats ≡ b.seats
@@ -40,14 +35,6 @@ seats_kept t b (x ∷ xs) all read =
 -- what may follow under the base so far may follow under the whole one
 one_follows : (t : BaseSums) (a b : Base) (x : BaseLine) → b.header ≡ a.header →
     (AllSeated b.header t → b.seats ≡ a.seats) → MayFollow t b x → MayFollow t a x
-one_follows t a b (Folded n) h s may =
-    subst (λ (k : Header). MayFollow t (record b { header = k }) (Folded n)) h may
-one_follows t a b (Released n u) h s may =
-    subst (λ (k : Header). MayFollow t (record b { header = k }) (Released n u)) h may
-one_follows t a b (CountedDown n q) h s may =
-    subst (λ (k : Header). MayFollow t (record b { header = k }) (CountedDown n q)) h may
-one_follows t a b (Seat i has) h s may =
-    subst (λ (k : Header). MayFollow t (record b { header = k }) (Seat i has)) h may
 one_follows t a b (Stands p) h s may = (
   subst (λ k. AllSeated k t) h may.0,
   may.1,
@@ -60,6 +47,7 @@ one_follows t a b (Sleeps c x) h s may = (
   may.2,
   gave_moved b a x.seat c x.holds h (s may.0) may.3,
 )
+one_follows t a b x h s may = subst (λ (k : Header). MayFollow t (record b { header = k }) x) h may
 
 read_follows : (t : BaseSums) (a b : Base) (xs : List BaseLine) → with_lines b xs ≡ a → AllRead b t xs →
     AllFollow a t xs
@@ -70,17 +58,11 @@ read_follows t a b (x ∷ xs) e read = (
   read_follows (with_sums t x) a (with_line b x) xs e read.1,
 )
 
--- Each line of a good base may follow those before it, also as it is read, and all seats are then told.
-pub good_reads : (b : Base) → IsGoodOf b → AllRead (opening_base b.header) no_sums (base_lines b)
-good_reads b of = (good_told b of.range of.good of.some).follow
-
--- a good base is read as it is told
-pub good_again : (b : Base) → IsGoodOf b → base_by b.header (base_lines b) ≡ b
-good_again b of = (good_told b of.range of.good of.some).same
-
+-- each line of a good base may follow those before it
 pub good_follows : (b : Base) → IsGoodOf b → AllFollow b no_sums (base_lines b)
 good_follows b of =
-    read_follows no_sums b (opening_base b.header) (base_lines b) (good_again b of) (good_reads b of)
+    let told = good_told b of.range of.good of.some in
+    read_follows no_sums b (opening_base b.header) (base_lines b) told.same told.follow
 
 -- lines that may follow each other, and tell all seats, are those of a good base, the one that they say
 pub reads_good : (k : Header) (xs : List BaseLine) → IsInRange k → AllRead (opening_base k) no_sums xs →
@@ -93,10 +75,7 @@ reads_good k xs range read all =
 -- a base that has the shape of its object, and each of whose lines may follow those before it, is good
 first_read : (b : Base) (o : Object) → MayFollow no_sums b (first_line o b) →
     (1 ≤ b.entries) × MayFollow no_sums (opening_base b.header) (first_line o b)
-first_read b (Lock p) may = (may.0.some, may)
-first_read b (ReadWrite p) may = (may.0.some, may)
-first_read b (Semaphore p c) may = (may.0.some, may)
-first_read b (Latch c) may = (may.0.some, may)
+first_read b o may = grind arith
 
 follows_told : (b : Base) → IsInRange b.header → HasShape b → AllFollow b no_sums (base_lines b) → IsTold b
 follows_told b range shape follow =
@@ -104,7 +83,7 @@ follows_told b range shape follow =
     (λ xs known. (let first = first_read b b.header.object known.0 in (first.0, first.1, known.1)))
     (λ n done t a so at l xs known. (
       one_follows t a b (Seat n (seat_of b n)) (sym at.agrees.header)
-          (λ all. (let e = all.seats in let s = at.seats in absurd (omega (arith, e, s, l)))) known.0,
+          (λ all. absurd (omega (arith, all.seats, at.seats, l))) known.0,
       known.1,
     ))
     (λ p front rest done t a so at e xs known. (

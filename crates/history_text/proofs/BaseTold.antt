@@ -1,9 +1,11 @@
 -- What lines of a base that follow one another tell so far: what holds of the numbers and of the base.
-use Rattle.std.proofs.Common.{◌≡◌, ◌≢◌, inl, inr, ⊎_elim, ℕ, zero, suc, ◌+◌, ◌<◌, ◌≤◌, Bool, true, false, cond, eqb, ltb, List, [], ◌∷◌, ◌++◌, length, map, get_or, take, refl, ap, ◌∙◌, sym, subst, arith, ℤ, pos, neg_ℤ, ◌⊎◌, ◌≤ℤ◌, ◌+ℤ◌, ◌-ℤ◌, ltb-true, append-nil, append_assoc, get_or-set_same, get_or-set_other, length-take-le, length-set, take_all}
+use Rattle.std.proofs.Common.{◌≡◌, ◌≢◌, inl, inr, ⊎_elim, ℕ, zero, suc, ◌+◌, ◌<◌, ◌≤◌, true, false, cond, eqb, List, [], ◌∷◌, ◌++◌, length, map, get_or, take, refl, ap, ◌∙◌, sym, subst, arith, ℤ, pos, neg_ℤ, ◌⊎◌, ◌≤ℤ◌, ◌+ℤ◌, ◌-ℤ◌, append-nil, append_assoc, get_or-set_same, get_or-set_other, length-take-le, length-set, take_all}
 use Rattle.std.specs.List.{AllByRecursion}
 use lib.IntN.{negsuc}
 use Rattle.std.proofs.Math.ListN.{set}
 use Rattle.std.proofs.lemmas.Bool.{cases_eq, cases_lt}
+use Rattle.std.proofs.lemmas.Bool.Decides.{nat_tests}
+use Rattle.deciding.proofs.HoldsFollow.{at_set}
 use Rattle.std.proofs.lemmas.Int.{ints}
 use Rattle.std.proofs.lemmas.List.{get_or_past, map-append, length-map, length-replicate, take_more_set}
 use Rattle.history_text.specs.Below.{Arrival, SeatBase, Sleeper, LinePlace, Mode, X, S, Header, Object, Lock, ReadWrite, Semaphore, Latch, Base, based, each_below, nothing, opening_base, seat_of, sleepers_of, free, held, total, MOST_AMOUNT, MOST_BASE_PERMITS, MOST_FOLDED, MOST_SEATS, AreCounted, AreHeld, GaveUp, IsGood, SleepsWell, StandsWell, IsInRange, created, is_latch, is_lock, is_semaphore, opening_count, IsOwned, most_exclusive, most_shared, line, at_least_none, IsOneWait, seats_of, times}
@@ -12,9 +14,9 @@ use Rattle.history.proofs.LineLemmas.{line_at_first}
 use Rattle.history.proofs.OpeningBase.{no_seat, nothing_summed, opening_good}
 use Rattle.history.proofs.SleepLemmas.{times-waiting}
 use Rattle.history.proofs.Sums.{total_nothing, total_same}
-use Rattle.history.proofs.Times.{each-append, once_other, once_same, one_if, pigeonhole_less, total_part}
+use Rattle.history.proofs.Times.{each-append, one_if, pigeonhole_less, total_part}
 use Rattle.history_text.specs.Prelude.{BaseLine, Folded, Released, CountedDown, Seat, Stands, Sleeps, AllRead, with_lines, after_told, Follow, base_by, sums_of, IsToldBase, base_lines, first_line, seat_lines, sleeper_lines, lines_so_far, AllSeated, IsFirst, IsFree, IsSeated, MayFollow, MayHold, BaseSums, with_sums, no_sums, with_line}
-use Rattle.history_text.proofs.BasePlaces.{each_then, first_line_same, no_lines, seat_lines_push, sleeper_lines_push, times_stands, total_put, total_sleeps}
+use Rattle.history_text.proofs.BasePlaces.{each_then, first_line_same, no_lines, seat_lines_push, sleeper_lines_push, times_standing, total_put, total_sleeps}
 
 -- how often a seat waits
 abbrev pub waits_of : Base → ℕ → ℕ
@@ -122,54 +124,13 @@ asleep_place done t b so c x well is_free =
         total_part b.header.conditions (λ d. times i (map (λ y. y.seat) (sleepers_of b d))) c well.condition
 
 -- what waits well speaks of the header and the seats alone
-gave_as : (a b : Base) (i c n : ℕ) → GaveUp a i c n →
-    GaveUp (record b { header = a.header; seats = a.seats }) i c n
-gave_as a b i c n g =
-    record {
-      lock = g.lock;
-      seat = g.seat;
-      condition = g.condition;
-      some = g.some;
-      most = g.most;
-      nothing = g.nothing;
-    }
-
-stands_as : (a b : Base) (p : LinePlace) → StandsWell a p →
-    StandsWell (record b { header = a.header; seats = a.seats }) p
-stands_as a b p w =
-    ⊎_elim (λ x. inl (
-      x.0,
-      record {
-        seat = x.1.seat;
-        mode = x.1.mode;
-        amount = x.1.amount;
-        owns = x.1.owns;
-        condition = x.1.condition;
-        holds = x.1.holds;
-        how = x.1.how;
-      },
-    ))
-    (λ r. inr (
-      r.0,
-      record {
-        who = r.1.who;
-        gave = gave_as a b p.who.seat p.condition p.holds r.1.gave;
-        how = r.1.how;
-      },
-    ))
-    w
-
 pub gave_moved : (a b : Base) (i c n : ℕ) → a.header ≡ b.header → a.seats ≡ b.seats → GaveUp a i c n →
     GaveUp b i c n
-gave_moved a b i c n h s g =
-    subst (λ k. GaveUp (record b { header = k }) i c n) h
-    (subst (λ l. GaveUp (record b { header = a.header; seats = l }) i c n) s (gave_as a b i c n g))
+gave_moved a b i c n h s g = grind (arith, g.nothing)
 
 pub stands_moved : (a b : Base) (p : LinePlace) → a.header ≡ b.header → a.seats ≡ b.seats → StandsWell a p →
     StandsWell b p
-stands_moved a b p h s w =
-    subst (λ k. StandsWell (record b { header = k }) p) h
-    (subst (λ l. StandsWell (record b { header = a.header; seats = l }) p) s (stands_as a b p w))
+stands_moved a b p h s w = grind (arith, gave_moved a b p.who.seat p.condition p.holds h s)
 
 pub no_sleepers : (k : Header) (c : ℕ) → sleepers_of (opening_base k) c ≡ []
 no_sleepers k c =
@@ -181,16 +142,7 @@ no_sleepers k c =
 -- nothing was told
 module _ (k : Header) (range : IsInRange k) where
   held_none : (o : Object) → AreHeld o (opening_base k) → HeldSoFar o no_sums (opening_base k)
-  held_none (Lock p) v = v
-  held_none (ReadWrite p) v = v
-  held_none (Semaphore p c) v =
-      record {
-        exclusive = v.exclusive;
-        shared = v.shared;
-        lowest = omega arith;
-        highest = λ q. (let some = range.some_seat in absurd (omega (arith, some, q)));
-      }
-  held_none (Latch c) v = v
+  held_none o v = grind (arith, range.some_seat)
 
   pub nobody_waits : (i : ℕ) → waits_of (opening_base k) i ≡ 0
   nobody_waits i =
@@ -221,7 +173,7 @@ module _ (k : Header) (range : IsInRange k) where
         waited = record {
           places = length-replicate MOST_SEATS false;
           free = λ i l f. nobody_waits i;
-          once = λ i. (let z = nobody_waits i in omega (arith, z));
+          once = λ i. omega (arith, nobody_waits i);
           conditions = length-each k.conditions (λ c. []);
           line = tt;
           sleepers = (opening_good k range).sleepers;
@@ -241,59 +193,24 @@ module _ (done : List BaseLine) (t : BaseSums) (b : Base) (so : SoFar done t b) 
   then = record t { entries = n; unheld = u }
 
   held_first : (o : Object) → t.entries ≡ 0 → HeldSoFar o t b → HeldSoFar o then now
-  held_first (Lock p) z v =
-      record { one = v.one; alone = v.alone; exclusive = v.exclusive; shared = v.shared }
-  held_first (ReadWrite p) z v =
-      record { one = v.one; alone = v.alone; exclusive = v.exclusive; shared = v.shared }
-  held_first (Semaphore p c) z v =
-      let none = so.spelt.none z in
-      let nobody : t.seats ≡ 0 = none.0 in
-      let nothing_held : t.shared ≡ 0 = none.1 in
-      let some = so.range.some_seat in
-      record {
-        exclusive = v.exclusive;
-        shared = v.shared;
-        lowest = omega (arith, nothing_held);
-        highest = λ q. absurd (omega (arith, nobody, some, q));
-      }
-  held_first (Latch c) z v = v
+  held_first o z v = grind (arith, so.spelt.none z, so.range.some_seat)
 
   pub first_told : (x : BaseLine) → v ≡ u → IsFirst t n → AreCounted b.header.object now →
       first_line b.header.object now ≡ x → SoFar (done ++ x ∷ []) then now
   first_told x same first counted e =
       record {
         range = so.range;
-        summed = record {
-          entries = refl;
-          unheld = same;
-          length = so.summed.length;
-          seats = so.summed.seats;
-          rest = so.summed.rest;
-          calls = so.summed.calls;
-          exclusive = so.summed.exclusive;
-          shared = so.summed.shared;
-          few = let few = so.summed.few in let none = first.none in omega (arith, few, none);
-          most = first.most;
-        };
+        summed = let few : t.calls ≤ n = omega (arith, so.summed.few, first.none) in assumption;
         counted = counted;
         held = held_first b.header.object first.none so.held;
-        waited = record {
-          places = so.waited.places;
-          free = so.waited.free;
-          once = so.waited.once;
-          conditions = so.waited.conditions;
-          line = each_then (StandsWell b) (StandsWell now) (λ p w. stands_moved b now p refl refl w) b.line
-              so.waited.line;
-          sleepers = λ c. each_then (SleepsWell b c) (SleepsWell now c)
-              (λ y w. gave_moved b now y.seat c y.holds refl refl w) (sleepers_of b c)
-              (so.waited.sleepers c);
-          awake = so.waited.awake;
-          later = so.waited.later;
-          nobody = so.waited.nobody;
-        };
+        waited = let line = each_then (StandsWell b) (StandsWell now)
+            (λ p w. stands_moved b now p refl refl w) b.line so.waited.line in
+            let sleepers = λ (c : ℕ). each_then (SleepsWell b c) (SleepsWell now c)
+            (λ y w. gave_moved b now y.seat c y.holds refl refl w) (sleepers_of b c) (so.waited.sleepers c) in
+            assumption (line, sleepers, so.waited);
         spelt = record {
-          none = λ z. (let some = first.some in absurd (omega (arith, some, z)));
-          some = λ l. spelt;
+          none = λ z. absurd (omega (arith, first.some, z));
+          some = λ l. simp (← e, none.0, none.2, nobody.0, no_lines 0 b.sleepers nobody.1);
         };
       }
     where
@@ -301,35 +218,14 @@ module _ (done : List BaseLine) (t : BaseSums) (b : Base) (so : SoFar done t b) 
       none = so.spelt.none first.none
 
       nobody : (b.line ≡ []) × ((c : ℕ) → sleepers_of b c ≡ [])
-      nobody = so.waited.nobody
-          (let z : t.seats ≡ 0 = none.0 in let l = so.range.some_seat in omega (arith, z, l))
-
-      spelt : done ++ x ∷ [] ≡ lines_so_far then now
-      spelt =
-          ap (λ l. l ++ x ∷ []) none.2
-          ∙ ap (λ y. y ∷ []) (sym e)
-          ∙ ap (λ l. first_line b.header.object now ∷ (seat_lines 0 (take 0 b.seats) ++ (map Stands [] ++ l)))
-          (sym (no_lines 0 b.sleepers nobody.1))
-          ∙ ap (λ l. first_line b.header.object now ∷ (seat_lines 0 (take 0 b.seats) ++ (map Stands l ++
-          sleeper_lines 0 b.sleepers))) (sym nobody.0)
-          ∙ ap (λ m. first_line b.header.object now ∷ (seat_lines 0 (take m b.seats) ++ (map Stands b.line ++
-          sleeper_lines 0 b.sleepers))) (sym none.0)
-
--- one line behind a part that is empty
-swap_nil : {A : Type 0} (xs ys : List A) (x : A) → ys ≡ [] → (xs ++ ys) ++ x ∷ [] ≡ (xs ++ x ∷ []) ++ ys
-swap_nil xs ys x z =
-    ap (λ l. (xs ++ l) ++ x ∷ []) z
-    ∙ ap (λ l. l ++ x ∷ []) (append-nil xs)
-    ∙ sym (append-nil (xs ++ x ∷ []))
-    ∙ ap (λ l. (xs ++ x ∷ []) ++ l) (sym z)
+      nobody = so.waited.nobody (omega (arith, none.0, so.range.some_seat))
 
 -- a part is no more than the sum
 part : (t : BaseSums) (b : Base) → Summed t b → (f : SeatBase → ℕ) → f nothing ≡ 0 → (j : ℕ) →
     f (seat_of b j) ≤ total b.header.seats (λ i. f (seat_of b i))
 part t b sums f z j =
     ⊎_elim (λ l. total_part b.header.seats (λ i. f (seat_of b i)) j l)
-    (λ l. (let m = sums.seats in
-    let e : f (seat_of b j) ≡ 0 = ap f (sums.rest j (omega (arith, m, l))) ∙ z in omega (arith, e)))
+    (λ l. omega (arith, ap f (sums.rest j (omega (arith, sums.seats, l))), z))
     (cases_lt j b.header.seats)
 
 -- a seat
@@ -351,16 +247,13 @@ module _ (done : List BaseLine) (t : BaseSums) (b : Base) (so : SoFar done t b) 
   sums = so.summed
 
   within : i < length b.seats
-  within = let l = sums.length in let m = seated.seat in omega (arith, l, m)
+  within = omega (arith, sums.length, seated.seat)
 
-  here : (j : ℕ) → j ≡ i → seat_of with_seat j ≡ has
-  here j e = ap (λ n. get_or (set b.seats i has) n nothing) e ∙ get_or-set_same b.seats i has nothing within
-
-  other : (j : ℕ) → j ≢ i → seat_of with_seat j ≡ seat_of b j
-  other j ne = get_or-set_other b.seats i j has nothing ne
+  now_at : (j : ℕ) → seat_of with_seat j ≡ cond (eqb i j) has (seat_of b j)
+  now_at j = at_set b.seats i j has nothing within
 
   was_nothing : seat_of b i ≡ nothing
-  was_nothing = sums.rest i (let e = seated.next in omega (arith, e))
+  was_nothing = sums.rest i (omega (arith, seated.next))
 
   more : (f : SeatBase → ℕ) → f nothing ≡ 0 →
       total b.header.seats (λ j. f (seat_of with_seat j))
@@ -368,12 +261,10 @@ module _ (done : List BaseLine) (t : BaseSums) (b : Base) (so : SoFar done t b) 
   more f z = total_put b.header.seats f b.seats i has seated.seat within (ap f was_nothing ∙ z)
 
   none_exclusive : t.exclusive ≡ 0 → (j : ℕ) → (seat_of b j).exclusive ≡ 0
-  none_exclusive z j =
-      let p = part t b sums (λ x. x.exclusive) refl j in let e = sums.exclusive in omega (arith, p, e, z)
+  none_exclusive z j = omega (arith, part t b sums (λ x. x.exclusive) refl j, sums.exclusive, z)
 
   none_shared : t.shared ≡ 0 → (j : ℕ) → (seat_of b j).shared ≡ 0
-  none_shared z j =
-      let p = part t b sums (λ x. x.shared) refl j in let e = sums.shared in omega (arith, p, e, z)
+  none_shared z j = omega (arith, part t b sums (λ x. x.shared) refl j, sums.shared, z)
 
   summed_seat : Summed seat_told with_seat
   summed_seat =
@@ -381,9 +272,8 @@ module _ (done : List BaseLine) (t : BaseSums) (b : Base) (so : SoFar done t b) 
         entries = sums.entries;
         unheld = sums.unheld;
         length = length-set b.seats i has ∙ sums.length;
-        seats = let e = seated.next in let l = seated.seat in omega (arith, e, l);
-        rest = λ j l. (let e = seated.next in let n = sums.rest j (omega (arith, l)) in
-            let ne : j ≢ i = omega (arith, e, l) in other j ne ∙ n);
+        seats = omega (arith, seated.next, seated.seat);
+        rest = λ j l. grind (arith, nat_tests, now_at j, sums.rest j, seated.next);
         calls = more (λ x. x.calls) refl ∙ ap (λ n. n + has.calls) sums.calls;
         exclusive = more (λ x. x.exclusive) refl ∙ ap (λ n. n + has.exclusive) sums.exclusive;
         shared = more (λ x. x.shared) refl ∙ ap (λ n. n + has.shared) sums.shared;
@@ -397,89 +287,29 @@ module _ (done : List BaseLine) (t : BaseSums) (b : Base) (so : SoFar done t b) 
       (has.shared ≡ 0) ⊎ (t.exclusive ≡ 0) → IsOwned (based with_seat) []
   owned_seat was few together no_owner no_reader =
       record {
-        one = λ j k p q. one j k p q (cases_eq j i) (cases_eq k i);
-        alone = λ j k p q. alone j k p q (cases_eq j i) (cases_eq k i);
-        exclusive = λ j. ⊎_elim
-            (λ e. (let h : (seat_of with_seat j).exclusive ≡ has.exclusive =
-            ap (λ (x : SeatBase). x.exclusive) (here j e)
-            in omega (arith, h, few)))
-            (λ ne. (let h : (seat_of with_seat j).exclusive ≡ (seat_of b j).exclusive =
-            ap (λ (x : SeatBase). x.exclusive) (other j ne) in
-            let w = was.exclusive j in omega (arith, h, w)))
-            (cases_eq j i);
-        shared = let m = more (λ x. x.shared) refl in let e = sums.shared in omega (arith, m, e, together);
+        one = λ j k. grind (arith, nat_tests, now_at j, now_at k, was.one j k, none_exclusive);
+        alone = λ j k. grind (arith, nat_tests, now_at j, now_at k, was.alone j k, none_exclusive, none_shared);
+        exclusive = λ j. grind (arith, nat_tests, now_at j, was.exclusive j);
+        shared = omega (arith, more (λ x. x.shared) refl, sums.shared, together);
       }
-    where
-      ex : (j : ℕ) → j ≢ i → 0 < (seat_of with_seat j).exclusive → 0 < (seat_of b j).exclusive
-      ex j ne p = subst (λ (x : SeatBase). 0 < x.exclusive) (other j ne) p
-
-      sh : (j : ℕ) → j ≢ i → 0 < (seat_of with_seat j).shared → 0 < (seat_of b j).shared
-      sh j ne p = subst (λ (x : SeatBase). 0 < x.shared) (other j ne) p
-
-      ex_here : (j : ℕ) → j ≡ i → 0 < (seat_of with_seat j).exclusive → 0 < has.exclusive
-      ex_here j e p = subst (λ (x : SeatBase). 0 < x.exclusive) (here j e) p
-
-      sh_here : (j : ℕ) → j ≡ i → 0 < (seat_of with_seat j).shared → 0 < has.shared
-      sh_here j e p = subst (λ (x : SeatBase). 0 < x.shared) (here j e) p
-
-      no_ex : (j : ℕ) → 0 < has.exclusive → 0 < (seat_of b j).exclusive → ⊥
-      no_ex j p q =
-          ⊎_elim (λ z. omega (arith, z, p))
-          (λ z. (let n = none_exclusive z.0 j in omega (arith, n, q))) no_owner
-
-      no_sh : (j : ℕ) → 0 < has.exclusive → 0 < (seat_of b j).shared → ⊥
-      no_sh j p q =
-          ⊎_elim (λ z. omega (arith, z, p))
-          (λ z. (let n = none_shared z.1 j in omega (arith, n, q))) no_owner
-
-      no_ex_beside : (j : ℕ) → 0 < has.shared → 0 < (seat_of b j).exclusive → ⊥
-      no_ex_beside j p q =
-          ⊎_elim (λ z. omega (arith, z, p))
-          (λ z. (let n = none_exclusive z j in omega (arith, n, q))) no_reader
-
-      one : (j k : ℕ) → 0 < (seat_of with_seat j).exclusive → 0 < (seat_of with_seat k).exclusive →
-          (j ≡ i) ⊎ (j ≢ i) → (k ≡ i) ⊎ (k ≢ i) → j ≡ k
-      one j k p q (inl e) (inl d) = e ∙ sym d
-      one j k p q (inl e) (inr d) = absurd (no_ex k (ex_here j e p) (ex k d q))
-      one j k p q (inr e) (inl d) = absurd (no_ex j (ex_here k d q) (ex j e p))
-      one j k p q (inr e) (inr d) = was.one j k (ex j e p) (ex k d q)
-
-      alone : (j k : ℕ) → 0 < (seat_of with_seat j).exclusive → 0 < (seat_of with_seat k).shared →
-          (j ≡ i) ⊎ (j ≢ i) → (k ≡ i) ⊎ (k ≢ i) → j ≡ k
-      alone j k p q (inl e) (inl d) = e ∙ sym d
-      alone j k p q (inl e) (inr d) = absurd (no_sh k (ex_here j e p) (sh k d q))
-      alone j k p q (inr e) (inl d) = absurd (no_ex_beside j (sh_here k d q) (ex j e p))
-      alone j k p q (inr e) (inr d) = was.alone j k (ex j e p) (sh k d q)
 
   held_seat : (o : Object) → b.header.object ≡ o → HeldSoFar o t b → MayHold o b.header.seats t has →
       HeldSoFar o seat_told with_seat
   held_seat (Lock p) q v may =
-      let none : t.shared ≡ 0 =
-      (let a = v.shared in let m = ap most_shared q in let e = sums.shared in omega (arith, a, m, e)) in
-      owned_seat v (let m = ap most_exclusive q in let l = may.0 in omega (arith, m, l))
-      (let z = may.1 in omega (arith, z, none))
+      let none : t.shared ≡ 0 = omega (arith, v.shared, ap most_shared q, sums.shared) in
+      owned_seat v (omega (arith, ap most_exclusive q, may.0)) (omega (arith, may.1, none))
       (⊎_elim (λ z. inr (z, none)) (λ z. inl z) may.2) (inl may.1)
   held_seat (ReadWrite p) q v may =
-      owned_seat v (let m = ap most_exclusive q in let l = may.0 in omega (arith, m, l))
-      (let m = ap most_shared q in let l = may.1 in omega (arith, m, l)) may.2 may.3
+      owned_seat v (omega (arith, ap most_exclusive q, may.0)) (omega (arith, ap most_shared q, may.1))
+      may.2 may.3
   held_seat (Semaphore p c) q v may =
       record {
-        exclusive = λ j. ⊎_elim (λ e. ap (λ (x : SeatBase). x.exclusive) (here j e) ∙ may.0)
-            (λ ne. ap (λ (x : SeatBase). x.exclusive) (other j ne) ∙ v.exclusive j) (cases_eq j i);
-        shared = λ j. ⊎_elim
-            (λ e. subst (λ (x : SeatBase). x.shared ≤ MOST_BASE_PERMITS) (sym (here j e)) may.1)
-            (λ ne. subst (λ (x : SeatBase). x.shared ≤ MOST_BASE_PERMITS) (sym (other j ne)) (v.shared j))
-            (cases_eq j i);
+        exclusive = λ j. grind (arith, nat_tests, now_at j, v.exclusive j);
+        shared = λ j. grind (arith, nat_tests, now_at j, v.shared j);
         lowest = may.2;
         highest = may.3;
       }
-  held_seat (Latch c) q v may = λ j m. by m j
-    where
-      by : (m : Mode) (j : ℕ) → held (based with_seat) [] j m ≡ 0
-      by X j = ⊎_elim (λ e. ap (λ (x : SeatBase). x.exclusive) (here j e) ∙ may.0)
-          (λ ne. ap (λ (x : SeatBase). x.exclusive) (other j ne) ∙ v j X) (cases_eq j i)
-      by S j = ⊎_elim (λ e. ap (λ (x : SeatBase). x.shared) (here j e) ∙ may.1)
-          (λ ne. ap (λ (x : SeatBase). x.shared) (other j ne) ∙ v j S) (cases_eq j i)
+  held_seat (Latch c) q v may = λ j m. grind (arith, nat_tests, now_at j, v j X, v j S)
 
   pub seat_follows : AreCounted b.header.object with_seat →
       SoFar (done ++ Seat i has ∷ []) seat_told with_seat
@@ -489,29 +319,23 @@ module _ (done : List BaseLine) (t : BaseSums) (b : Base) (so : SoFar done t b) 
         summed = summed_seat;
         counted = counted;
         held = held_seat b.header.object refl so.held seated.holds;
-        waited = record {
-          places = so.waited.places;
-          free = so.waited.free;
-          once = so.waited.once;
-          conditions = so.waited.conditions;
-          line = subst (AllByRecursion (StandsWell with_seat)) (sym nobody.0) tt;
-          sleepers = λ c. subst (AllByRecursion (SleepsWell with_seat c)) (sym (nobody.1 c)) tt;
-          awake = so.waited.awake;
-          later = so.waited.later;
-          nobody = λ l. nobody;
-        };
+        waited = let line = subst (AllByRecursion (StandsWell with_seat)) (sym nobody.0) tt in
+            let sleepers = λ (c : ℕ). subst (AllByRecursion (SleepsWell with_seat c)) (sym (nobody.1 c)) tt in
+            assumption (line, sleepers, nobody, so.waited);
         spelt = record {
-          none = λ z. (let some = seated.begun in absurd (omega (arith, some, z)));
-          some = λ l. spelt;
+          none = λ z. absurd (omega (arith, seated.begun, z));
+          some = λ l. simp (so.spelt.some seated.begun, none_behind, seats_now, append-nil, same_first);
         };
       }
     where
       nobody : (b.line ≡ []) × ((c : ℕ) → sleepers_of b c ≡ [])
-      nobody = so.waited.nobody (let e = seated.next in let l = seated.seat in omega (arith, e, l))
+      nobody = so.waited.nobody (omega (arith, seated.next, seated.seat))
 
       none_behind : map Stands b.line ++ sleeper_lines 0 b.sleepers ≡ []
-      none_behind =
-          ap (λ l. map Stands l ++ sleeper_lines 0 b.sleepers) nobody.0 ∙ no_lines 0 b.sleepers nobody.1
+      none_behind = simp (nobody.0, no_lines 0 b.sleepers nobody.1)
+
+      same_first : first_line b.header.object b ≡ first_line b.header.object with_seat
+      same_first = first_line_same b.header.object b with_seat refl refl refl
 
       seats_now : seat_lines 0 (take (t.seats + 1) (set b.seats i has))
           ≡ seat_lines 0 (take t.seats b.seats) ++ Seat i has ∷ []
@@ -519,45 +343,19 @@ module _ (done : List BaseLine) (t : BaseSums) (b : Base) (so : SoFar done t b) 
           ap (λ n. seat_lines 0 (take (n + 1) (set b.seats i has))) (sym seated.next)
           ∙ ap (seat_lines 0) (take_more_set b.seats i has within)
           ∙ seat_lines_push 0 (take i b.seats) has i
-          (let l = length-take-le i b.seats (let w = within in omega (arith, w)) in omega (arith, l))
+          (omega (arith, length-take-le i b.seats (omega (arith, within))))
           ∙ ap (λ n. seat_lines 0 (take n b.seats) ++ Seat i has ∷ []) seated.next
-
-      spelt : done ++ Seat i has ∷ [] ≡ lines_so_far seat_told with_seat
-      spelt =
-          ap (λ l. l ++ Seat i has ∷ []) (so.spelt.some seated.begun)
-          ∙ ap (λ l. first_line b.header.object b ∷ l) (swap_nil (seat_lines 0 (take t.seats b.seats))
-          (map Stands b.line ++ sleeper_lines 0 b.sleepers) (Seat i has) none_behind)
-          ∙ ap (λ l. first_line b.header.object b ∷ (l ++ (map Stands b.line ++ sleeper_lines 0 b.sleepers)))
-          (sym seats_now)
-          ∙ ap (λ f. f ∷ (seat_lines 0 (take (t.seats + 1) (set b.seats i has)) ++ (map Stands b.line ++
-          sleeper_lines 0 b.sleepers))) (first_line_same b.header.object b with_seat refl refl refl)
 
 -- who waits is marked, and waits once
 module _ (t : BaseSums) (b : Base) (w : Waited t b) (s : ℕ) (small : s < MOST_SEATS) (is_free : IsFree t s)
     (after : ℕ → ℕ) (more : (i : ℕ) → after i ≡ waits_of b i + one_if (eqb s i)) where
   marked_once : (i : ℕ) → after i ≤ 1
-  marked_once i =
-      let m = more i in
-      ⊎_elim
-      (λ e. (let z = w.free s small is_free in
-      let d : waits_of b i ≡ waits_of b s = ap (waits_of b) (sym e) in
-      let o = once_same s i e in omega (arith, m, z, d, o)))
-      (λ ne. (let o = once_other s i ne in let l = w.once i in omega (arith, m, o, l)))
-      (cases_eq s i)
+  marked_once i = grind (arith, nat_tests, more i, w.free s small is_free, w.once i)
 
   marked_free : (i : ℕ) → i < MOST_SEATS → get_or (set t.waits s true) i false ≡ false → after i ≡ 0
   marked_free i l f =
-      let m = more i in
-      ⊎_elim
-      (λ e. (let d : get_or (set t.waits s true) s false ≡ true =
-      get_or-set_same t.waits s true false (let n = w.places in omega (arith, n, small)) in
-      let g : get_or (set t.waits s true) i false ≡ true =
-      ap (λ n. get_or (set t.waits s true) n false) (sym e) ∙ d in
-      absurd (cc (f, g))))
-      (λ ne. (let o = once_other s i ne in
-      let d = get_or-set_other t.waits s i true false (λ q. ne (sym q)) in
-      let z = w.free i l (sym d ∙ f) in omega (arith, m, o, z)))
-      (cases_eq s i)
+      let now = at_set t.waits s i true false (omega (arith, w.places, small)) in
+      grind (arith, nat_tests, more i, now, w.free i l)
 
   marked_places : length (set t.waits s true) ≡ MOST_SEATS
   marked_places = length-set t.waits s true ∙ w.places
@@ -573,49 +371,26 @@ module _ (done : List BaseLine) (t : BaseSums) (b : Base) (so : SoFar done t b) 
   stands_told = record t { waits = set t.waits p.who.seat true }
 
   stands_small : p.who.seat < MOST_SEATS
-  stands_small =
-      let l = so.range.seats in
-      ⊎_elim (λ a. (let m = a.1.seat in omega (arith, l, m)))
-      (λ r. (let m = r.1.gave.seat in omega (arith, l, m))) well
+  stands_small = omega (arith, so.range.seats, stands_seated b p well)
 
   pub stands_more : (i : ℕ) → waits_of with_standing i ≡ waits_of b i + one_if (eqb p.who.seat i)
-  stands_more i = let e = times_stands i b.line p in omega (arith, e)
+  stands_more i = omega (arith, times_standing i b.line (p ∷ []))
 
   held_stands : (o : Object) → HeldSoFar o t b → HeldSoFar o stands_told with_standing
-  held_stands (Lock p) v =
-      record { one = v.one; alone = v.alone; exclusive = v.exclusive; shared = v.shared }
-  held_stands (ReadWrite p) v =
-      record { one = v.one; alone = v.alone; exclusive = v.exclusive; shared = v.shared }
-  held_stands (Semaphore p c) v =
-      record { exclusive = v.exclusive; shared = v.shared; lowest = v.lowest; highest = v.highest }
-  held_stands (Latch c) v = v
+  held_stands o v = grind arith
 
   pub stands_follow : AreCounted b.header.object with_standing →
       SoFar (done ++ Stands p ∷ []) stands_told with_standing
   stands_follow counted =
       record {
         range = so.range;
-        summed = record {
-          entries = so.summed.entries;
-          unheld = so.summed.unheld;
-          length = so.summed.length;
-          seats = so.summed.seats;
-          rest = so.summed.rest;
-          calls = so.summed.calls;
-          exclusive = so.summed.exclusive;
-          shared = so.summed.shared;
-          few = so.summed.few;
-          most = so.summed.most;
-        };
+        summed = assumption;
         counted = counted;
         held = held_stands b.header.object so.held;
         waited = record {
-          places = marked_places t b so.waited p.who.seat stands_small is_free
-              (waits_of with_standing) stands_more;
-          free = marked_free t b so.waited p.who.seat stands_small is_free
-              (waits_of with_standing) stands_more;
-          once = marked_once t b so.waited p.who.seat stands_small is_free
-              (waits_of with_standing) stands_more;
+          places = marked_places _ _ so.waited p.who.seat stands_small is_free _ stands_more;
+          free = marked_free _ _ so.waited p.who.seat stands_small is_free _ stands_more;
+          once = marked_once _ _ so.waited p.who.seat stands_small is_free _ stands_more;
           conditions = so.waited.conditions;
           line = each-append (StandsWell with_standing) b.line (p ∷ [])
               (each_then (StandsWell b) (StandsWell with_standing)
@@ -627,27 +402,20 @@ module _ (done : List BaseLine) (t : BaseSums) (b : Base) (so : SoFar done t b) 
               (so.waited.sleepers c);
           awake = so.waited.awake;
           later = so.waited.later;
-          nobody = λ l. (let e = all.seats in absurd (omega (arith, e, l)));
+          nobody = λ l. absurd (omega (arith, all.seats, l));
         };
         spelt = record {
-          none = λ z. (let some = all.begun in absurd (omega (arith, some, z)));
-          some = λ l. spelt;
+          none = λ z. absurd (omega (arith, all.begun, z));
+          some = λ l. simp (
+            so.spelt.some all.begun,
+            no_lines 0 b.sleepers (so.waited.awake awake),
+            map-append,
+            append_assoc,
+            append-nil,
+            first_line_same b.header.object b with_standing refl refl refl,
+          );
         };
       }
-    where
-      spelt : done ++ Stands p ∷ [] ≡ lines_so_far stands_told with_standing
-      spelt =
-          ap (λ l. l ++ Stands p ∷ []) (so.spelt.some all.begun)
-          ∙ ap (λ l. first_line b.header.object b ∷ l) (append_assoc (seat_lines 0 (take t.seats b.seats))
-          (map Stands b.line ++ sleeper_lines 0 b.sleepers) (Stands p ∷ []))
-          ∙ ap (λ l. first_line b.header.object b ∷ (seat_lines 0 (take t.seats b.seats) ++ l))
-          (swap_nil (map Stands b.line) (sleeper_lines 0 b.sleepers) (Stands p)
-          (no_lines 0 b.sleepers (so.waited.awake awake)))
-          ∙ ap (λ l. first_line b.header.object b ∷ (seat_lines 0 (take t.seats b.seats) ++
-          (l ++ sleeper_lines 0 b.sleepers))) (sym (map-append Stands b.line (p ∷ [])))
-          ∙ ap (λ f. f ∷ (seat_lines 0 (take t.seats b.seats) ++
-          (map Stands (b.line ++ p ∷ []) ++ sleeper_lines 0 b.sleepers)))
-          (first_line_same b.header.object b with_standing refl refl refl)
 
 -- one who sleeps
 module _ (done : List BaseLine) (t : BaseSums) (b : Base) (so : SoFar done t b) (c : ℕ) (x : Sleeper)
@@ -660,24 +428,17 @@ module _ (done : List BaseLine) (t : BaseSums) (b : Base) (so : SoFar done t b) 
   sleeps_told = record t { waits = set t.waits x.seat true; asleep = true; condition = c }
 
   sleeps_small : x.seat < MOST_SEATS
-  sleeps_small = let l = so.range.seats in let m = well.seat in omega (arith, l, m)
+  sleeps_small = omega (arith, so.range.seats, well.seat)
 
   pub on_condition : c < length b.sleepers
-  on_condition = let l = so.waited.conditions in let m = well.condition in omega (arith, l, m)
+  on_condition = omega (arith, so.waited.conditions, well.condition)
 
   pub sleeps_more : (i : ℕ) → waits_of with_sleeper i ≡ waits_of b i + one_if (eqb x.seat i)
   sleeps_more i =
-      let e = total_sleeps b.header.conditions i b.sleepers c x well.condition on_condition in
-      omega (arith, e)
+      omega (arith, total_sleeps b.header.conditions i b.sleepers c x well.condition on_condition)
 
   held_sleeps : (o : Object) → HeldSoFar o t b → HeldSoFar o sleeps_told with_sleeper
-  held_sleeps (Lock p) v =
-      record { one = v.one; alone = v.alone; exclusive = v.exclusive; shared = v.shared }
-  held_sleeps (ReadWrite p) v =
-      record { one = v.one; alone = v.alone; exclusive = v.exclusive; shared = v.shared }
-  held_sleeps (Semaphore p c) v =
-      record { exclusive = v.exclusive; shared = v.shared; lowest = v.lowest; highest = v.highest }
-  held_sleeps (Latch c) v = v
+  held_sleeps o v = grind arith
 
   sleepers_here : (d : ℕ) → d ≡ c → sleepers_of with_sleeper d ≡ sleepers_of b c ++ x ∷ []
   sleepers_here d e =
@@ -710,27 +471,13 @@ module _ (done : List BaseLine) (t : BaseSums) (b : Base) (so : SoFar done t b) 
   sleeps_follow counted =
       record {
         range = so.range;
-        summed = record {
-          entries = so.summed.entries;
-          unheld = so.summed.unheld;
-          length = so.summed.length;
-          seats = so.summed.seats;
-          rest = so.summed.rest;
-          calls = so.summed.calls;
-          exclusive = so.summed.exclusive;
-          shared = so.summed.shared;
-          few = so.summed.few;
-          most = so.summed.most;
-        };
+        summed = assumption;
         counted = counted;
         held = held_sleeps b.header.object so.held;
         waited = record {
-          places = marked_places t b so.waited x.seat sleeps_small is_free
-              (waits_of with_sleeper) sleeps_more;
-          free = marked_free t b so.waited x.seat sleeps_small is_free
-              (waits_of with_sleeper) sleeps_more;
-          once = marked_once t b so.waited x.seat sleeps_small is_free
-              (waits_of with_sleeper) sleeps_more;
+          places = marked_places _ _ so.waited x.seat sleeps_small is_free _ sleeps_more;
+          free = marked_free _ _ so.waited x.seat sleeps_small is_free _ sleeps_more;
+          once = marked_once _ _ so.waited x.seat sleeps_small is_free _ sleeps_more;
           conditions = length-set b.sleepers c (sleepers_of b c ++ x ∷ []) ∙ so.waited.conditions;
           line = each_then (StandsWell b) (StandsWell with_sleeper)
               (λ p w. stands_moved b with_sleeper p refl refl w) b.line so.waited.line;
@@ -738,60 +485,39 @@ module _ (done : List BaseLine) (t : BaseSums) (b : Base) (so : SoFar done t b) 
           awake = λ f. cc;
           later = λ d l. (let ne : d ≢ c = omega (arith, l) in sleepers_other d ne
               ∙ so.waited.later d (omega (arith, order, l)));
-          nobody = λ l. (let e = all.seats in absurd (omega (arith, e, l)));
+          nobody = λ l. absurd (omega (arith, all.seats, l));
         };
         spelt = record {
-          none = λ z. (let some = all.begun in absurd (omega (arith, some, z)));
-          some = λ l. spelt;
+          none = λ z. absurd (omega (arith, all.begun, z));
+          some = λ l. simp (
+            so.spelt.some all.begun,
+            append_assoc,
+            sleeper_lines_push 0 b.sleepers c c x (omega arith) on_condition
+                (λ d l. so.waited.later d (omega (arith, order, l))),
+            first_line_same b.header.object b with_sleeper refl refl refl,
+          );
         };
       }
-    where
-      spelt : done ++ Sleeps c x ∷ [] ≡ lines_so_far sleeps_told with_sleeper
-      spelt =
-          ap (λ l. l ++ Sleeps c x ∷ []) (so.spelt.some all.begun)
-          ∙ ap (λ l. first_line b.header.object b ∷ l) (append_assoc (seat_lines 0 (take t.seats b.seats))
-          (map Stands b.line ++ sleeper_lines 0 b.sleepers) (Sleeps c x ∷ []))
-          ∙ ap (λ l. first_line b.header.object b ∷ (seat_lines 0 (take t.seats b.seats) ++ l))
-          (append_assoc (map Stands b.line) (sleeper_lines 0 b.sleepers) (Sleeps c x ∷ []))
-          ∙ ap (λ l. first_line b.header.object b ∷ (seat_lines 0 (take t.seats b.seats) ++
-          (map Stands b.line ++ l)))
-          (sym (sleeper_lines_push 0 b.sleepers c c x (omega arith) on_condition
-          (λ d l. so.waited.later d (omega (arith, order, l)))))
-          ∙ ap (λ f. f ∷ (seat_lines 0 (take t.seats b.seats) ++ (map Stands b.line ++
-          sleeper_lines 0 (set b.sleepers c (sleepers_of b c ++ x ∷ [])))))
-          (first_line_same b.header.object b with_sleeper refl refl refl)
 
 -- what a base counts stays with its numbers
 counted_same : (o : Object) (a b : Base) → a.unheld ≡ b.unheld → a.count ≡ b.count → AreCounted o a →
     AreCounted o b
-counted_same (Lock p) a b u q v = (sym u ∙ v.0, sym q ∙ v.1)
-counted_same (ReadWrite p) a b u q v = (sym u ∙ v.0, sym q ∙ v.1)
-counted_same (Semaphore p c) a b u q v = (let l = v.0 in omega (arith, u, l), sym q ∙ v.1)
-counted_same (Latch c) a b u q v = (sym u ∙ v.0, let l = v.1 in omega (arith, q, l))
+counted_same o a b u q v = grind arith
 
 folded_only : (o : Object) (b : Base) (n : ℕ) → is_lock o ≡ true →
     first_line o (record b { entries = n }) ≡ Folded n
-folded_only (Lock p) b n t = refl
-folded_only (ReadWrite p) b n t = refl
-folded_only (Semaphore p c) b n t = absurd (cc)
-folded_only (Latch c) b n t = absurd (cc)
+folded_only o b n t = grind arith
 
 released : (o : Object) (b : Base) (n u : ℕ) → is_semaphore o ≡ true → u ≤ MOST_BASE_PERMITS →
     AreCounted o b →
     AreCounted o (record b { entries = n; unheld = u })
     × (first_line o (record b { entries = n; unheld = u }) ≡ Released n u)
-released (Lock p) b n u t l v = absurd (cc)
-released (ReadWrite p) b n u t l v = absurd (cc)
-released (Semaphore p c) b n u t l v = ((l, v.1), refl)
-released (Latch c) b n u t l v = absurd (cc)
+released o b n u t l v = grind arith
 
 counted_down : (o : Object) (b : Base) (n q : ℕ) → is_latch o ≡ true → q ≤ opening_count o → AreCounted o b →
     AreCounted o (record b { entries = n; count = q })
     × (first_line o (record b { entries = n; count = q }) ≡ CountedDown n q)
-counted_down (Lock p) b n q t l v = absurd (cc)
-counted_down (ReadWrite p) b n q t l v = absurd (cc)
-counted_down (Semaphore p c) b n q t l v = absurd (cc)
-counted_down (Latch c) b n q t l v = ((v.0, l), refl)
+counted_down o b n q t l v = grind arith
 
 -- one line more
 pub goes_on : (done : List BaseLine) (t : BaseSums) (b : Base) (x : BaseLine) → SoFar done t b →
@@ -827,12 +553,7 @@ all_told done (x ∷ xs) t b so follow =
     (all_told (done ++ x ∷ []) xs (with_sums t x) (with_line b x) (goes_on done t b x so follow.0) follow.1)
 
 pub header_kept : (b : Base) (x : BaseLine) → (with_line b x).header ≡ b.header
-header_kept b (Folded n) = refl
-header_kept b (Released n u) = refl
-header_kept b (CountedDown n q) = refl
-header_kept b (Seat i has) = refl
-header_kept b (Stands p) = refl
-header_kept b (Sleeps c x) = refl
+header_kept b x = grind arith
 
 pub header_after : (b : Base) (xs : List BaseLine) → (with_lines b xs).header ≡ b.header
 header_after b [] = refl
@@ -844,25 +565,19 @@ told_so_far k xs range follow = all_told [] xs no_sums (opening_base k) (begun k
 
 -- the free permits, from the numbers
 pub pos_kept : (n : ℕ) → at_least_none (pos n) ≡ n
-pos_kept n = by (ltb n 0) refl
-  where
-    by : (q : Bool) → ltb n 0 ≡ q → cond q 0 n ≡ n
-    by true t = let l : n < 0 = ltb-true n 0 t in absurd (omega (arith, l))
-    by false t = refl
+pos_kept n = grind (arith, nat_tests)
+
+pub none_kept : (n : ℕ) → at_least_none (negsuc n) ≡ 0
+none_kept n = refl
 
 few_free : (c f : ℤ) (u s : ℕ) → f ≡ (c +ℤ pos u) -ℤ pos s → s ≤ u + at_least_none c →
     u + at_least_none c ≤ MOST_AMOUNT + s + at_least_none (neg_ℤ c) →
     ((pos 0 ≤ℤ f) ⊎ (c ≤ℤ f)) × (f ≤ℤ pos MOST_AMOUNT)
 few_free (pos zero) f u s e l m = (inl (omega (arith, ints)), omega (arith, ints))
 few_free (pos (suc n)) f u s e l m =
-    let a : at_least_none (pos (suc n)) ≡ suc n = pos_kept (suc n) in
-    let b : at_least_none (negsuc n) ≡ 0 = refl in
-    (inl (omega (arith, ints, a, b)), omega (arith, ints, a, b))
+    (inl (omega (arith, ints, pos_kept (suc n))), omega (arith, ints, pos_kept (suc n), none_kept n))
 few_free (negsuc n) f u s e l m =
-    let a : at_least_none (pos (suc n)) ≡ suc n = pos_kept (suc n) in
-    let b : at_least_none (negsuc n) ≡ 0 = refl in
-    let d : u ≤ MOST_AMOUNT + s + suc n = omega (arith, m, a, b) in
-    (inr (omega (arith, ints)), omega (arith, ints, d))
+    (inr (omega (arith, ints)), omega (arith, ints, pos_kept (suc n), none_kept n))
 
 -- a base that was told whole
 module _ (done : List BaseLine) (t : BaseSums) (b : Base) (so : SoFar done t b)
@@ -893,11 +608,10 @@ module _ (done : List BaseLine) (t : BaseSums) (b : Base) (so : SoFar done t b)
   pub whole_good : IsGood b
   whole_good =
       record {
-        entries = let e = so.summed.entries in let m = so.summed.most in omega (arith, e, m);
+        entries = omega (arith, so.summed.entries, so.summed.most);
         seats = so.summed.length;
         conditions = so.waited.conditions;
-        calls = let c = so.summed.calls in let e = so.summed.entries in let f = so.summed.few in
-            omega (arith, c, e, f);
+        calls = omega (arith, so.summed.calls, so.summed.entries, so.summed.few);
         counted = so.counted;
         held = held_whole b.header.object refl so.held;
         once = once_whole;
@@ -910,7 +624,7 @@ module _ (done : List BaseLine) (t : BaseSums) (b : Base) (so : SoFar done t b)
       so.spelt.some all.begun
       ∙ ap (λ l. first_line b.header.object b ∷ (seat_lines 0 l ++ (map Stands b.line ++
       sleeper_lines 0 b.sleepers)))
-      (take_all t.seats b.seats (let l = so.summed.length in let e = all.seats in omega (arith, l, e)))
+      (take_all t.seats b.seats (omega (arith, so.summed.length, all.seats)))
 
 -- Lines that follow one another and tell all seats are those of a good base.
 pub whole_told : (k : Header) (xs : List BaseLine) → IsInRange k → Follow k xs → AllSeated k (sums_of xs) →
@@ -919,7 +633,7 @@ whole_told k xs range follow all = (
   whole_lines xs (sums_of xs) (base_by k xs) so seated,
   record {
     header = same;
-    some = let e = so.summed.entries in let l = all.begun in omega (arith, e, l);
+    some = omega (arith, so.summed.entries, all.begun);
     good = whole_good xs (sums_of xs) (base_by k xs) so seated;
   },
 )

@@ -1,10 +1,11 @@
 -- The lines of a base, told one by one: what the base so far has of the whole one.
-use Rattle.std.proofs.Common.{◌≡◌, ⊎_elim, ℕ, zero, suc, ◌+◌, ◌<◌, ◌≤◌, true, false, eqb, List, [], ◌∷◌, ◌++◌, length, map, get_or, drop, refl, ap, ◌∙◌, sym, subst, arith, append-nil, append_assoc, ext_get_or, get_or-set_same, get_or-set_other}
+use Rattle.std.proofs.Common.{◌≡◌, ℕ, zero, suc, ◌+◌, ◌<◌, ◌≤◌, true, false, eqb, List, [], ◌∷◌, ◌++◌, length, map, get_or, drop, refl, ap, ◌∙◌, sym, subst, arith, append-nil, append_assoc, ext_get_or, get_or-set_same, get_or-set_other}
 use Rattle.std.proofs.Math.ListN.{set}
-use Rattle.std.proofs.lemmas.Bool.{cases_eq}
+use Rattle.std.proofs.lemmas.Bool.Decides.{nat_tests}
+use Rattle.deciding.proofs.HoldsFollow.{at_set}
 use Rattle.std.proofs.lemmas.List.{drop_all, drop_more, get_or-replicate}
-use Rattle.history_text.specs.Below.{MOST_SEATS, Sleeper, LinePlace, Header, Object, Lock, ReadWrite, Semaphore, Latch, Base, based, nothing, opening_base, seat_of, sleepers_of, total, SleepsWell, StandsWell, IsInRange, calls, opening_count}
-use Rattle.history.proofs.Times.{once_same, one_if}
+use Rattle.history_text.specs.Below.{MOST_SEATS, Sleeper, LinePlace, Header, Object, Base, based, nothing, opening_base, seat_of, sleepers_of, total, SleepsWell, StandsWell, IsInRange, calls}
+use Rattle.history.proofs.Times.{one_if}
 use Rattle.history_text.specs.Prelude.{BaseLine, Seat, Stands, Sleeps, AllRead, with_lines, after_told, Follow, base_by, sums_of, base_lines, first_line, seat_lines, sleeper_lines, AllSeated, IsFree, MayFollow, BaseSums, with_sums, no_sums, with_line}
 use Rattle.history_text.specs.inner.BaseFollowing.{IsCountedFor}
 use Rattle.history_text.proofs.BaseTold.{SoFar, all_told, begun, goes_on, no_sleepers, on_condition, sleeps_more, stands_more, waits_of}
@@ -78,65 +79,34 @@ module _ (g : Base) (range : IsInRange g.header) (long : length g.seats ≡ g.he
       n < g.header.seats →
       AtSeats g (n + 1) (with_sums t (Seat n (seat_of g n))) (with_line b (Seat n (seat_of g n)))
   after_seat n done t b so at l =
-      record {
-        agrees = record {
-          header = at.agrees.header;
-          entries = at.agrees.entries;
-          unheld = at.agrees.unheld;
-          count = at.agrees.count;
-          free = at.agrees.free;
-        };
-        begun = at.begun;
-        seats = let e = at.seats in omega (arith, e);
-        same = λ i m. ⊎_elim
-            (λ e. ap (λ d. get_or (set b.seats n (seat_of g n)) d nothing) e
-            ∙ get_or-set_same b.seats n (seat_of g n) nothing within ∙ ap (seat_of g) (sym e))
-            (λ ne. get_or-set_other b.seats n i (seat_of g n) nothing ne ∙ at.same i (omega (arith, m, ne)))
-            (cases_eq i n);
-        line = at.line;
-        sleepers = at.sleepers;
-        asleep = at.asleep;
-        condition = at.condition;
-      }
-    where
-      within : n < length b.seats
-      within =
-          let e = so.summed.length in
-          let h = ap (λ (h : Header). h.seats) at.agrees.header in
-          omega (arith, e, h, l)
+      let within : n < length b.seats =
+      omega (arith, so.summed.length, ap (λ (h : Header). h.seats) at.agrees.header, l) in
+      let seats : t.seats + 1 ≡ n + 1 = omega (arith, at.seats) in
+      let same : (i : ℕ) → i < n + 1 → get_or (set b.seats n (seat_of g n)) i nothing ≡ seat_of g i =
+      λ i m. grind (arith, nat_tests, at_set b.seats n i (seat_of g n) nothing within, at.same i) in
+      let agrees : Agrees g (with_sums t (Seat n (seat_of g n))) (with_line b (Seat n (seat_of g n))) =
+      assumption at.agrees in
+      assumption
 
   -- one more is marked
   free_more : (t : BaseSums) (b : Base) (s : ℕ) (after : ℕ → ℕ) → Agrees g t b →
       ((i : ℕ) → after i ≡ waits_of b i + one_if (eqb s i)) → (i : ℕ) → i < MOST_SEATS → after i ≡ 0 →
       get_or (set t.waits s true) i false ≡ false
   free_more t b s after agrees more i l z =
-      let m = more i in
-      ⊎_elim (λ e. (let o = once_same s i e in absurd (omega (arith, m, o, z))))
-      (λ ne. get_or-set_other t.waits s i true false (λ q. ne (sym q))
-      ∙ agrees.free i l (omega (arith, m, z)))
-      (cases_eq s i)
+      grind (arith, nat_tests, more i, get_or-set_other t.waits s i true false, agrees.free i l)
 
   -- one more in line
   after_stands : (p : LinePlace) (front : List LinePlace) (done : List BaseLine) (t : BaseSums) (b : Base) →
       SoFar done t b → AtLine g front t b → IsFree t p.who.seat → StandsWell b p →
       AtLine g (front ++ p ∷ []) (with_sums t (Stands p)) (with_line b (Stands p))
   after_stands p front done t b so at is_free well =
-      record {
-        agrees = record {
-          header = at.agrees.header;
-          entries = at.agrees.entries;
-          unheld = at.agrees.unheld;
-          count = at.agrees.count;
-          free = free_more t b p.who.seat (waits_of (record b { line = b.line ++ p ∷ [] })) at.agrees
-              (stands_more done t b so p at.all at.asleep is_free well);
-        };
-        all = record { begun = at.all.begun; seats = at.all.seats };
-        seats = at.seats;
-        line = ap (λ l. l ++ p ∷ []) at.line;
-        sleepers = at.sleepers;
-        asleep = at.asleep;
-        condition = at.condition;
-      }
+      let free = free_more t b p.who.seat (waits_of (record b { line = b.line ++ p ∷ [] })) at.agrees
+      (stands_more done t b so p at.all at.asleep is_free well) in
+      let line : b.line ++ p ∷ [] ≡ front ++ p ∷ [] = ap (λ l. l ++ p ∷ []) at.line in
+      let agrees : Agrees g (with_sums t (Stands p)) (with_line b (Stands p)) =
+      assumption (free, at.agrees) in
+      let all : AllSeated b.header (with_sums t (Stands p)) = assumption at.all in
+      assumption
 
   -- one more asleep
   after_sleeps : (c : ℕ) (x : Sleeper) (front : List Sleeper) (done : List BaseLine) (t : BaseSums)
@@ -144,16 +114,11 @@ module _ (g : Base) (range : IsInRange g.header) (long : length g.seats ≡ g.he
       AtSleepers g c (front ++ x ∷ []) (with_sums t (Sleeps c x)) (with_line b (Sleeps c x))
   after_sleeps c x front done t b so at is_free well =
       record {
-        agrees = record {
-          header = at.agrees.header;
-          entries = at.agrees.entries;
-          unheld = at.agrees.unheld;
-          count = at.agrees.count;
-          free = free_more t b x.seat
-              (waits_of (record b { sleepers = set b.sleepers c (sleepers_of b c ++ x ∷ []) })) at.agrees
-              (sleeps_more done t b so c x at.all at.condition is_free well);
-        };
-        all = record { begun = at.all.begun; seats = at.all.seats };
+        agrees = let free = free_more t b x.seat
+            (waits_of (record b { sleepers = set b.sleepers c (sleepers_of b c ++ x ∷ []) })) at.agrees
+            (sleeps_more done t b so c x at.all at.condition is_free well) in
+            assumption (free, at.agrees);
+        all = assumption at.all;
         seats = at.seats;
         line = at.line;
         before = λ d l. get_or-set_other b.sleepers c d (sleepers_of b c ++ x ∷ []) [] (omega (arith, l))
@@ -175,12 +140,10 @@ module _ (g : Base) (range : IsInRange g.header) (long : length g.seats ≡ g.he
         all = at.all;
         seats = at.seats;
         line = at.line;
-        before = λ d l. ⊎_elim
-            (λ q. ap (sleepers_of b) q ∙ at.here ∙ ap (sleepers_of g) (sym q))
-            (λ ne. at.before d (omega (arith, l, ne))) (cases_eq d c);
+        before = λ d l. grind (arith, at.before d, at.here);
         here = at.behind (c + 1) (omega arith);
         behind = λ d l. at.behind d (omega (arith, l));
-        condition = let m = at.condition in omega (arith, m);
+        condition = omega (arith, at.condition);
       }
 
   -- the first line
@@ -207,37 +170,19 @@ module _ (g : Base) (range : IsInRange g.header) (long : length g.seats ≡ g.he
 
   after_first : 1 ≤ g.entries → (o : Object) → g.header.object ≡ o → IsCountedFor o g →
       AtSeats g 0 (with_sums no_sums (first_line o g)) (with_line (opening_base g.header) (first_line o g))
-  after_first some (Lock p) q v =
-      at_first g.entries 0 0 (opening_count g.header.object) some refl (sym v.0)
-      (ap opening_count q ∙ sym v.1)
-  after_first some (ReadWrite p) q v =
-      at_first g.entries 0 0 (opening_count g.header.object) some refl (sym v.0)
-      (ap opening_count q ∙ sym v.1)
-  after_first some (Semaphore p c) q v =
-      at_first g.entries g.unheld g.unheld (opening_count g.header.object) some refl refl
-      (ap opening_count q ∙ sym v)
-  after_first some (Latch c) q v = at_first g.entries 0 0 g.count some refl (sym v) refl
+  after_first some o q v =
+      let first = λ (u : ℕ). at_first g.entries u g.unheld g.count some in
+      grind (arith, first g.unheld, first 0)
 
   -- from part to part
   line_next : (done : List BaseLine) (t : BaseSums) (b : Base) → SoFar done t b →
       AtSeats g g.header.seats t b → AtLine g [] t b
   line_next done t b so at =
-      record {
-        agrees = at.agrees;
-        all = record {
-          begun = at.begun;
-          seats = at.seats ∙ ap (λ (h : Header). h.seats) (sym at.agrees.header);
-        };
-        seats = ext_get_or nothing b.seats g.seats
-            (so.summed.length ∙ ap (λ (h : Header). h.seats) at.agrees.header ∙ sym long)
-            (λ i l. at.same i (let e = so.summed.length in
-            let h = ap (λ (h : Header). h.seats) at.agrees.header in
-            omega (arith, e, h, l)));
-        line = at.line;
-        sleepers = at.sleepers;
-        asleep = at.asleep;
-        condition = at.condition;
-      }
+      let same = ap (λ (h : Header). h.seats) at.agrees.header in
+      let all : AllSeated b.header t = record { begun = at.begun; seats = at.seats ∙ sym same } in
+      let seats = ext_get_or nothing b.seats g.seats (so.summed.length ∙ same ∙ sym long)
+      (λ i l. at.same i (omega (arith, so.summed.length, same, l))) in
+      assumption (all, seats, at)
 
   sleepers_next : (t : BaseSums) (b : Base) → AtLine g g.line t b → AtSleepers g 0 [] t b
   sleepers_next t b at =
@@ -249,7 +194,7 @@ module _ (g : Base) (range : IsInRange g.header) (long : length g.seats ≡ g.he
         before = λ d l. absurd (omega (arith, l));
         here = at.sleepers 0;
         behind = λ d l. at.sleepers d;
-        condition = let c = at.condition in omega (arith, c);
+        condition = omega (arith, at.condition);
       }
 
   -- what was told is this base
@@ -272,7 +217,7 @@ module _ (g : Base) (range : IsInRange g.header) (long : length g.seats ≡ g.he
       sleepers : b.sleepers ≡ g.sleepers
       sleepers =
           ext_get_or [] b.sleepers g.sleepers (so_many ∙ sym many)
-          (λ d l. at.before d (let e = so_many in omega (arith, e, l)))
+          (λ d l. at.before d (omega (arith, so_many, l)))
 
   -- All lines go so where each may follow, by what is known of it and of those behind it.
   module _ (Known : BaseSums → List BaseLine → Type 0)
@@ -309,8 +254,8 @@ module _ (g : Base) (range : IsInRange g.header) (long : length g.seats ≡ g.he
         drop_more g.seats n nothing (omega (arith, l, long)) in
         let may = seat n done t b so at l (seat_lines (n + 1) (drop (n + 1) g.seats) ++ xs)
         (subst (λ l. Known t (seat_lines n l ++ xs)) more known) in
-        let rest = seats_go m (n + 1) (done ++ x ∷ []) (with_sums t x) (with_line b x) xs
-        (goes_on done t b x so may.0) (after_seat n done t b so at l) (omega (arith, e)) may.1 in
+        let rest = seats_go m (n + 1) _ _ _ xs (goes_on done t b x so may.0) (after_seat n done t b so at l)
+        (omega (arith, e)) may.1 in
         subst (λ l. Goes (With (AtSeats g g.header.seats) xs) t b (seat_lines n l)) (sym more)
         ((may.0, rest.0), rest.1)
 
@@ -321,8 +266,7 @@ module _ (g : Base) (range : IsInRange g.header) (long : length g.seats ≡ g.he
         (tt, (subst (λ l. AtLine g l t b) (sym (append-nil front) ∙ e) at, known))
     line_goes (p ∷ rest) front done t b xs so at e known =
         let may = stand p front rest done t b so at e (map Stands rest ++ xs) known in
-        let go = line_goes rest (front ++ p ∷ []) (done ++ Stands p ∷ []) (with_sums t (Stands p))
-        (with_line b (Stands p)) xs (goes_on done t b (Stands p) so may.0)
+        let go = line_goes rest (front ++ p ∷ []) _ _ _ xs (goes_on done t b (Stands p) so may.0)
         (after_stands p front done t b so at may.0.2 may.0.3) (append_assoc front (p ∷ []) rest ∙ e) may.1 in
         ((may.0, go.0), go.1)
 
@@ -334,10 +278,8 @@ module _ (g : Base) (range : IsInRange g.header) (long : length g.seats ≡ g.he
         (tt, (subst (λ l. AtSleepers g c l t b) (sym (append-nil front) ∙ e) at, known))
     list_goes c (x ∷ rest) front done t b xs so at e known =
         let may = sleep c x front rest done t b so at e (map (Sleeps c) rest ++ xs) known in
-        let go = list_goes c rest (front ++ x ∷ []) (done ++ Sleeps c x ∷ []) (with_sums t (Sleeps c x))
-        (with_line b (Sleeps c x)) xs (goes_on done t b (Sleeps c x) so may.0)
-        (after_sleeps c x front done t b so at may.0.2 may.0.3) (append_assoc front (x ∷ []) rest ∙ e)
-        may.1 in
+        let go = list_goes c rest (front ++ x ∷ []) _ _ _ xs (goes_on done t b (Sleeps c x) so may.0)
+        (after_sleeps c x front done t b so at may.0.2 may.0.3) (append_assoc front (x ∷ []) rest ∙ e) may.1 in
         ((may.0, go.0), go.1)
 
     lists_go : (m c : ℕ) (done : List BaseLine) (t : BaseSums) (b : Base) → SoFar done t b →
@@ -357,8 +299,7 @@ module _ (g : Base) (range : IsInRange g.header) (long : length g.seats ≡ g.he
         let ys = sleeper_lines (c + 1) (drop (c + 1) g.sleepers) in
         let here = list_goes c (sleepers_of g c) [] done t b ys so at refl
         (subst (λ l. Known t (sleeper_lines c l)) more known) in
-        let rest = lists_go m (c + 1) (done ++ xs) (after_told t xs) (with_lines b xs)
-        (all_told done xs t b so here.0) (next_list c (after_told t xs) (with_lines b xs) here.1.0)
+        let rest = lists_go m (c + 1) _ _ _ (all_told done xs t b so here.0) (next_list c _ _ here.1.0)
         (omega (arith, e)) here.1.1 in
         subst (λ l. Goes (AtSleepers g g.header.conditions []) t b (sleeper_lines c l)) (sym more)
         (goes-append (With (AtSleepers g c (sleepers_of g c)) ys) (AtSleepers g g.header.conditions []) t b xs
@@ -373,10 +314,8 @@ module _ (g : Base) (range : IsInRange g.header) (long : length g.seats ≡ g.he
         let ys = sleeper_lines 0 g.sleepers in
         let go = line_goes g.line [] done t b ys so (line_next done t b so at) refl known in
         goes-append (With (AtLine g g.line) ys) (AtSleepers g g.header.conditions []) t b xs ys go
-        (lists_go g.header.conditions 0 (done ++ xs) (after_told t xs) (with_lines b xs)
-        (all_told done xs t b so go.0) (sleepers_next (after_told t xs) (with_lines b xs) go.1.0)
-        (omega arith)
-        go.1.1)
+        (lists_go g.header.conditions 0 _ _ _ (all_told done xs t b so go.0) (sleepers_next _ _ go.1.0)
+        (omega arith) go.1.1)
 
     -- behind the first line
     rest_goes : (done : List BaseLine) (t : BaseSums) (b : Base) → SoFar done t b → AtSeats g 0 t b →
@@ -388,17 +327,15 @@ module _ (g : Base) (range : IsInRange g.header) (long : length g.seats ≡ g.he
         let ys = map Stands g.line ++ sleeper_lines 0 g.sleepers in
         let go = seats_go g.header.seats 0 done t b ys so at (omega arith) known in
         goes-append (With (AtSeats g g.header.seats) ys) (AtSleepers g g.header.conditions []) t b xs ys go
-        (wait_goes (done ++ xs) (after_told t xs) (with_lines b xs) (all_told done xs t b so go.0) go.1.0
-        go.1.1)
+        (wait_goes _ _ _ (all_told done xs t b so go.0) go.1.0 go.1.1)
 
     all_go : Known no_sums (base_lines g) →
         Goes (AtSleepers g g.header.conditions []) no_sums (opening_base g.header) (base_lines g)
     all_go known =
         let x = first_line g.header.object g in
         let k = opening_base g.header in
-        let may = first (seat_lines 0 g.seats ++ (map Stands g.line ++ sleeper_lines 0 g.sleepers)) known in
-        let rest = rest_goes (x ∷ []) (with_sums no_sums x) (with_line k x)
-        (all_told [] (x ∷ []) no_sums k (begun g.header range) (may.1, tt))
+        let may = first _ known in
+        let rest = rest_goes _ _ _ (all_told [] (x ∷ []) no_sums k (begun g.header range) (may.1, tt))
         (after_first may.0 g.header.object refl counted) may.2 in
         ((may.1, rest.0), rest.1)
 

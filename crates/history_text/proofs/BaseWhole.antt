@@ -1,8 +1,8 @@
 -- Whatever lines of a base follow one another, more can follow until all seats are told: so some good base
 -- begins with them.
-use Rattle.std.proofs.Common.{◌≡◌, inl, inr, ⊎_elim, ℕ, zero, suc, ◌+◌, ◌-◌, ◌<◌, ◌≤◌, List, [], ◌∷◌, ◌++◌, refl, ap, sym, subst, arith, neg_ℤ}
+use Rattle.std.proofs.Common.{◌≡◌, ⊎_elim, ℕ, zero, suc, ◌+◌, ◌-◌, ◌<◌, ◌≤◌, List, [], ◌∷◌, ◌++◌, refl, ap, sym, subst, arith, neg_ℤ}
 use Rattle.std.proofs.lemmas.Bool.{cases_lt}
-use Rattle.history_text.specs.Below.{MOST_AMOUNT, SeatBase, Header, Object, Lock, ReadWrite, Semaphore, Latch, Base, opening_base, AreCounted, IsInRange, IsOpening, is_latch, is_lock, is_semaphore, most_shared, at_least_none}
+use Rattle.history_text.specs.Below.{MOST_AMOUNT, SeatBase, Header, Object, Lock, ReadWrite, Semaphore, Latch, Base, opening_base, AreCounted, IsInRange, IsOpening, most_shared, at_least_none}
 use Rattle.history_text.specs.Prelude.{BaseLine, Folded, Released, CountedDown, Seat, AllRead, with_lines, after_told, Follow, base_by, sums_of, IsToldBase, base_lines, AllSeated, MayFollow, MayHold, BaseSums, with_sums, no_sums, with_line}
 use Rattle.history_text.proofs.Amounts.{free_few}
 use Rattle.history_text.proofs.BaseTold.{HeldSoFar, SoFar, Summed, goes_on, header_after, header_kept, told_so_far, whole_told}
@@ -40,20 +40,13 @@ next_seat o t = record { calls = 0; exclusive = 0; shared = needed o t }
 
 may_hold : (t : BaseSums) (b : Base) → Summed t b → (o : Object) → b.header.object ≡ o → HeldSoFar o t b →
     AreCounted o b → IsOpening o b.header.conditions → MayHold o b.header.seats t (next_seat o t)
-may_hold t b sums (Lock p) q v counted opening = (omega arith, refl, inr refl)
-may_hold t b sums (ReadWrite p) q v counted opening = (
-  omega arith,
-  (let s = v.shared in let e = sums.shared in let m = ap most_shared q in omega (arith, s, e, m)),
-  inl refl,
-  inl refl,
-)
 may_hold t b sums (Semaphore p c) q v counted opening = (
   refl,
-  (let u = sums.unheld in let l = counted.0 in let f = free_few c opening.1 in omega (arith, u, l, f)),
-  (let l = v.lowest in omega (arith, l)),
+  omega (arith, sums.unheld, counted.0, free_few c opening.1),
+  omega (arith, v.lowest),
   λ e. omega arith,
 )
-may_hold t b sums (Latch n) q v counted opening = (refl, refl)
+may_hold t b sums o q v counted opening = grind (arith, sums.shared, ap most_shared q)
 
 -- until all seats are told
 pub seats_follow : (n : ℕ) (done : List BaseLine) (t : BaseSums) (b : Base) → SoFar done t b → 1 ≤ t.entries →
@@ -75,37 +68,15 @@ seats_follow (suc n) done t b so some e =
     (Seat t.seats has ∷ rest.0, (may, rest.1), rest.2)
 
 -- the first line, if none was told
+abbrev first_of : Object → BaseLine
+first_of (Semaphore p c) = Released 1 0
+first_of (Latch c) = CountedDown 1 0
+first_of o = Folded 1
+
 first_follows : (t : BaseSums) (b : Base) → t.entries ≡ 0 → (o : Object) → b.header.object ≡ o →
     (x : BaseLine) × MayFollow t b x × (1 ≤ (with_sums t x).entries) × ((with_sums t x).seats ≡ t.seats)
     × ((with_line b x).header ≡ b.header)
-first_follows t b z (Lock p) q = (
-  Folded 1,
-  (record { none = z; some = omega arith; most = omega arith }, ap is_lock q),
-  omega arith,
-  refl,
-  refl,
-)
-first_follows t b z (ReadWrite p) q = (
-  Folded 1,
-  (record { none = z; some = omega arith; most = omega arith }, ap is_lock q),
-  omega arith,
-  refl,
-  refl,
-)
-first_follows t b z (Semaphore p c) q = (
-  Released 1 0,
-  (record { none = z; some = omega arith; most = omega arith }, ap is_semaphore q, omega arith),
-  omega arith,
-  refl,
-  refl,
-)
-first_follows t b z (Latch c) q = (
-  CountedDown 1 0,
-  (record { none = z; some = omega arith; most = omega arith }, ap is_latch q, omega arith),
-  omega arith,
-  refl,
-  refl,
-)
+first_follows t b z o q = (first_of o, grind arith, grind arith, grind arith, grind arith)
 
 pub more_follow : (done : List BaseLine) (t : BaseSums) (b : Base) → SoFar done t b →
     (more : List BaseLine) × AllRead b t more × AllSeated b.header (after_told t more)
@@ -134,7 +105,6 @@ some_base k xs range follow =
     let rest = more_follow xs (sums_of xs) (base_by k xs) (told_so_far k xs range follow) in
     let all = follow-append no_sums (opening_base k) xs rest.0 follow rest.1 in
     let seated : AllSeated k (sums_of (xs ++ rest.0)) =
-    subst (λ t. AllSeated k t) (sym (told-append no_sums xs rest.0))
-    (subst (λ h. AllSeated h (after_told (sums_of xs) rest.0)) (header_after (opening_base k) xs) rest.2) in
+    rw (told-append no_sums xs rest.0) (rw (header_after (opening_base k) xs) at rest.2) in
     let whole = whole_told k (xs ++ rest.0) range all seated in
     (base_by k (xs ++ rest.0), rest.0, whole.1, sym whole.0)

@@ -1,9 +1,10 @@
 -- Lines of a base, written or followed one after another.
-use Rattle.std.proofs.Common.{◌≡◌, ℕ, suc, ◌+◌, ◌<◌, List, [], ◌∷◌, ◌++◌, length, map, get_or, drop, take, min, refl, sym, ap, ◌∙◌, ◌≤◌, arith, append_assoc, append-nil, length-take}
+use Rattle.std.proofs.Common.{◌≡◌, ℕ, suc, ◌+◌, ◌<◌, List, [], ◌∷◌, ◌++◌, length, map, get_or, drop, take, min, refl, sym, ap, ◌∙◌, ◌≤◌, arith, append_assoc, append-nil, length-take, subst}
 use Rattle.std.proofs.lemmas.List.{drop-map, take-append-le}
 use Rattle.std.proofs.Math.Seq.{drop-cons}
-use Rattle.history_text.specs.Below.{SeatBase, Sleeper, ended}
-use Rattle.history_text.specs.Prelude.{BaseLine, Seat, Sleeps, base_line, seat_lines, sleeper_lines, lines_text}
+use Rattle.std.specs.List.{AllByRecursion}
+use Rattle.history_text.specs.Below.{SeatBase, Sleeper}
+use Rattle.history_text.specs.Prelude.{BaseLine, Seat, Sleeps, seat_lines, sleeper_lines, lines_text, IsBaseLine}
 
 -- what was there first stays there if more is written
 pub front_kept : (old out new xs : List ℕ) → take (length old) out ≡ old → new ≡ out ++ xs →
@@ -20,6 +21,17 @@ pub line_written : (out new : List ℕ) (x : BaseLine) (rest : List BaseLine) (a
 line_written out new x rest all was is =
     ap (λ (t : List ℕ). t ++ lines_text rest) (is ∙ ap (λ (t : List ℕ). out ++ t) (append-nil _))
     ∙ append_assoc out _ (lines_text rest) ∙ was
+
+-- one of the lines that are left is written
+pub one_put : (old out new all : List ℕ) (x : BaseLine) (left rest : List BaseLine) → left ≡ x ∷ rest →
+    out ++ lines_text left ≡ all → take (length old) out ≡ old → AllByRecursion IsBaseLine left →
+    new ≡ out ++ lines_text (x ∷ []) →
+    (new ++ lines_text rest ≡ all) × (take (length old) new ≡ old) × AllByRecursion IsBaseLine rest
+one_put old out new all x left rest e lines kept each is = (
+  line_written out new x rest all (ap (λ (l : List BaseLine). out ++ lines_text l) (sym e) ∙ lines) is,
+  front_kept old out new _ kept is,
+  (subst (AllByRecursion IsBaseLine) e each).1,
+)
 
 -- what is left begins with the one at this place
 pub left_at : {X : Type 0} (f : X → BaseLine) (xs : List X) (i : ℕ) (d : X) → i < length xs →
@@ -49,23 +61,16 @@ lists_left f xs c d list lt is =
 
 pub lines_text-append : (xs ys : List BaseLine) → lines_text (xs ++ ys) ≡ lines_text xs ++ lines_text ys
 lines_text-append [] ys = refl
-lines_text-append (x ∷ xs) ys =
-    ap (λ (t : List ℕ). ended (base_line x) ++ t) (lines_text-append xs ys)
-    ∙ sym (append_assoc (ended (base_line x)) (lines_text xs) (lines_text ys))
+lines_text-append (x ∷ xs) ys = simp (lines_text-append xs ys, append_assoc)
 
 -- some lines more are written
 pub lines_written : (out new : List ℕ) (xs rest : List BaseLine) (all : List ℕ) →
     out ++ lines_text (xs ++ rest) ≡ all → new ≡ out ++ lines_text xs → new ++ lines_text rest ≡ all
-lines_written out new xs rest all was is =
-    ap (λ (t : List ℕ). t ++ lines_text rest) is ∙ append_assoc out (lines_text xs) (lines_text rest)
-    ∙ ap (λ (t : List ℕ). out ++ t) (sym (lines_text-append xs rest)) ∙ was
+lines_written out new xs rest all was is = simp (is, append_assoc, ← (lines_text-append xs rest)) was
 
 -- all lines are written, the first one and those of three lists
 pub four_written : (out a b c d : List ℕ) (x : BaseLine) (xs ys zs : List BaseLine) →
     a ≡ out ++ lines_text (x ∷ []) → b ≡ a ++ lines_text xs → c ≡ b ++ lines_text ys →
     d ≡ c ++ lines_text zs →
     d ≡ out ++ lines_text (x ∷ (xs ++ (ys ++ zs)))
-four_written out a b c d x xs ys zs p q r s =
-    s ∙ lines_written b c ys zs _ refl r
-    ∙ lines_written a b xs (ys ++ zs) _ refl q
-    ∙ line_written out a x (xs ++ (ys ++ zs)) _ refl p
+four_written out a b c d x xs ys zs p q r s = simp (s, r, q, p, lines_text-append, append_assoc, append-nil)

@@ -1,5 +1,5 @@
 -- The commonest lines of entries begin a text.
-use Rattle.std.proofs.Common.{◌≡◌, ℕ, List, ◌∷◌, ◌++◌, append_assoc, refl, ap, ◌∙◌, arith, codes}
+use Rattle.std.proofs.Common.{◌≡◌, ℕ, List, ◌∷◌, ◌++◌, append_assoc, ap, ◌∙◌, arith, codes}
 use Rattle.history_text.specs.Below.{End, Mode, Word, HasWords, IsWritten, ended}
 use Rattle.history.specs.declared.entry.End.TheVariants as end
 use Rattle.history.specs.declared.entry.Word.TheVariants as word
@@ -16,31 +16,9 @@ written_once seat w m how words = record { words = words; amount = omega arith; 
 pub asked_begins : (text after : List ℕ) (seat : ℕ) (w : Word) (found : Mode × ℕ) → IsAsked w →
     text ≡ asked_name w ++ 32 ∷ after → AsksOnce after found
     → BeginsWith text (once seat w found.0 end.None, found.1)
-asked_begins text after seat word.Got found is named asks = (
-  written_once seat word.Got found.0 end.None (refl, refl),
-  asked_behind (codes "got") text after found named asks,
-)
-asked_begins text after seat word.TryGot found is named asks = (
-  written_once seat word.TryGot found.0 end.None (refl, refl),
-  asked_behind (codes "trygot") text after found named asks,
-)
-asked_begins text after seat word.Queued found is named asks = (
-  written_once seat word.Queued found.0 end.None (refl, refl),
-  asked_behind (codes "queued") text after found named asks,
-)
-asked_begins text after seat word.Granted found is named asks = (
-  written_once seat word.Granted found.0 end.None (refl, refl),
-  asked_behind (codes "granted") text after found named asks,
-)
-asked_begins text after seat word.Missed found is named asks = (
-  written_once seat word.Missed found.0 end.None (refl, refl),
-  asked_behind (codes "missed") text after found named asks,
-)
-asked_begins text after seat word.Gave found is named asks = (
-  written_once seat word.Gave found.0 end.None (refl, refl),
-  asked_behind (codes "gave") text after found named asks,
-)
-asked_begins text after seat w found is named asks = absurd is
+asked_begins text after seat w found is named asks =
+    let begins = asked_behind (asked_name w) text after found named asks in
+    grind (arith, begins, written_once seat w found.0 end.None)
 
 -- a number, a seat and words begin a text
 pub line_begins : (number seat words text behind tail rest : List ℕ) → text ≡ number ++ 32 ∷ behind →

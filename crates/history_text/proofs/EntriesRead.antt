@@ -1,8 +1,8 @@
 -- Entries are read behind a base, one after another.
 use Rattle.std.proofs.Common.{◌≡◌, ℕ, ◌+◌, ◌<◌, List, [], ◌∷◌, ◌++◌, length, Ok, None, Some, refl, sym, ap, subst, ◌∙◌, arith, length-append}
-use Rattle.history_text.specs.Below.{Entry, Header, Base, IsBaseOf, ended, Begins, IsText}
+use Rattle.history_text.specs.Below.{Entry, Base, ended, Begins, Header, IsBaseOf}
 use Rattle.line_text.proofs.Growing.{broken, one_more}
-use Rattle.history_text.specs.Prelude.{Head, Place, entry_line, IsHistoryText, history_form, AreEntriesRead, IsEntryBehind, behind, Entered, Line, calls_told, lines_on, sum_of}
+use Rattle.history_text.specs.Prelude.{Head, Place, entry_line, IsHistoryText, history_form, AreEntriesRead, IsEntryBehind, behind, Entered, calls_told, lines_on, sum_of}
 use Rattle.history_text.proofs.HistoryItems.{ends_on, entry_item, on_push, one_entry, sum-append}
 
 module _ (text : List ℕ) (h : Head) (b : Base) (es : List Entry) (p : Place) (rest : List ℕ)
@@ -13,12 +13,11 @@ module _ (text : List ℕ) (h : Head) (b : Base) (es : List Entry) (p : Place) (
       read.place.calls in
       record {
         base = subst (λ (k : Header). IsBaseOf k b) (sym read.history.base.0) read.history.base;
-        is = subst (λ (z : Head). IsText history_form text z (lines_on b es)) (sym read.history.head)
-            (record {
-              begins = subst (Begins history_form text h (lines_on b es))
-                  (is ∙ ap (λ (t : List ℕ). ended t) end) read.begins;
-              ends = (b, es, read.history, refl);
-            });
+        is = rw read.history.head (record {
+          begins = subst (Begins history_form text h (lines_on b es))
+              (is ∙ ap (λ (t : List ℕ). ended t) end) read.begins;
+          ends = (b, es, read.history, refl);
+        });
       }
 
   pub read_one : (e : Entry) (left : ℕ) (after : List ℕ) → p.count < h.header.cap →
@@ -35,20 +34,14 @@ module _ (text : List ℕ) (h : Head) (b : Base) (es : List Entry) (p : Place) (
       ∙ ap (λ (k : ℕ). entry_line k e ++ 10 ∷ after) (sym number) in
       record {
         history = one_entry h b es e read.history room is.0;
-        begins = subst (λ (l : List Line). Begins history_form text h l after) (sym items)
-            (one_more history_form text h (lines_on b es) rest (entry_line (b.entries + length es) e) after
-            (Entered (b.entries + length es) e) read.begins line
+        begins = rw items (one_more history_form text h (lines_on b es) rest
+            (entry_line (b.entries + length es) e) after (Entered (b.entries + length es) e) read.begins line
             (entry_item h b es e read.history room is.0) refl);
         place = record {
           lines = read.place.lines;
           folded = read.place.folded;
           count = omega (arith, read.place.count, length-append es (e ∷ []));
-          calls = omega (
-            arith,
-            read.place.calls,
-            ap (sum_of calls_told) items,
-            sum-append calls_told (lines_on b es) (Entered (b.entries + length es) e ∷ []),
-          );
+          calls = omega (arith, read.place.calls, ap (sum_of calls_told) items, sum-append calls_told);
         };
         behind = λ based none. absurd (some es none);
       }

@@ -37,21 +37,7 @@ line_plain h k e lt range fits = (
 
 joined : (v : List ℕ) (w : Word) (m : Mode) (n at : ℕ) (e : End) →
     line_of (v ∷ spelt w m n at e) ≡ v ++ 32 ∷ line_of (spelt w m n at e)
-joined v word.Got m n at e = refl
-joined v word.TryGot m n at e = refl
-joined v word.Queued m n at e = refl
-joined v word.Granted m n at e = refl
-joined v word.Missed m n at e = refl
-joined v word.Left m n at e = refl
-joined v word.Gave m n at e = refl
-joined v (word.Refused f) m n at e = refl
-joined v word.Await m n at e = refl
-joined v word.Lapse m n at e = refl
-joined v word.Signal m n at e = refl
-joined v word.SignalAll m n at e = refl
-joined v word.Back m n at e = refl
-joined v word.Counted m n at e = refl
-joined v word.Drained m n at e = refl
+joined v w m n at e = grind arith
 
 pub entry_line-words : (k : ℕ) (e : Entry) →
     entry_line k e ≡ line_of (decimal k ∷ decimal e.seat ∷ entry_words e)

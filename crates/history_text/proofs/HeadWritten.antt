@@ -3,7 +3,7 @@ use Rattle.std.proofs.Common.{◌≡◌, ⊎_elim, ℕ, zero, suc, ◌+◌, ◌�
 use Rattle.std.specs.List.{AllByRecursion}
 use Rattle.history_text.specs.Below.{SeatBase, Header, Base, based, each_below, nothing, opening_base, seat_of, total, MOST_FOLDED, IsBaseOf, IsGood, IsInRange, calls, part_of, Start, ended}
 use Rattle.history.proofs.OpeningBase.{based_opening}
-use Rattle.history_text.specs.Prelude.{BaseLine, Folded, Released, CountedDown, Seat, Stands, Sleeps, IsBaseLine, base_lines, MayFollow, BaseSums, with_sums, no_sums, IsHeadPut, calls_sum, lines_text, head_line, head_of, lines_told, name_of}
+use Rattle.history_text.specs.Prelude.{BaseLine, IsBaseLine, base_lines, MayFollow, BaseSums, with_sums, no_sums, IsHeadPut, calls_sum, lines_text, head_line, head_of, lines_told, name_of}
 use Rattle.history_text.specs.inner.BaseFollowing.{AllFollow}
 use Rattle.history_text.proofs.BaseLineLemmas.{may_follow_spelt}
 use Rattle.history_text.proofs.BaseTheory.{IsGoodOf, good_follows}
@@ -11,12 +11,7 @@ use Rattle.history_text.proofs.HistoryItems.{some_entries, told_some}
 
 few_then : (t : BaseSums) (b : Base) (x : BaseLine) → t.entries ≤ MOST_FOLDED → MayFollow t b x →
     (with_sums t x).entries ≤ MOST_FOLDED
-few_then t b (Folded n) few may = may.0.most
-few_then t b (Released n u) few may = may.0.most
-few_then t b (CountedDown n q) few may = may.0.most
-few_then t b (Seat i has) few may = few
-few_then t b (Stands p) few may = few
-few_then t b (Sleeps c x) few may = few
+few_then t b x few may = grind arith
 
 follow_spelt : (t : BaseSums) (b : Base) (xs : List BaseLine) → IsInRange b.header → t.entries ≤ MOST_FOLDED →
     AllFollow b t xs → AllByRecursion IsBaseLine xs
@@ -33,8 +28,7 @@ good_spelt b of = follow_spelt no_sums b (base_lines b) of.range (omega arith) (
 total_first : (n : ℕ) (f : ℕ → ℕ) → total (suc n) f ≡ f 0 + total n (λ i. f (suc i))
 total_first zero f = omega arith
 total_first (suc n) f =
-    let first = total_first n f in
-    omega (arith, first)
+    omega (arith, total_first n f)
 
 -- the calls of all seats
 pub sum_total : (xs : List SeatBase) → calls_sum xs ≡ total (length xs) (λ i. (get_or xs i nothing).calls)
@@ -81,11 +75,8 @@ head_written b k out x new some header p s =
     let first : head_line (head_of b) ≡ codes "aqs-history 2 " ++ part_of k =
     ap (λ (c : Bool). name_of c ++ part_of b.header) (some_entries b.entries some)
     ∙ ap (λ (h : Header). codes "aqs-history 2 " ++ part_of h) header in
-    s ∙ ap (λ (t : List ℕ). t ++ lines_text (base_lines b)) p
-    ∙ append_assoc out (ended (codes "aqs-history 2 " ++ part_of k)) (lines_text (base_lines b))
-    ∙ ap (λ (t : List ℕ). out ++ (ended t ++ lines_text (base_lines b))) (sym first)
-    ∙ ap (λ (l : List BaseLine). out ++ (ended (head_line (head_of b)) ++ lines_text l))
-    (sym (told_some b some))
+    rw (s, p, first, told_some b some)
+    (append_assoc out (ended (codes "aqs-history 2 " ++ part_of k)) (lines_text (base_lines b)))
 
 -- of an opening the first line of format 1 is all
 pub opening_written : (k : Header) (out new : List ℕ) →

@@ -1,24 +1,16 @@
 -- The first line of a text is written where no entry was folded.
-use Rattle.std.proofs.Common.{◌≡◌, ℕ, Bool, false, ltb, List, ◌++◌, Option, Some, None, refl, sym, subst, ⊎_elim, ap, ◌∙◌, arith, append-nil, codes}
+use Rattle.std.proofs.Common.{◌≡◌, ℕ, List, ◌++◌, Option, Some, None, sym, subst, ⊎_elim, arith, append-nil, codes}
 use Rattle.history_text.specs.Below.{Header, Base, IsBasedWell, or_opening, IsBaseOf, IsGood, IsInRange, part_of, ended}
 use Rattle.history.proofs.OpeningBase.{opening_good}
-use Rattle.history_text.specs.Prelude.{BaseLine, IsHeadPut, lines_text, head_line, head_of, name_of}
+use Rattle.history_text.specs.Prelude.{IsHeadPut}
 use Rattle.history_text.proofs.HeadWritten.{opening_written, sum_few}
-use Rattle.history_text.proofs.HistoryItems.{told_none}
 
 -- of a good base with no entries the first line of format 1 is all
 good_written : (b : Base) (k : Header) (out new : List ℕ) → b.entries ≡ 0 → b.header ≡ k → IsGood b →
     new ≡ out ++ ended (codes "aqs-history 1 " ++ part_of k) → IsHeadPut b out new 0 0
 good_written b k out new none header good is =
-    let no : ltb 0 b.entries ≡ false = rw none refl in
-    let first : head_line (head_of b) ≡ codes "aqs-history 1 " ++ part_of k =
-    ap (λ (c : Bool). name_of c ++ part_of b.header) no
-    ∙ ap (λ (h : Header). codes "aqs-history 1 " ++ part_of h) header in
     record {
-      lines = is ∙ ap (λ (t : List ℕ). out ++ ended t) (sym first)
-          ∙ ap (λ (t : List ℕ). out ++ t) (sym (append-nil (ended (head_line (head_of b)))))
-          ∙ ap (λ (l : List BaseLine). out ++ (ended (head_line (head_of b)) ++ lines_text l))
-          (sym (told_none b none));
+      lines = simp (is, none, header, append-nil);
       folded = sym none;
       few = omega arith;
       calls = omega (arith, sum_few b good, none);

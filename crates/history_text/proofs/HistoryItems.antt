@@ -1,19 +1,18 @@
 -- The lines of a history, and which lines may come next.
 use Rattle.std.proofs.Common.{◌≡◌, ◌⊎◌, ⊎_elim, inl, inr, ℕ, zero, suc, ◌+◌, ◌<◌, ◌≤◌, Bool, true, ltb, List, [], ◌∷◌, ◌++◌, length, map, refl, sym, ap, subst, ◌∙◌, arith, append_assoc, append-nil, lt-ltb, ltb-true, length-append}
 use Rattle.std.specs.List.{AllByRecursion}
-use Rattle.std.proofs.lemmas.List.{length-map}
-use Rattle.history_text.specs.Below.{SeatBase, Sleeper, LinePlace, Entry, Header, Object, Lock, ReadWrite, Semaphore, Latch, Base, opening_base, ended_calls, MOST_FOLDED, IsBaseOf, IsGood, AreItems}
+use Rattle.std.proofs.lemmas.List.{length-map, map-append}
+use Rattle.history_text.specs.Below.{SeatBase, Sleeper, LinePlace, Entry, Header, Object, Base, opening_base, ended_calls, MOST_FOLDED, IsBaseOf, IsGood, AreItems}
 use Rattle.history_text.specs.Prelude.{BaseLine, Stands, Sleeps, Head, base_lines, first_line, seat_lines, sleeper_lines, calls_sum, HasLine, counts_line, head_of, lines_told, Based, Entered, IsHistoryOf, Line, SomeBeginsSo, calls_told, end_of, entries_told, lines_on, numbered, sum_of, history_form, GoodBeginsSo, GoodHas, IsToldBase}
 use Rattle.history_text.proofs.Lists.{each_at, each_front}
+use Rattle.history.proofs.Times.{each-append}
 
 -- ---- one line more
 
 pub numbered-push : (n : ℕ) (es : List Entry) (e : Entry) →
     numbered n (es ++ e ∷ []) ≡ numbered n es ++ Entered (n + length es) e ∷ []
-numbered-push n [] e = ap (λ (k : ℕ). Entered k e ∷ []) (omega arith)
-numbered-push n (x ∷ es) e =
-    ap (λ (l : List Line). Entered n x ∷ l) (numbered-push (n + 1) es e
-    ∙ ap (λ (k : ℕ). numbered (n + 1) es ++ Entered k e ∷ []) (omega arith))
+numbered-push n [] e = grind arith
+numbered-push n (x ∷ es) e = grind (arith, numbered-push (n + 1) es e)
 
 pub on_push : (b : Base) (es : List Entry) (e : Entry) →
     lines_on b (es ++ e ∷ []) ≡ lines_on b es ++ Entered (b.entries + length es) e ∷ []
@@ -36,7 +35,7 @@ told_none b none = rw none refl
 
 pub base_few : (k : Header) (b : Base) → IsBaseOf k b → b.entries ≤ MOST_FOLDED
 base_few k b of =
-    ⊎_elim (λ (e : b ≡ opening_base k). (let z = ap (λ (a : Base). a.entries) e in omega (arith, z)))
+    ⊎_elim (λ (e : b ≡ opening_base k). omega (arith, ap (λ (a : Base). a.entries) e))
     (λ (g : (1 ≤ b.entries) × IsGood b). g.1.entries) of.1
 
 -- ---- what lines count
@@ -79,84 +78,41 @@ module _ (f : Line → ℕ) (stands : (p : LinePlace) → f (Based (Stands p)) �
   no_lists : (c : ℕ) (lists : List (List Sleeper)) → sum_of f (map Based (sleeper_lines c lists)) ≡ 0
   no_lists c [] = refl
   no_lists c (xs ∷ lists) =
-      omega (
-        arith,
-        based-append f (map (Sleeps c) xs) (sleeper_lines (c + 1) lists),
-        no_sleepers c xs,
-        no_lists (c + 1) lists,
-      )
+      let parts = based-append f (map (Sleeps c) xs) (sleeper_lines (c + 1) lists) in
+      omega (arith, parts, no_sleepers c xs, no_lists (c + 1) lists)
 
   -- the first line and those of the seats count
   counted : (b : Base) → sum_of f (map Based (base_lines b))
       ≡ f (Based (first_line b.header.object b)) + sum_of f (map Based (seat_lines 0 b.seats))
-  counted b =
-      omega (
-        arith,
-        based-append f (seat_lines 0 b.seats) (map Stands b.line ++ sleeper_lines 0 b.sleepers),
-        based-append f (map Stands b.line) (sleeper_lines 0 b.sleepers),
-        no_standings b.line,
-        no_lists 0 b.sleepers,
-      )
+  counted b = omega (arith, based-append f, no_standings, no_lists)
 
 first_entries : (o : Object) (b : Base) → entries_told (Based (first_line o b)) ≡ b.entries
-first_entries (Lock p) b = refl
-first_entries (ReadWrite p) b = refl
-first_entries (Semaphore p c) b = refl
-first_entries (Latch c) b = refl
+first_entries o b = grind arith
 
 first_calls : (o : Object) (b : Base) → calls_told (Based (first_line o b)) ≡ 0
-first_calls (Lock p) b = refl
-first_calls (ReadWrite p) b = refl
-first_calls (Semaphore p c) b = refl
-first_calls (Latch c) b = refl
+first_calls o b = grind arith
 
 zero_or_some : (n : ℕ) → (n ≡ 0) ⊎ (1 ≤ n)
 zero_or_some zero = inl refl
 zero_or_some (suc n) = inr (omega arith)
 
 entries_base : (b : Base) → sum_of entries_told (map Based (lines_told b)) ≡ b.entries
-entries_base b = ⊎_elim none some (zero_or_some b.entries)
-  where
-    none : b.entries ≡ 0 → sum_of entries_told (map Based (lines_told b)) ≡ b.entries
-    none z = ap (λ (l : List BaseLine). sum_of entries_told (map Based l)) (told_none b z) ∙ sym z
-
-    some : 1 ≤ b.entries → sum_of entries_told (map Based (lines_told b)) ≡ b.entries
-    some l =
-        ap (λ (xs : List BaseLine). sum_of entries_told (map Based xs)) (told_some b l)
-        ∙ counted entries_told (λ p. refl) (λ c x. refl) b
-        ∙ omega (arith, first_entries b.header.object b, seat_entries 0 b.seats)
+entries_base b =
+    let told = counted entries_told (λ p. refl) (λ c x. refl) b in
+    grind (arith, told_none b, told_some b, told, first_entries, seat_entries)
 
 calls_base : (b : Base) → (b.entries ≡ 0 → calls_sum b.seats ≡ 0) →
     sum_of calls_told (map Based (lines_told b)) ≡ calls_sum b.seats
-calls_base b early = ⊎_elim none some (zero_or_some b.entries)
-  where
-    none : b.entries ≡ 0 → sum_of calls_told (map Based (lines_told b)) ≡ calls_sum b.seats
-    none z = ap (λ (l : List BaseLine). sum_of calls_told (map Based l)) (told_none b z) ∙ sym (early z)
-
-    some : 1 ≤ b.entries → sum_of calls_told (map Based (lines_told b)) ≡ calls_sum b.seats
-    some l =
-        ap (λ (xs : List BaseLine). sum_of calls_told (map Based xs)) (told_some b l)
-        ∙ counted calls_told (λ p. refl) (λ c x. refl) b
-        ∙ omega (arith, first_calls b.header.object b, seat_calls 0 b.seats)
+calls_base b early =
+    let told = counted calls_told (λ p. refl) (λ c x. refl) b in
+    grind (arith, told_none b, told_some b, told, first_calls, seat_calls)
 
 pub entries_on : (b : Base) (es : List Entry) → sum_of entries_told (lines_on b es) ≡ b.entries + length es
-entries_on b es =
-    omega (
-      arith,
-      sum-append entries_told (map Based (lines_told b)) (numbered b.entries es),
-      entries_base b,
-      entries_numbered b.entries es,
-    )
+entries_on b es = omega (arith, sum-append entries_told, entries_base, entries_numbered)
 
 pub calls_on : (b : Base) (es : List Entry) → (b.entries ≡ 0 → calls_sum b.seats ≡ 0) →
     sum_of calls_told (lines_on b es) ≡ calls_sum b.seats + ended_calls es
-calls_on b es early =
-    omega (
-      arith,
-      sum-append calls_told (map Based (lines_told b)) (numbered b.entries es),
-      calls_base b early,
-      calls_numbered b.entries es,
-    )
+calls_on b es early = omega (arith, sum-append calls_told, calls_base b early, calls_numbered)
 
 -- the end line behind a history
 pub ends_on : (b : Base) (es : List Entry) (n c : ℕ) → n ≡ b.entries + length es →
@@ -238,41 +194,20 @@ length-on b es =
 
 -- ---- lines before one of a history
 
-head_same : (x y : Line) (xs ys : List Line) → x ∷ xs ≡ y ∷ ys → x ≡ y
-head_same x y xs ys e = cc
-
-tail_same : (x y : Line) (xs ys : List Line) → x ∷ xs ≡ y ∷ ys → xs ≡ ys
-tail_same x y xs ys e = cc
-
-base_same : (x y : BaseLine) → Based x ≡ Based y → x ≡ y
-base_same x y e = cc
-
-other_kind : {x : BaseLine} {n : ℕ} {e : Entry} → Based x ≡ Entered n e → ⊥
-other_kind q = cc
-
-entry_same : (n m : ℕ) (d e : Entry) → Entered n d ≡ Entered m e → (n ≡ m) × (d ≡ e)
-entry_same n m d e q = (cc, cc)
-
 no_based : (n : ℕ) (es : List Entry) (before more : List Line) (x : BaseLine) →
     numbered n es ≡ before ++ Based x ∷ more → ⊥
 no_based n [] [] more x e = cc
 no_based n [] (y ∷ before) more x e = cc
-no_based n (f ∷ es) [] more x e = absurd (other_kind (sym (head_same _ _ _ _ e)))
-no_based n (f ∷ es) (y ∷ before) more x e = no_based (n + 1) es before more x (tail_same _ _ _ _ e)
+no_based n (f ∷ es) [] more x e = cc
+no_based n (f ∷ es) (y ∷ before) more x e = no_based (n + 1) es before more x cc
 
 based_split : (ls : List BaseLine) (n : ℕ) (es : List Entry) (before more : List Line) (x : BaseLine) →
     map Based ls ++ numbered n es ≡ before ++ Based x ∷ more →
     (xs : List BaseLine) × (rest : List BaseLine) × (before ≡ map Based xs) × (ls ≡ xs ++ x ∷ rest)
 based_split [] n es before more x e = absurd (no_based n es before more x e)
-based_split (l ∷ ls) n es [] more x e =
-    ([], ls, refl, ap (λ (y : BaseLine). y ∷ ls) (base_same l x (head_same _ _ _ _ e)))
+based_split (l ∷ ls) n es [] more x e = ([], ls, refl, cc)
 based_split (l ∷ ls) n es (y ∷ before) more x e =
-    let s = based_split ls n es before more x (tail_same _ _ _ _ e) in (
-      l ∷ s.0,
-      s.1,
-      ap (λ (z : Line). z ∷ before) (sym (head_same _ _ _ _ e)) ∙ ap (λ (z : List Line). Based l ∷ z) s.2,
-      ap (λ (z : List BaseLine). l ∷ z) s.3,
-    )
+    let s = based_split ls n es before more x cc in (l ∷ s.0, s.1, cc s.2, cc s.3)
 
 -- the entries before one, behind the lines of a base
 record Split (ls : List BaseLine) (n : ℕ) (es : List Entry) (before : List Line) (m : ℕ) (e : Entry) :
@@ -288,35 +223,15 @@ entry_split : (ls : List BaseLine) (n : ℕ) (es : List Entry) (before more : Li
 entry_split [] n [] [] more m e q = absurd cc
 entry_split [] n [] (y ∷ before) more m e q = absurd cc
 entry_split [] n (f ∷ es) [] more m e q =
-    let same = entry_same n m f e (head_same _ _ _ _ q) in
-    record {
-      fs = [];
-      gs = es;
-      lines = refl;
-      number = omega (arith, same.0);
-      all = ap (λ (x : Entry). x ∷ es) same.1;
-    }
+    let same : n ≡ m = cc in
+    record { fs = []; gs = es; lines = refl; number = omega (arith, same); all = cc }
 entry_split [] n (f ∷ es) (y ∷ before) more m e q =
-    let s = entry_split [] (n + 1) es before more m e (tail_same _ _ _ _ q) in
-    record {
-      fs = f ∷ s.fs;
-      gs = s.gs;
-      lines = ap (λ (z : Line). z ∷ before) (sym (head_same _ _ _ _ q))
-          ∙ ap (λ (z : List Line). Entered n f ∷ z) s.lines;
-      number = omega (arith, s.number);
-      all = ap (λ (z : List Entry). f ∷ z) s.all;
-    }
-entry_split (l ∷ ls) n es [] more m e q = absurd (other_kind (head_same _ _ _ _ q))
+    let s = entry_split [] (n + 1) es before more m e cc in
+    record { fs = f ∷ s.fs; gs = s.gs; lines = cc s.lines; number = omega (arith, s.number); all = cc s.all }
+entry_split (l ∷ ls) n es [] more m e q = absurd cc
 entry_split (l ∷ ls) n es (y ∷ before) more m e q =
-    let s = entry_split ls n es before more m e (tail_same _ _ _ _ q) in
-    record {
-      fs = s.fs;
-      gs = s.gs;
-      lines = ap (λ (z : Line). z ∷ before) (sym (head_same _ _ _ _ q))
-          ∙ ap (λ (z : List Line). Based l ∷ z) s.lines;
-      number = s.number;
-      all = s.all;
-    }
+    let s = entry_split ls n es before more m e cc in
+    record { fs = s.fs; gs = s.gs; lines = cc s.lines; number = s.number; all = s.all }
 
 -- ---- which lines may come next
 
@@ -332,8 +247,7 @@ module _ (h : Head) where
         header = of.base.0;
         some = some;
         good = ⊎_elim
-            (λ (e : b ≡ opening_base h.header). (let z = ap (λ (a : Base). a.entries) e in
-            absurd (omega (arith, z, some))))
+            (λ (e : b ≡ opening_base h.header). absurd (omega (arith, ap (λ (a : Base). a.entries) e, some)))
             (λ (g : (1 ≤ b.entries) × IsGood b). g.1) of.base.1;
       }
 
@@ -392,10 +306,6 @@ module _ (h : Head) where
   alone_lines b some =
       append-nil (map Based (lines_told b)) ∙ ap (λ (l : List BaseLine). map Based l) (told_some b some)
 
-  map_append : (xs ys : List BaseLine) → map Based (xs ++ ys) ≡ map Based xs ++ map Based ys
-  map_append [] ys = refl
-  map_append (x ∷ xs) ys = ap (λ (l : List Line). Based x ∷ l) (map_append xs ys)
-
   pub based_item : (xs : List BaseLine) (x : BaseLine) → h.is_based ≡ true →
       GoodBeginsSo h.header (xs ++ x ∷ []) → SomeBeginsSo h (map Based xs ++ Based x ∷ [])
   based_item xs x based (b, more, is, e) = (
@@ -403,8 +313,8 @@ module _ (h : Head) where
     [],
     map Based more,
     base_alone b based is,
-    alone_lines b is.some ∙ ap (λ (l : List BaseLine). map Based l) e ∙ map_append (xs ++ x ∷ []) more
-        ∙ ap (λ (l : List Line). l ++ map Based more) (map_append xs (x ∷ [])),
+    alone_lines b is.some ∙ ap (λ (l : List BaseLine). map Based l) e ∙ map-append Based (xs ++ x ∷ []) more
+        ∙ ap (λ (l : List Line). l ++ map Based more) (map-append Based xs (x ∷ [])),
   )
 
   -- lines of a history that are those of a base alone are those of a good one
@@ -451,11 +361,6 @@ module _ (h : Head) where
         line = each_at (HasLine h.header) s.fs e s.gs all;
       }
 
-  each_push : (es : List Entry) (e : Entry) → AllByRecursion (HasLine h.header) es → HasLine h.header e →
-      AllByRecursion (HasLine h.header) (es ++ e ∷ [])
-  each_push [] e all fits = (fits, tt)
-  each_push (x ∷ es) e all fits = (all.0, each_push es e all.1 fits)
-
   pub one_entry : (b : Base) (es : List Entry) (e : Entry) → IsHistoryOf h b es → length es < h.header.cap →
       HasLine h.header e → IsHistoryOf h b (es ++ e ∷ [])
   one_entry b es e of room fits =
@@ -463,7 +368,7 @@ module _ (h : Head) where
         base = of.base;
         head = of.head;
         few = omega (arith, length-append es (e ∷ []), room);
-        each = each_push es e of.each fits;
+        each = each-append (HasLine h.header) es (e ∷ []) of.each (fits, tt);
       }
 
   pub entry_item : (b : Base) (es : List Entry) (e : Entry) → IsHistoryOf h b es → length es < h.header.cap →

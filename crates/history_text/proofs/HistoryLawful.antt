@@ -18,7 +18,7 @@ use Rattle.history_text.proofs.HistoryItems.{base_few, calls_on, entries_on, nex
 entry_lacks : (h : Header) (k : ℕ) (e : Entry) → IsInRange h → k < 2 ^ 64 → HasLine h e →
     Lacks (entry_line k e)
 entry_lacks h k e range lt fits =
-    subst Lacks (sym (entry_line-words k e))
+    rw (entry_line-words k e)
     (line_lacks (decimal k ∷ decimal e.seat ∷ entry_words e) (line_plain h k e lt range fits))
 
 end_lacks : (a b : ℕ) → a < 2 ^ 64 → b < 2 ^ 64 → Lacks (counts_line a b)
@@ -99,16 +99,7 @@ ended_fit h lines range (b, es, of, e) =
     ap (sum_of entries_told) e in
     let calls : sum_of calls_told (lines_on b es) ≡ sum_of calls_told lines = ap (sum_of calls_told) e in (
       omega (arith, entries, entries_on b es, few, of.few, range.cap),
-      omega (
-        arith,
-        calls,
-        calls_on b es (λ z. omega (arith, some, z)),
-        some,
-        few,
-        ended_calls_le es,
-        of.few,
-        range.cap,
-      ),
+      omega (arith, calls_on b es (λ z. omega (arith, some, z)), ended_calls_le es, of.few, range.cap),
     )
 
 line_whole : (h : Head) (before : List Line) (x : Line) → IsInRange h.header →

@@ -1,17 +1,15 @@
 -- What is written of a history is the one text of its lines.
-use Rattle.std.proofs.Common.{◌≡◌, ℕ, ◌+◌, List, [], ◌∷◌, ◌++◌, length, map, reverse, refl, ap, sym, ◌∙◌, arith, append_assoc}
+use Rattle.std.proofs.Common.{◌≡◌, ℕ, ◌+◌, List, [], ◌∷◌, ◌++◌, length, map, reverse, refl, ap, arith, append_assoc, sym, ◌∙◌}
 use Rattle.std.proofs.lemmas.List.{length-reverse}
 use Rattle.history_text.specs.Below.{Entry, Base, based, calls, ended, lines_of, text_of}
 use Rattle.history.proofs.Lists.{calls-ended, ended_calls-reverse}
-use Rattle.history_text.specs.Prelude.{BaseLine, base_line, calls_sum, counts_line, entry_line, head_line, head_of, lines_told, history_form, entry_lines, history_text, lines_text, Based, Line, end_of, lines_on, numbered}
+use Rattle.history_text.specs.Prelude.{BaseLine, calls_sum, counts_line, entry_line, head_of, history_form, entry_lines, history_text, lines_text, Based, Line, end_of, lines_on, numbered, head_line, lines_told, base_line}
 use Rattle.history_text.proofs.HistoryItems.{calls_on, ends_on}
 
 lines_based : (xs : List BaseLine) (ys : List Line) →
     lines_of history_form (map Based xs ++ ys) ≡ lines_text xs ++ lines_of history_form ys
 lines_based [] ys = refl
-lines_based (x ∷ xs) ys =
-    ap (λ (t : List ℕ). ended (base_line x) ++ t) (lines_based xs ys)
-    ∙ sym (append_assoc (ended (base_line x)) (lines_text xs) (lines_of history_form ys))
+lines_based (x ∷ xs) ys = simp (lines_based xs ys, append_assoc)
 
 lines_numbered : (n : ℕ) (es : List Entry) → lines_of history_form (numbered n es) ≡ entry_lines n es
 lines_numbered n [] = refl
@@ -39,9 +37,7 @@ pieces b h sums early =
     let first = ended (head_line (head_of b)) in
     let lines = lines_text (lines_told b) in
     let entries = entry_lines b.entries (reverse h) in
-    let all : lines_of history_form (lines_on b (reverse h)) ≡ lines ++ entries =
-    lines_based (lines_told b) (numbered b.entries (reverse h))
-    ∙ ap (λ (t : List ℕ). lines ++ t) (lines_numbered b.entries (reverse h)) in
-    ap (λ (t : List ℕ). first ++ (t ++ ended end)) all
-    ∙ ap (λ (t : List ℕ). first ++ t) (append_assoc lines entries (ended end))
-    ∙ ap (λ (t : List ℕ). first ++ (lines ++ (entries ++ ended t))) (sym (end_counts b h sums early))
+    let told : text_of history_form (head_of b) (lines_on b (reverse h))
+    ≡ first ++ (lines ++ (entries ++ ended end)) =
+    simp (lines_based, lines_numbered, append_assoc) in
+    told ∙ ap (λ (t : List ℕ). first ++ (lines ++ (entries ++ ended t))) (sym (end_counts b h sums early))

@@ -1,6 +1,6 @@
 -- The lines of a history text are short.
-use Rattle.std.proofs.Common.{◌≡◌, ℕ, ◌<◌, ◌≤◌, ◌^◌, Bool, true, false, List, [], ◌∷◌, ◌++◌, length, refl, ap, arith, decimal, codes, length-append}
-use Rattle.history_text.specs.Below.{LAST_CONDITION, MOST_AMOUNT, End, Entry, Mode, X, Word, Back, Queued, Fault, NotOwner, TooManyHolds, TooManyPermits, Interrupted, HoldsRead, OutOfPhase, NoSuchCondition, BadAmount, WrongMode, HistoryFull, OutOfMemory, TrimFull, Header, LinePlace, IsWritten, end_word, entry_words, spelt, fault_name, IsInRange, ended, part_of, HasShortLines}
+use Rattle.std.proofs.Common.{◌≡◌, ℕ, ◌<◌, ◌≤◌, ◌^◌, Bool, true, false, List, [], ◌∷◌, ◌++◌, length, ap, arith, decimal, codes, length-append}
+use Rattle.history_text.specs.Below.{LAST_CONDITION, MOST_AMOUNT, End, Entry, Mode, X, Word, Back, Queued, Header, LinePlace, IsWritten, entry_words, spelt, IsInRange, ended, part_of, HasShortLines}
 use Rattle.history.specs.declared.entry.End.TheVariants as end
 use Rattle.history.specs.declared.entry.Word.TheVariants as word
 use Rattle.line_text.proofs.Lengths.{AreShort, decimal_short, header_short, line_length, mode_short}
@@ -9,71 +9,12 @@ use Rattle.history_text.proofs.BaseLineLemmas.{base_short}
 use Rattle.history_text.proofs.EntryLemmas.{counts_line-words, entry_line-words}
 use Rattle.history_text.proofs.HistoryLawful.{ended_fit, number_fits, spelt_next}
 
-end_word_short : (e : End) → length (end_word e) ≤ 20
-end_word_short end.None = omega arith
-end_word_short end.Timeout = omega arith
-end_word_short end.Interrupt = omega arith
-end_word_short end.Signalled = omega arith
-
-fault_short : (f : Fault) → length (fault_name f) ≤ 20
-fault_short NotOwner = omega arith
-fault_short TooManyHolds = omega arith
-fault_short TooManyPermits = omega arith
-fault_short Interrupted = omega arith
-fault_short HoldsRead = omega arith
-fault_short OutOfPhase = omega arith
-fault_short NoSuchCondition = omega arith
-fault_short BadAmount = omega arith
-fault_short WrongMode = omega arith
-fault_short HistoryFull = omega arith
-fault_short OutOfMemory = omega arith
-fault_short TrimFull = omega arith
-
 pub words_short : (w : Word) (m : Mode) (n at : ℕ) (e : End) → n ≤ MOST_AMOUNT → at ≤ LAST_CONDITION →
     AreShort (spelt w m n at e) × (length (spelt w m n at e) ≤ 4)
-words_short word.Got m n at e lt le =
-    ((omega arith, (mode_short m, (decimal_short n (omega (arith, lt)), tt))), omega arith)
-words_short word.TryGot m n at e lt le =
-    ((omega arith, (mode_short m, (decimal_short n (omega (arith, lt)), tt))), omega arith)
-words_short word.Queued m n at e lt le =
-    ((omega arith, (mode_short m, (decimal_short n (omega (arith, lt)), tt))), omega arith)
-words_short word.Granted m n at e lt le =
-    ((omega arith, (mode_short m, (decimal_short n (omega (arith, lt)), tt))), omega arith)
-words_short word.Missed m n at e lt le =
-    ((omega arith, (mode_short m, (decimal_short n (omega (arith, lt)), tt))), omega arith)
-words_short word.Left m n at e lt le = (
-  (omega arith, (mode_short m, (decimal_short n (omega (arith, lt)), (end_word_short e, tt)))),
-  omega arith,
-)
-words_short word.Gave m n at e lt le =
-    ((omega arith, (mode_short m, (decimal_short n (omega (arith, lt)), tt))), omega arith)
-words_short (word.Refused f) m n at e lt le =
-    ((omega arith, (mode_short m, (decimal_short n (omega (arith, lt)), (fault_short f, tt)))), omega arith)
-words_short word.Await m n at e lt le = (
-  (omega arith, (decimal_short at (omega (arith, le)), (decimal_short n (omega (arith, lt)), tt))),
-  omega arith,
-)
-words_short word.Lapse m n at e lt le =
-    ((omega arith, (decimal_short at (omega (arith, le)), (end_word_short e, tt))), omega arith)
-words_short word.Signal m n at e lt le = (
-  (omega arith, (decimal_short at (omega (arith, le)), (decimal_short n (omega (arith, lt)), tt))),
-  omega arith,
-)
-words_short word.SignalAll m n at e lt le = (
-  (omega arith, (decimal_short at (omega (arith, le)), (decimal_short n (omega (arith, lt)), tt))),
-  omega arith,
-)
-words_short word.Back m n at e lt le = (
-  (
-    omega arith,
-    (decimal_short at (omega (arith, le)), (decimal_short n (omega (arith, lt)), (end_word_short e, tt))),
-  ),
-  omega arith,
-)
-words_short word.Counted m n at e lt le =
-    ((omega arith, (mode_short m, (decimal_short n (omega (arith, lt)), tt))), omega arith)
-words_short word.Drained m n at e lt le =
-    ((omega arith, (mode_short m, (decimal_short n (omega (arith, lt)), tt))), omega arith)
+words_short w m n at e lt le =
+    let amount = decimal_short n (omega (arith, lt)) in
+    let condition = decimal_short at (omega (arith, le)) in
+    grind (arith, mode_short, amount, condition)
 
 pub entry_short : (h : Header) (k : ℕ) (e : Entry) → k < 2 ^ 64 → IsInRange h → HasLine h e →
     length (entry_line k e) < 256
@@ -98,8 +39,7 @@ counts_short entries calls few lt =
     )
 
 name_length : (is_based : Bool) → length (name_of is_based) ≡ 14
-name_length true = refl
-name_length false = refl
+name_length is_based = grind arith
 
 head_short : (h : Head) → IsInRange h.header → length (head_line h) < 256
 head_short h range =
@@ -138,8 +78,6 @@ short =
 -- the end line and its break
 pub ended_short : (line : List ℕ) (entries calls : ℕ) → entries < 2 ^ 64 → calls < 2 ^ 64 →
     line ≡ ended (counts_line entries calls) → length line ≤ 255
-ended_short line entries calls few lt is = rw is (omega (
-  arith,
-  counts_short entries calls few lt,
-  length-append (counts_line entries calls) (10 ∷ []),
-))
+ended_short line entries calls few lt is =
+    let parts = length-append (counts_line entries calls) (10 ∷ []) in
+    rw is (omega (arith, counts_short entries calls few lt, parts))

@@ -1,8 +1,8 @@
 -- Each entry of a legal history of an object as opened has a spelling.
-use Rattle.std.proofs.Common.{◌≡◌, ◌≢◌, ◌⊎◌, inl, inr, ℕ, true, false, not, eqb, ltb, List, [], ◌∷◌, Some, Ok, refl, ap, sym, subst, eqb-true}
+use Rattle.std.proofs.Common.{◌≡◌, ◌≢◌, ◌⊎◌, inl, inr, ℕ, true, false, List, [], ◌∷◌, Some, Ok, ap, sym, subst, arith, ⊎_elim}
 use Rattle.std.specs.List.{AllByRecursion}
-use Rattle.std.proofs.lemmas.Bool.{or_parts, not-false}
-use Rattle.history_text.specs.Below.{MOST_AMOUNT, Arrival, End, Entry, Mode, X, S, Word, Object, Lock, ReadWrite, Semaphore, Latch, Step, IsSpelt, HasWords, CameBack, lacks_mode, is_bad_number, line, place_of, IsLegal, is_latch, phase, last_sleep, Start, entry_for}
+use Rattle.std.proofs.lemmas.Bool.Decides.{nat_tests}
+use Rattle.history_text.specs.Below.{Arrival, End, Entry, Mode, S, Word, Object, Step, IsSpelt, HasWords, CameBack, lacks_mode, is_bad_number, line, place_of, IsLegal, is_latch, phase, last_sleep, Start, entry_for}
 use Rattle.history.specs.declared.entry.End.TheVariants as end
 use Rattle.history.specs.declared.entry.Word.TheVariants as word
 use Rattle.history.specs.EntryWords.{GaveUp}
@@ -11,28 +11,15 @@ use Rattle.history_text.proofs.Made.{IsMadeBy, RefusesByRecorded, made}
 use Rattle.history.proofs.OneWait.{Waits, waits_from}
 use Rattle.history.proofs.WhoWaits.{comes_back}
 
-shared : (m : Mode) → lacks_mode (Latch 0) m ≡ false → m ≡ S
-shared X q = cc
-shared S q = refl
-
 latch_asks : (o : Object) (m : Mode) (n : ℕ) → is_latch o ≡ true → lacks_mode o m ≡ false →
     is_bad_number o n ≡ false → (m ≡ S) × (n ≡ 1)
-latch_asks (Lock p) m n l q r = cc
-latch_asks (ReadWrite p) m n l q r = cc
-latch_asks (Semaphore p c) m n l q r = cc
-latch_asks (Latch c) m n l q r =
-    let parts = or_parts (ltb MOST_AMOUNT n) (not (eqb n 1)) r in
-    (shared m q, eqb-true n 1 (not-false (eqb n 1) parts.1))
+latch_asks o m n l q r = grind (arith, nat_tests)
 
 gave_up : (e : End) → (e ≡ end.Timeout) ⊎ (e ≡ end.Interrupt) → GaveUp e
-gave_up e (inl q) = subst GaveUp (sym q) tt
-gave_up e (inr q) = subst GaveUp (sym q) tt
+gave_up e q = grind arith
 
 pub came_back : (e : End) → e ≢ end.None → CameBack e
-came_back end.None p = absurd (p refl)
-came_back end.Timeout p = tt
-came_back end.Interrupt p = tt
-came_back end.Signalled p = tt
+came_back e p = grind arith
 
 -- who comes back has an end to come back with
 way_back : (s : Start) (h : List Entry) (i : ℕ) (a : Arrival) → Waits s h → place_of i (line s h) ≡ Some a →
@@ -44,33 +31,21 @@ way_back s h i a w p b =
 
 spelt_by : (s : Start) (h : List Entry) (e : Entry) (w : Word) → Waits s h → KnownBy s h e w →
     RefusesByRecorded w → HasWords w e.mode e.n e.at e.end
-spelt_by s h e word.Got r k f = (k.0.at, k.0.end)
-spelt_by s h e word.TryGot r k f = (k.0.at, k.0.end)
-spelt_by s h e word.Queued r k f = (k.at, k.end)
-spelt_by s h e word.Missed r k f = (k.at, k.end)
-spelt_by s h e (word.Refused x) r k f = (k.at, k.end, f)
-spelt_by s h e word.Gave r k f = (k.0.at, k.0.end)
 spelt_by s h e word.Counted r k f =
     let asks = latch_asks s.header.object e.mode e.n k.1 k.0.mode k.0.amount in
     (asks.0, asks.1, k.0.at, k.0.end)
 spelt_by s h e word.Granted r k f = (ap (λ (x : Entry). x.at) k.1.entry, k.3)
-spelt_by s h e word.Left r k f = (ap (λ (x : Entry). x.at) k.1.entry, gave_up e.end (how k.2))
-  where
-    how : {P : Type 0} → ((e.end ≡ end.Timeout) × P) ⊎ (e.end ≡ end.Interrupt) →
-        (e.end ≡ end.Timeout) ⊎ (e.end ≡ end.Interrupt)
-    how (inl p) = inl p.0
-    how (inr p) = inr p
+spelt_by s h e word.Left r k f =
+    (ap (λ (x : Entry). x.at) k.1.entry, gave_up e.end (⊎_elim (λ p. inl p.0) (λ p. inr p) k.2))
 spelt_by s h e word.Back r k f = (
   ap (λ (x : Entry). x.mode) k.4,
   subst CameBack (sym (ap (λ (x : Entry). x.end) k.4)) (way_back s h e.seat k.0 r k.1 k.2),
 )
-spelt_by s h e word.Await r k f = (k.0.mode, k.0.end)
-spelt_by s h e word.Signal r k f = (k.0.mode, k.0.end)
-spelt_by s h e word.SignalAll r k f = (k.0.mode, k.0.end)
 spelt_by s h e word.Lapse r k f =
     (ap (λ (x : Entry). x.mode) k.2, ap (λ (x : Entry). x.n) k.2, gave_up e.end k.1)
 spelt_by s h e word.Drained r k f =
     (ap (λ (x : Entry). x.mode) k.2, ap (λ (x : Entry). x.at) k.2, ap (λ (x : Entry). x.end) k.2)
+spelt_by s h e w r k f = assumption
 
 -- ---- a legal history from an opening
 

@@ -1,5 +1,5 @@
 -- A history text is written, one entry after another behind the lines of a base.
-use Rattle.std.proofs.Common.{◌≡◌, ℕ, ◌+◌, List, [], ◌∷◌, ◌++◌, length, take, reverse, Some, sym, ap, ◌∙◌, arith, append_assoc, append-nil, length-take}
+use Rattle.std.proofs.Common.{◌≡◌, ℕ, ◌+◌, List, [], ◌∷◌, ◌++◌, length, take, reverse, Some, ap, ◌∙◌, arith, append_assoc, append-nil, length-take}
 use Rattle.std.specs.List.{slice_get}
 use Rattle.std.proofs.lemmas.List.{take_more}
 use Rattle.std.proofs.lemmas.Option.{get_or_from_slice_get, slice_get_within}
@@ -9,16 +9,8 @@ use Rattle.history_text.specs.Prelude.{counts_line, entry_line, head_line, head_
 -- one more entry
 pub entry_lines-push : (k : ℕ) (xs : List Entry) (x : Entry) →
     entry_lines k (xs ++ x ∷ []) ≡ entry_lines k xs ++ ended (entry_line (k + length xs) x)
-entry_lines-push k [] x =
-    let here : k + 0 ≡ k = omega arith in
-    append-nil (ended (entry_line k x)) ∙ ap (λ (n : ℕ). ended (entry_line n x)) (sym here)
-entry_lines-push k (y ∷ ys) x =
-    let next : (k + 1) + length ys ≡ k + length (y ∷ ys) = omega arith in
-    let more = entry_lines-push (k + 1) ys x
-    ∙ ap (λ (n : ℕ). entry_lines (k + 1) ys ++ ended (entry_line n x)) next in
-    ap (λ (t : List ℕ). ended (entry_line k y) ++ t) more
-    ∙ sym (append_assoc (ended (entry_line k y)) (entry_lines (k + 1) ys)
-    (ended (entry_line (k + length (y ∷ ys)) x)))
+entry_lines-push k [] x = grind (arith, append-nil {A = ℕ})
+entry_lines-push k (y ∷ ys) x = grind (arith, append_assoc {A = ℕ}, entry_lines-push (k + 1) ys x)
 
 -- one entry more behind the front
 pub more_lines : (n : ℕ) (xs : List Entry) (front out mid new : List ℕ) (i : ℕ) (e : Entry) →
@@ -27,19 +19,10 @@ pub more_lines : (n : ℕ) (xs : List Entry) (front out mid new : List ℕ) (i :
     → new ≡ front ++ entry_lines n (take (i + 1) xs)
 more_lines n xs front out mid new i e at was p q =
     let lt = slice_get_within xs i e at in
-    let before = entry_lines n (take i xs) in
     let taken : take (i + 1) xs ≡ take i xs ++ e ∷ [] =
     take_more xs i e lt ∙ ap (λ (x : Entry). take i xs ++ x ∷ []) (get_or_from_slice_get xs i e e at) in
-    let number : n + length (take i xs) ≡ n + i = omega (arith, length-take i xs, lt) in
-    let lines : entry_lines n (take (i + 1) xs) ≡ before ++ ended (entry_line (n + i) e) =
-    ap (entry_lines n) taken ∙ entry_lines-push n (take i xs) e
-    ∙ ap (λ (k : ℕ). before ++ ended (entry_line k e)) number in
-    q ∙ ap (λ (t : List ℕ). t ++ 10 ∷ []) (p ∙ ap (λ (t : List ℕ). t ++ entry_line (n + i) e) was)
-    ∙ regrouped front before (entry_line (n + i) e)
-    ∙ ap (λ (t : List ℕ). front ++ t) (sym lines)
-  where
-    regrouped : (a b c : List ℕ) → ((a ++ b) ++ c) ++ 10 ∷ [] ≡ a ++ (b ++ (c ++ 10 ∷ []))
-    regrouped a b c = simp append_assoc
+    let number : length (take i xs) ≡ i = omega (arith, length-take i xs, lt) in
+    simp (q, p, was, taken, entry_lines-push, number, append_assoc)
 
 -- all is written
 pub all_lines : (b : Base) (entries : List Entry) (out mid new : List ℕ) (n c : ℕ) →
@@ -48,12 +31,9 @@ pub all_lines : (b : Base) (entries : List Entry) (out mid new : List ℕ) (n c 
     n ≡ b.entries + length entries → c ≡ calls (based b) entries →
     mid ≡ out ++ counts_line n c → new ≡ mid ++ 10 ∷ [] → new ≡ history_text b entries
 all_lines b entries out mid new n c was p q r s =
-    s ∙ ap (λ (t : List ℕ). t ++ 10 ∷ []) (r ∙ ap (λ (t : List ℕ). t ++ counts_line n c) was)
-    ∙ regrouped (ended (head_line (head_of b))) (lines_text (lines_told b))
-    (entry_lines b.entries (reverse entries)) (counts_line n c)
-    ∙ ap (λ (t : List ℕ). ended (head_line (head_of b)) ++ (lines_text (lines_told b)
-    ++ (entry_lines b.entries (reverse entries) ++ ended t)))
-    (ap (λ (m : ℕ). counts_line m c) p ∙ ap (counts_line (b.entries + length entries)) q)
+    rw (s, r, was, p, q) (regrouped (ended (head_line (head_of b))) (lines_text (lines_told b))
+    (entry_lines b.entries (reverse entries))
+    (counts_line (b.entries + length entries) (calls (based b) entries)))
   where
     regrouped : (a b c d : List ℕ) → (((a ++ b) ++ c) ++ d) ++ 10 ∷ [] ≡ a ++ (b ++ (c ++ (d ++ 10 ∷ [])))
     regrouped a b c d = simp append_assoc

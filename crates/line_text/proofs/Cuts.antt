@@ -1,5 +1,5 @@
 -- Each proper beginning of a text of a lawful form is cut short.
-use Rattle.std.proofs.Common.{◌≡◌, ◌≢◌, ℕ, List, [], ◌∷◌, ◌++◌, refl, sym, ap, ◌∙◌, inl, inr, ◌⊎◌}
+use Rattle.std.proofs.Common.{◌≡◌, ◌≢◌, ℕ, List, [], ◌∷◌, ◌++◌, refl, sym, ap, ◌∙◌, inl, inr, ◌⊎◌, ⊎_elim}
 use Rattle.std.proofs.lemmas.List.Elements.{All-from_recursion}
 use Rattle.history.specs.Text.{HasNoBreak, ended}
 use Rattle.line_text.specs.Form.{Form, lines_of, AreItems}
@@ -45,11 +45,6 @@ none_whole : {H I : Type 0} (form : Form H I) (h : H) (before : List I) (front :
     Items form h before front
 none_whole form h before front p = record { items = []; rest = front; are = tt; parts = refl; whole = p }
 
-at_last : {H I : Type 0} (form : Form H I) (h : H) (before : List I) (end front more : List ℕ) → more ≢ [] →
-    Cut end [] front more → Items form h before front
-at_last form h before end front more some (inl p) = none_whole form h before front p
-at_last form h before end front more some (inr p) = absurd (some (none_left p.0 more p.2))
-
 one_before : {H I : Type 0} (form : Form H I) (h : H) (before : List I) (x : I) (front after : List ℕ) →
     form.IsItem h before x → front ≡ form.item_line x ++ 10 ∷ after → Items form h (before ++ x ∷ []) after →
     Items form h before front
@@ -63,27 +58,20 @@ one_before form h before x front after fits e more =
       whole = more.whole;
     }
 
-cut_further : {H I : Type 0} (form : Form H I) (h : H) (before : List I) (x : I) (rest front more : List ℕ) →
-    form.IsItem h before x → Cut (form.item_line x) rest front more
-    → ((after : List ℕ) → after ++ more ≡ rest → Items form h (before ++ x ∷ []) after)
-    → Items form h before front
-cut_further form h before x rest front more fits (inl p) further = none_whole form h before front p
-cut_further form h before x rest front more fits (inr p) further =
-    one_before form h before x front p.0 fits p.1 (further p.0 p.2)
-
 cut_items : {H I : Type 0} (form : Form H I) (h : H) (before : List I) (items : List I)
     (end front more : List ℕ) →
     IsLawful form → Stand form h before → AreItems form h before items → Lacks end → more ≢ []
     → front ++ more ≡ lines_of form items ++ ended end → Items form h before front
 cut_items form h before [] end front more lawful stand all whole some e =
-    at_last form h before end front more some (cut_at end [] front more whole e)
+    ⊎_elim (none_whole form h before front) (λ p. absurd (some (none_left p.0 more p.2)))
+    (cut_at end [] front more whole e)
 cut_items form h before (x ∷ xs) end front more lawful stand all whole some e =
-    let rest = lines_of form xs ++ ended end in
-    cut_further form h before x rest front more all.0
-    (cut_at (form.item_line x) rest front more (lawful.item_whole h before x stand all.0) (e
-    ∙ first_line form x xs (ended end)))
-    (λ after f. cut_items form h (before ++ x ∷ []) xs end after more lawful
-    (one_further form h before x stand all.0) all.1 whole some f)
+    ⊎_elim (none_whole form h before front)
+    (λ p. one_before form h before x front p.0 all.0 p.1
+    (cut_items form h (before ++ x ∷ []) xs end p.0 more lawful (one_further form h before x stand all.0) all.1
+    whole some p.2))
+    (cut_at (form.item_line x) (lines_of form xs ++ ended end) front more
+    (lawful.item_whole h before x stand all.0) (e ∙ first_line form x xs (ended end)))
 
 cut_header : {H I : Type 0} (form : Form H I) (h : H) (rest front more : List ℕ) → form.IsHeader h →
     Cut (form.header_line h) rest front more

@@ -1,5 +1,5 @@
 -- What is said of the front of a text stays, whatever follows.
-use Rattle.std.proofs.Common.{◌≡◌, ◌≢◌, ℕ, ◌+◌, List, [], ◌∷◌, ◌++◌, length, Err, refl, sym, ap, ◌∙◌, append_assoc, inl, inr}
+use Rattle.std.proofs.Common.{◌≡◌, ◌≢◌, ℕ, ◌+◌, List, [], ◌∷◌, ◌++◌, length, Err, refl, ap, ◌∙◌, append_assoc, inl, inr}
 use Rattle.history.specs.Text.{ended}
 use Rattle.line_text.specs.declared.fault.TextFault.{TextFault}
 use Rattle.line_text.specs.declared.fault.TextFault.TheVariants.{BadHeader, BadLine, CutShort}
@@ -9,13 +9,8 @@ use Rattle.line_text.specs.Reading.{Begins, IsText, HasBadHeader, HasBadLine, Is
 pub begins_more : {H I : Type 0} (form : Form H I) (text : List ℕ) (h : H)
     (xs : List I) (rest more : List ℕ) → Begins form text h xs rest →
     Begins form (text ++ more) h xs (rest ++ more)
-begins_more form text h xs rest more begun = record {
-  header = begun.header;
-  each = begun.each;
-  parts = ap (λ (t : List ℕ). t ++ more) begun.parts
-      ∙ append_assoc (ended (form.header_line h)) (lines_of form xs ++ rest) more
-      ∙ ap (λ (t : List ℕ). ended (form.header_line h) ++ t) (append_assoc (lines_of form xs) rest more);
-}
+begins_more form text h xs rest more begun =
+    record { header = begun.header; each = begun.each; parts = simp (begun.parts, append_assoc) }
 
 -- a text without what follows some of it
 pub without : {H I : Type 0} → Form H I → H → List I → List ℕ → List ℕ
@@ -33,8 +28,7 @@ pub with_rest : {H I : Type 0} (form : Form H I) (text : List ℕ) (h : H)
     text ≡ without form h xs rest ++ more
 unfolding without
 with_rest form text h xs rest more begun =
-    begun.parts ∙ sym (append_assoc (ended (form.header_line h)) (lines_of form xs ++ rest) more
-    ∙ ap (λ (t : List ℕ). ended (form.header_line h) ++ t) (append_assoc (lines_of form xs) rest more))
+    begun.parts ∙ simp append_assoc
 
 header_stays : {H I : Type 0} (form : Form H I) (text more : List ℕ) → HasBadHeader form text →
     HasBadHeader form (text ++ more)

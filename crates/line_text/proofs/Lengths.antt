@@ -6,12 +6,9 @@ use Rattle.std.specs.List.{AllByRecursion}
 use Rattle.std.proofs.lemmas.Fmt.{length-decimal-le}
 use Rattle.std.proofs.lemmas.Int.{ints}
 use Rattle.history.specs.declared.entry.Mode.{Mode}
-use Rattle.history.specs.declared.entry.Mode.TheVariants.{X, S}
 use Rattle.history.specs.declared.header.Header.{Header}
 use Rattle.history.specs.declared.header.Object.{Object}
-use Rattle.history.specs.declared.header.Object.TheVariants.{Lock, ReadWrite, Semaphore, Latch}
 use Rattle.history.specs.declared.header.Policy.{Policy}
-use Rattle.history.specs.declared.header.Policy.TheVariants.{Fair, NonFair, Strict}
 use Rattle.history.specs.EntryWords.{mode_word}
 use Rattle.history.specs.Header.{IsInRange, IsOpening}
 use Rattle.history.specs.Spelling.{object_words, part_of, part_words, policy_word}
@@ -36,98 +33,21 @@ line_length (w ∷ v ∷ words) short =
     )
 
 pub mode_short : (m : Mode) → length (mode_word m) ≤ 20
-mode_short X = omega arith
-mode_short S = omega arith
+mode_short m = grind arith
 
 -- ---- header lines
 
 signed_short : (z : ℤ) → FitsSigned w32 z → length (signed_decimal z) ≤ 20
 signed_short (pos n) fits = decimal_short n (omega (arith, ints, fits))
 signed_short (negsuc n) fits =
-    let digits =
-    length-decimal-le 10 (suc n) (omega arith) (omega (arith, ints, fits)) (omega (arith, ints, fits)) in
-    omega (arith, digits)
+    omega (arith, length-decimal-le 10 (suc n) (omega arith) (omega (arith, ints, fits)) (omega (arith, ints, fits)))
 
 policy_short : (p : Policy) → length (policy_word p) ≤ 20
-policy_short Fair = omega arith
-policy_short NonFair = omega arith
-policy_short Strict = omega arith
+policy_short p = grind arith
 
 part_short : (o : Object) (n c k : ℕ) → IsOpening o c → n ≤ 256 → k < 2 ^ 32 →
     AreShort (object_words o n c k) × (length (object_words o n c k) ≤ 8)
-part_short (Lock p) n c k r l m = (
-  (
-    omega arith,
-    (
-      policy_short p,
-      (
-        omega arith,
-        (
-          decimal_short n (omega (arith, l)),
-          (
-            omega arith,
-            (decimal_short c (omega (arith, r)), (omega arith, (decimal_short k (omega (arith, m)), tt))),
-          ),
-        ),
-      ),
-    ),
-  ),
-  omega arith,
-)
-part_short (ReadWrite p) n c k r l m = (
-  (
-    omega arith,
-    (
-      policy_short p,
-      (
-        omega arith,
-        (
-          decimal_short n (omega (arith, l)),
-          (
-            omega arith,
-            (decimal_short c (omega (arith, r)), (omega arith, (decimal_short k (omega (arith, m)), tt))),
-          ),
-        ),
-      ),
-    ),
-  ),
-  omega arith,
-)
-part_short (Semaphore p z) n c k r l m = (
-  (
-    omega arith,
-    (
-      policy_short p,
-      (
-        omega arith,
-        (
-          decimal_short n (omega (arith, l)),
-          (
-            omega arith,
-            (signed_short z r.1, (omega arith, (decimal_short k (omega (arith, m)), tt))),
-          ),
-        ),
-      ),
-    ),
-  ),
-  omega arith,
-)
-part_short (Latch q) n c k r l m = (
-  (
-    omega arith,
-    (
-      omega arith,
-      (
-        decimal_short n (omega (arith, l)),
-        (
-          omega arith,
-          (decimal_short q (omega (arith, r.1)), (omega arith, (decimal_short k (omega (arith, m)), tt))),
-        ),
-      ),
-    ),
-  ),
-  omega arith,
-)
+part_short o n c k r l m = grind (arith, policy_short, signed_short, decimal_short)
 
 pub header_short : (name : List ℕ) (h : Header) → length name ≤ 20 → IsInRange h →
     length (name ++ part_of h) < 256

@@ -1,7 +1,7 @@
 -- A line that is longer than any good one: to let go of some of it, behind its first bytes, changes no
 -- reading.
 use Rattle.std.proofs.Common.{◌≡◌, ⊎_elim, ℕ, zero, suc, ◌+◌, ◌<◌, ◌≤◌, List, [], ◌∷◌, ◌++◌, length, take, Err, refl, sym, ap, subst, arith, append_assoc, inl, inr, ◌⊎◌, ◌∙◌, length-append, length-take-le, take_all}
-use Rattle.std.proofs.lemmas.Bool.{cases_eq, cases_order}
+use Rattle.std.proofs.lemmas.Bool.{cases_eq, cases_lt}
 use Rattle.history.specs.Text.{HasNoBreak}
 use Rattle.line_text.specs.declared.fault.TextFault.{TextFault}
 use Rattle.line_text.specs.declared.fault.TextFault.TheVariants.{BadHeader, BadLine, CutShort}
@@ -46,13 +46,9 @@ whole_or_broken (x ∷ xs) = ⊎_elim here (there (whole_or_broken xs)) (cases_e
 
 short_or_long : (line : List ℕ) (bound : ℕ) → (take bound line ≡ line)
     ⊎ ((bound ≤ length line) × (length (take bound line) ≡ bound))
-short_or_long line bound = by (cases_order (length line) bound)
-  where
-    by : (length line ≡ bound) ⊎ ((length line < bound) ⊎ (bound < length line))
-        → (take bound line ≡ line) ⊎ ((bound ≤ length line) × (length (take bound line) ≡ bound))
-    by (inl same) = inl (take_all bound line (omega (arith, same)))
-    by (inr (inl lt)) = inl (take_all bound line (omega (arith, lt)))
-    by (inr (inr lt)) = inr (omega (arith, lt), length-take-le bound line (omega (arith, lt)))
+short_or_long line bound =
+    ⊎_elim (λ lt. inr (omega arith, length-take-le bound line (omega arith)))
+    (λ le. inl (take_all bound line (omega arith))) (cases_lt bound (length line))
 
 -- ---- the fault of a long line
 
@@ -115,13 +111,9 @@ long_line form bound short t h items xs rest begun p long (inr q) =
 -- where a good line begins, nothing of it was let go of
 pub uncut : (bound : ℕ) (line rest good after : List ℕ) → HasNoBreak line → length good < bound →
     take bound line ++ rest ≡ good ++ 10 ∷ after → take bound line ≡ line
-uncut bound line rest good after whole lt e = by (short_or_long line bound)
-  where
-    by : (take bound line ≡ line) ⊎ ((bound ≤ length line) × (length (take bound line) ≡ bound))
-        → take bound line ≡ line
-    by (inl same) = same
-    by (inr long) = absurd (too_long good (take bound line) rest after
-        (lacks_take bound line (lacks line whole)) (omega (arith, lt, long.1)) e)
+uncut bound line rest good after whole lt e =
+    ⊎_elim (λ same. same) (λ long. absurd (too_long good (take bound line) rest after
+    (lacks_take bound line (lacks line whole)) (omega (arith, lt, long.1)) e)) (short_or_long line bound)
 
 -- the fault of the first line stays
 pub header_cut : {H I : Type 0} (form : Form H I) (bound : ℕ) → IsLawful form → HasShortLines form bound →

@@ -48,18 +48,20 @@ Ending form h items tail (Some (BadLine m)) =
     ⊎ ((rest : List ℕ) × (tail ≡ ended (form.end_line items) ++ rest) × form.MayEnd h items × (rest ≢ [])
     × (m ≡ length items + 3))
 
--- a whole line that is the end line
-ended_lines : (end line rest more tail : List ℕ) → Lacks end → Lacks line → tail ≡ line ++ 10 ∷ rest →
-    tail ≡ end ++ 10 ∷ more → (line ≡ end) × (rest ≡ more)
-ended_lines end line rest more tail q p e f = same_lines line end rest more p q (sym e ∙ f)
-
 -- a bad line isn't the end line, and nothing follows the end line
+not_end : {H I : Type 0} (form : Form H I) (h : H) (items : List I) (line rest more tail : List ℕ) →
+    IsLawful form → Stand form h items → IsBadLine form h items line → tail ≡ line ++ 10 ∷ rest →
+    form.MayEnd h items → tail ≡ ended (form.end_line items) ++ more → ⊥
+not_end form h items line rest more tail lawful stand bad p ends q =
+    bad.no_end ends (same_lines line (form.end_line items) rest more (lacks line bad.whole)
+    (lawful.end_whole h items stand ends) (sym p ∙ q ∙ broken (form.end_line items) more)).0
+
 bad_end : {H I : Type 0} (form : Form H I) (h : H) (items : List I) (m : ℕ) (tail : List ℕ) →
     IsLawful form → Stand form h items → Ending form h items tail None →
     Ending form h items tail (Some (BadLine m)) → ⊥
 bad_end form h items m tail lawful stand p (inl q) =
-    q.3.no_end p.1 (ended_lines (form.end_line items) q.0 q.1 [] tail (lawful.end_whole h items stand p.1)
-    (lacks q.0 q.3.whole) q.2 p.0).0
+    not_end form h items q.0 q.1 [] tail lawful stand q.3 q.2 p.1
+    (p.0 ∙ sym (append-nil (ended (form.end_line items))))
 bad_end form h items m tail lawful stand p (inr q) =
     let end = form.end_line items in
     let e = lawful.end_whole h items stand p.1 in
@@ -76,13 +78,9 @@ bad_bad : {H I : Type 0} (form : Form H I) (h : H) (items : List I) (m n : ℕ) 
     Ending form h items tail (Some (BadLine n)) → m ≡ n
 bad_bad form h items m n tail lawful stand (inl p) (inl q) = p.4 ∙ sym q.4
 bad_bad form h items m n tail lawful stand (inl p) (inr q) =
-    absurd (p.3.no_end q.2 (ended_lines (form.end_line items) p.0 p.1 q.0 tail
-    (lawful.end_whole h items stand q.2) (lacks p.0 p.3.whole) p.2
-    (q.1 ∙ broken (form.end_line items) q.0)).0)
+    absurd (not_end form h items p.0 p.1 q.0 tail lawful stand p.3 p.2 q.2 q.1)
 bad_bad form h items m n tail lawful stand (inr q) (inl p) =
-    absurd (p.3.no_end q.2 (ended_lines (form.end_line items) p.0 p.1 q.0 tail
-    (lawful.end_whole h items stand q.2) (lacks p.0 p.3.whole) p.2
-    (q.1 ∙ broken (form.end_line items) q.0)).0)
+    absurd (not_end form h items p.0 p.1 q.0 tail lawful stand p.3 p.2 q.2 q.1)
 bad_bad form h items m n tail lawful stand (inr p) (inr q) = p.4 ∙ sym q.4
 
 same_ending : {H I : Type 0} (form : Form H I) (h : H) (items : List I) (tail : List ℕ)
@@ -177,50 +175,32 @@ abbrev Kind : {H I : Type 0} → Form H I → List ℕ → Reading H I → Type 
 Kind form text r = (Lacks text × (r ≡ Err CutShort)) ⊎ (HasBadHeader form text × (r ≡ Err BadHeader))
     ⊎ Past form text r
 
+past : {H I : Type 0} (form : Form H I) (text : List ℕ) (h : H) (items : List I) (tail : List ℕ)
+    (ending : Option TextFault) → Begins form text h items tail → Ending form h items tail ending →
+    Past form text (answer_for h items ending)
+past form text h items tail ending begins ends =
+    record {
+      h = h;
+      items = items;
+      tail = tail;
+      ending = ending;
+      begins = begins;
+      ends = ends;
+      is = refl;
+    }
+
 kind_of : {H I : Type 0} (form : Form H I) (text : List ℕ) (r : Reading H I) → IsReading form text r →
     Kind form text r
-kind_of form text (Ok said) p =
-    inr (inr (record {
-      h = said.0;
-      items = said.1;
-      tail = ended (form.end_line said.1);
-      ending = None;
-      begins = p.begins;
-      ends = (refl, p.ends);
-      is = refl;
-    }))
+kind_of form text (Ok (h, xs)) p =
+    inr (inr (past form text h xs (ended (form.end_line xs)) None p.begins (refl, p.ends)))
 kind_of form text (Err CutShort) (inl p) = inl (lacks text p, refl)
-kind_of form text (Err CutShort) (inr p) =
-    inr (inr (record {
-      h = p.0;
-      items = p.1;
-      tail = p.2;
-      ending = Some CutShort;
-      begins = p.3;
-      ends = lacks p.2 p.4;
-      is = refl;
-    }))
+kind_of form text (Err CutShort) (inr (h, xs, tail, begins, whole)) =
+    inr (inr (past form text h xs tail (Some CutShort) begins (lacks tail whole)))
 kind_of form text (Err BadHeader) p = inr (inl (p, refl))
-kind_of form text (Err (BadLine m)) (inl p) =
-    inr (inr (record {
-      h = p.0;
-      items = p.1;
-      tail = p.2 ++ 10 ∷ p.3;
-      ending = Some (BadLine m);
-      begins = p.4;
-      ends = inl (p.2, p.3, refl, p.5, p.6);
-      is = refl;
-    }))
-kind_of form text (Err (BadLine m)) (inr p) =
-    inr (inr (record {
-      h = p.0;
-      items = p.1;
-      tail = ended (form.end_line p.1) ++ p.2;
-      ending = Some (BadLine m);
-      begins = p.3;
-      ends = inr (p.2, refl, p.4, p.5, p.6);
-      is = refl;
-    }))
+kind_of form text (Err (BadLine m)) (inl (h, xs, line, rest, begins, bad, is)) =
+    inr (inr (past form text h xs (line ++ 10 ∷ rest) (Some (BadLine m)) begins (inl (line, rest, refl, bad, is))))
+kind_of form text (Err (BadLine m)) (inr (h, xs, rest, begins, may, some, is)) =
+    inr (inr (past form text h xs (ended (form.end_line xs) ++ rest) (Some (BadLine m)) begins (inr (rest, refl, may, some, is))))
 
 -- the header line of a text
 header_first : {H I : Type 0} (form : Form H I) (text : List ℕ) (r : Reading H I) (p : Past form text r) →

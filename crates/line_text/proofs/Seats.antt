@@ -1,7 +1,7 @@
 -- A text that begins with a seat is cut at its first space.
-use Rattle.std.proofs.Common.{◌≡◌, ◌≢◌, ℕ, suc, ◌+◌, ◌<◌, true, ltb, List, [], ◌∷◌, ◌++◌, length, take, drop, Some, refl, sym, ap, ◌∙◌, add-one, arith, position, ◌==◌, eqb-true, ltb-true, lt-ltb, ne_eqb, take-append-drop, take_at, length-append}
+use Rattle.std.proofs.Common.{◌≡◌, ◌≢◌, ℕ, suc, ◌+◌, ◌<◌, true, List, [], ◌∷◌, ◌++◌, length, take, drop, Some, refl, sym, ap, ◌∙◌, add-one, arith, position, ◌==◌, eqb-true, lt-ltb, take-append-drop, take_at, length-append}
 use Rattle.std.specs.List.{position_or_len}
-use Rattle.std.proofs.lemmas.Bool.{and_parts}
+use Rattle.std.proofs.lemmas.Bool.Decides.{nat_tests}
 use Rattle.std.proofs.lemmas.List.Quantifiers.{position-Some}
 use Rattle.std.proofs.lemmas.Option.{same_Some}
 use Rattle.std.proofs.Math.Seq.{drop-cons}
@@ -17,18 +17,10 @@ first_space xs i found =
 
 -- ---- a text that begins with a plain word and a space
 
-plain_head : (b : ℕ) (w : List ℕ) → is_plain (b ∷ w) ≡ true → 32 < b
-plain_head b w plain = ltb-true 32 b (and_parts (ltb 32 b) (is_plain w) plain).0
-
-plain_tail : (b : ℕ) (w : List ℕ) → is_plain (b ∷ w) ≡ true → is_plain w ≡ true
-plain_tail b w plain = (and_parts (ltb 32 b) (is_plain w) plain).1
-
 -- the first space stands behind it
 space_behind : (w s : List ℕ) → is_plain w ≡ true → position_or_len (λ b. b == 32) (w ++ 32 ∷ s) ≡ length w
 space_behind [] s plain = refl
-space_behind (b ∷ w) s plain =
-    rw (ne_eqb b 32 (λ same. omega (arith, plain_head b w plain)), space_behind w s (plain_tail b w plain))
-    (omega arith)
+space_behind (b ∷ w) s plain = grind (arith, nat_tests, space_behind w s)
 
 pub word_length : (text w s : List ℕ) → is_plain w ≡ true → text ≡ w ++ 32 ∷ s →
     position (λ b. b == 32) text ≡ Some (length w)
@@ -49,9 +41,7 @@ pub one_before : (byte : ℕ) (rest w s : List ℕ) → is_plain w ≡ true → 
     byte ∷ 32 ∷ rest ≡ w ++ 32 ∷ s → byte ∷ [] ≡ w
 one_before byte rest [] s plain some is = absurd (omega (arith, some))
 one_before byte rest (x ∷ []) s plain some is = cc
-one_before byte rest (x ∷ y ∷ w) s plain some is =
-    let space : y ≡ 32 = cc in
-    absurd (omega (arith, space, plain_head y w (plain_tail x (y ∷ w) plain)))
+one_before byte rest (x ∷ y ∷ w) s plain some is = grind (arith, nat_tests)
 
 pub two_before : (first second : ℕ) (rest w s : List ℕ) → is_plain w ≡ true → 0 < length w
     → ((b : ℕ) (t : List ℕ) → first ∷ second ∷ 32 ∷ rest ≢ b ∷ 32 ∷ t) →
@@ -59,6 +49,4 @@ pub two_before : (first second : ℕ) (rest w s : List ℕ) → is_plain w ≡ t
 two_before first second rest [] s plain some other is = absurd (omega (arith, some))
 two_before first second rest (x ∷ []) s plain some other is = absurd (other x s is)
 two_before first second rest (x ∷ y ∷ []) s plain some other is = cc
-two_before first second rest (x ∷ y ∷ z ∷ w) s plain some other is =
-    let space : z ≡ 32 = cc in
-    absurd (omega (arith, space, plain_head z w (plain_tail y (z ∷ w) (plain_tail x (y ∷ z ∷ w) plain))))
+two_before first second rest (x ∷ y ∷ z ∷ w) s plain some other is = grind (arith, nat_tests)

@@ -1,7 +1,7 @@
 -- Lines of words that hold neither spaces nor breaks hold no break.
-use Rattle.std.proofs.Common.{◌≡◌, ℕ, Bool, true, not, ltb, eqb, List, [], ◌∷◌, ◌++◌, arith, ltb-true}
+use Rattle.std.proofs.Common.{◌≡◌, ℕ, Bool, true, not, eqb, List, [], ◌∷◌, ◌++◌, arith}
 use Rattle.std.specs.List.{list_all}
-use Rattle.std.proofs.lemmas.Bool.{eqb-false, not-true, and_parts}
+use Rattle.std.proofs.lemmas.Bool.Decides.{nat_tests}
 use Rattle.history.specs.declared.header.Header.{Header}
 use Rattle.history.specs.Header.{IsInRange}
 use Rattle.history.specs.Spelling.{part_words, part_of}
@@ -19,9 +19,7 @@ lacks_append (x ∷ a) b p q = (p.0, lacks_append a b p.1 q)
 
 plain_lacks : (w : List ℕ) → is_plain w ≡ true → Lacks w
 plain_lacks [] e = tt
-plain_lacks (b ∷ bs) e =
-    let t = and_parts (ltb 32 b) (is_plain bs) e in
-    ((λ same. omega (arith, ltb-true 32 b t.0, same)), plain_lacks bs t.1)
+plain_lacks (b ∷ bs) e = grind (arith, nat_tests, plain_lacks bs)
 
 pub line_lacks : (ws : List (List ℕ)) → ArePlain ws → Lacks (line_of ws)
 line_lacks [] h = tt
@@ -38,9 +36,7 @@ has_no_break w = list_all (λ b. not (eqb b 10)) w
 
 pub literal_lacks : (w : List ℕ) → has_no_break w ≡ true → Lacks w
 literal_lacks [] e = tt
-literal_lacks (b ∷ bs) e =
-    let t = and_parts (not (eqb b 10)) (has_no_break bs) e in
-    (eqb-false b 10 (not-true _ t.0), literal_lacks bs t.1)
+literal_lacks (b ∷ bs) e = grind (arith, nat_tests, literal_lacks bs)
 
 -- ---- header lines
 

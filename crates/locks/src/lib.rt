@@ -100,9 +100,9 @@
 //!
 //! ## What it costs
 //!
-//! - *Time.* On four processors, 8 to 10 million pairs of lock and unlock a second with one thread, and 0.18 to
-//!   9 million with two to eight. That is 0.20 to 0.25 times, and 0.06 to 0.37 times, what Java's
-//!   `ReentrantLock` reaches when it keeps a history too. `docs/PERFORMANCE.md` has the figures, and says how
+//! - *Time.* On four processors, 17 to 20 million pairs of lock and unlock a second with one thread. With more,
+//!   10 to 16 million of a non-fair lock and 0.5 to 3 of a fair one. A non-fair lock makes 0.2 to 0.5 times as
+//!   many as Java's `ReentrantLock` that keeps a history too, by the medians. `docs/PERFORMANCE.md` says how
 //!   they were measured: without a value under the lock.
 //! - *Moving the value.* A `Mutex` moves its value out and in at each pair. Put a large value into a
 //!   `Box`.

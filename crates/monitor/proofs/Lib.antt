@@ -17,3 +17,4 @@ pub mod Rooms
 pub mod RoomTurns
 pub mod StillWaiting
 pub mod FastWay
+pub mod Refusals

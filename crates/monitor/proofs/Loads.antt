@@ -1,16 +1,17 @@
 -- What a turn of the lock is to a load.
-use Rattle.std.proofs.Common.{◌≡◌, ◌≢◌, ℕ, ◌-◌, ◌<◌, ◌==◌, Bool, true, false, ◌&&◌, not, cond, length, Some, List, [], ◌∷◌, ◌++◌, Result, Ok, Err, refl, sym, ap, ◌∙◌, subst, ℤ, pos}
+use Rattle.std.proofs.Common.{◌≡◌, ◌≢◌, ℕ, ◌-◌, ◌<◌, ◌==◌, Bool, true, false, ◌&&◌, not, cond, length, Some, List, [], ◌∷◌, ◌++◌, Result, Ok, Err, IfOk, OnErr, refl, sym, ap, ◌∙◌, subst, ℤ, pos, ◌+ℤ◌}
 use Rattle.std.specs.List.{AllByRecursion}
 use Rattle.monitor.specs.Below.{available, Entry, Mode, X, Word, Fault, Header, Object, Point, Answer, Recorded, Sleep, Step, Signal, SignalAll, Base, based, folded, opening_base, is_seat, Counts, counted, counted_after, counts, free, free_after, held, holds_after, owner, same_mode, is_lock, opening_count, waits, sleepers, Start, opening, at_most_one, entry_for, plain, signals, CoreView, IsAnswered, IsTrimmed, counts_of, start_of, made_by, AreAlike, header_of, Agrees}
 use Rattle.history.specs.declared.entry.End.TheVariants as end
 use Rattle.history.specs.declared.entry.Word.TheVariants as word
 use Rattle.history.specs.declared.fault.Fault.TheVariants as fault
+use Rattle.frame.specs.Core.{KeepsHolds}
 use Rattle.history.proofs.Alike.{Alike}
 use Rattle.history.proofs.Folding.{fold_alike}
 use Rattle.history.proofs.GoodFolds.{owned_behind}
 use Rattle.history.proofs.OpeningBase.{based_opening}
 use Rattle.history.proofs.SleepLemmas.{held_other}
-use Rattle.monitor.specs.Prelude.{IsLawfulCore, IsLawful, point_of, start_at, IsFree, IsOneOwner, IsTurn, holds_by, holds_of, opened_counts, Shown, IsSound}
+use Rattle.monitor.specs.Prelude.{IsLawfulCore, IsLawful, point_of, start_at, IsFree, IsOneOwner, IsTurn, holds_by, holds_in, holds_of, is_refused, leaves_holds, opened_counts, Moves, Shown, IsSound}
 use Rattle.monitor.specs.inner.Load.{is_signal}
 use Rattle.monitor.proofs.Acquiring.{idle_made}
 use Rattle.monitor.proofs.Freeing.{turn_frees}
@@ -176,3 +177,48 @@ rests_signalled rests alike v w i step r kept kept' signal answered x =
         records v w i step e name (subst (λ (z : Result Answer Fault). IsAnswered v i step z w) is answered) in
         alike _ _ (still_alike (based v.base) v.entries e
         (signal_still (based v.base) v.entries i step e signal made.made)) x
+
+-- an answer that leaves all holds leaves what a load knows of the counts
+pub record AreLeft (v w : CoreView) (i : ℕ) : Type 0 where
+  pub alike : AreAlike (counts_of v) (counts_of w)
+  pub holds : holds_in w i ≡ holds_in v i
+  pub free : (counts_of w).free ≡ (counts_of v).free
+
+are_left : (v : CoreView) (i : ℕ) → AreLeft v v i
+are_left v i =
+    record {
+      alike = record { object = refl; seats = refl; held = λ j m. refl; free = λ _. refl; count = refl };
+      holds = refl;
+      free = refl;
+    }
+
+refused_as : (w : Word) → is_refused w ≡ true → (f : Fault) × (w ≡ word.Refused f)
+refused_as (word.Refused f) is = (f, refl)
+refused_as _ is = cc
+
+left_refused : (v w : CoreView) (i : ℕ) (e : Entry) → IsStill e.word → w.base ≡ v.base → w.entries ≡ e ∷ v.entries →
+    AreLeft v w i
+left_refused v w i e still base grown =
+    let alike = still_alike (based v.base) v.entries e still in
+    let P : Base → List Entry → Type 0 = λ b es. AreAlike (counts_of v) (counts (based b) es)
+    × ((m : Mode) → held (based b) es i m ≡ holds_in v i m) × (free (based b) es ≡ (counts_of v).free) in
+    let x = subst (λ (b : Base). P b w.entries) (sym base) (subst (λ (es : List Entry). P v.base es) (sym grown)
+    (alike, alike.held i, still.1 e.n (free (based v.base) v.entries))) in
+    record { alike = x.0; holds = λ d m. x.1 m d; free = x.2 }
+
+pub left_as_it_was : (v w : CoreView) (i : ℕ) (r : Result Answer Fault) → leaves_holds r ≡ true → w.base ≡ v.base →
+    OnErr r (w ≡ v) → IfOk r (λ answer. KeepsHolds v i answer w) → AreLeft v w i
+left_as_it_was v w i (Err f) leaves base same kept = subst (λ (z : CoreView). AreLeft v z i) (sym same) (are_left v i)
+left_as_it_was v w i (Ok Sleep) leaves base same kept =
+    subst (λ (z : CoreView). AreLeft v z i) (sym kept)
+    record { alike = (are_left v i).alike; holds = refl; free = refl }
+left_as_it_was v w i (Ok (Recorded e name)) leaves base same kept =
+    let f = refused_as e.word leaves in
+    left_refused v w i e (subst (λ (z : Word). IsStill z) (sym f.1) (λ o n had. refl, λ n had. refl, λ n. refl)) base
+    (kept f.0 f.1).0
+
+-- a load that stays where it is
+pub moves_none : {A : Type 0} (fit : A → Type 0) (counted : Bool) (amount : A → ℕ) (x : A) (f g : ℤ) → g ≡ f →
+    Moves fit counted amount x f x g
+moves_none fit true amount x f g same = (ap (λ (z : ℤ). pos (amount x) +ℤ z) same, λ _. refl, λ k. k)
+moves_none fit false amount x f g same = λ k. k

@@ -4,10 +4,10 @@ use Rattle.monitor.specs.Below.{Entry, Fault, HistoryFull, TrimFull, Point, Answ
 use Rattle.history.proofs.Folding.{fold_alike}
 use Rattle.word_lock.proofs.PointLaws.{added_behind, before_header, before_refl, before_trans, follows_before, follows_behind, follows_fold, follows_own}
 use Rattle.word_lock.proofs.Sections.{IsSection, follows_taken, section}
-use Rattle.monitor.specs.Prelude.{Called, point_of, start_at, view_of, IsLawfulCore, IsLawful, Moves, holds_in, IsFold, IsStepIn, IsTooMany, at_point, Trim, IsPass, shown, IsStep}
+use Rattle.monitor.specs.Prelude.{Called, point_of, view_of, IsLawfulCore, IsLawful, Moves, holds_in, leaves_holds, IsFold, IsStepIn, IsTooMany, at_point, Trim, IsPass, shown, IsStep}
 use Rattle.monitor.specs.inner.CoreSteps.{IsCoreFold, IsCoreStep, IsCoreStepIn, is_full}
 use Rattle.monitor.specs.inner.Sections.{Taking}
-use Rattle.monitor.proofs.Freeing.{both_free, moves_own, section_frees, stays}
+use Rattle.monitor.proofs.Freeing.{both_free, moves_own, section_frees}
 use Rattle.monitor.proofs.Loads.{counts_folded, holds_at}
 use Rattle.monitor.proofs.Sections.{Left, Section, added_step, answered_shown, called_by, calls_more, follows_step, left, owed_shown, own_entries, passed, section_step}
 use Rattle.monitor.proofs.Beside.{beside_of}
@@ -27,6 +27,10 @@ pub no_room : (v w : CoreView) (i : ℕ) (step : Step) (r : Result Answer Fault)
 no_room v w i step r full s =
     subst (λ (z : Result Answer Fault). IsCoreStep v i step z w) (full_is r full) s
 
+-- and left all holds
+pub full_leaves : (r : Result Answer Fault) → is_full r ≡ true → leaves_holds r ≡ true
+full_leaves r full = subst (λ (z : Result Answer Fault). leaves_holds z ≡ true) (sym (full_is r full)) refl
+
 -- and that too many entries were there for a fold, which changed nothing
 pub no_fold : (v full w : CoreView) (i : ℕ) (step : Step) (f : Fault) (moved : CoreView → Type 0) →
     IsCoreStep v i step (Err HistoryFull) full → moved full → IsTrimmed full (Err f) w →
@@ -44,11 +48,6 @@ refused_left v w i step f kept kept' s =
     (answered_shown v w i step (Err f) kept kept' s.answered) in
     λ d. record { base = sym l.base d; entries = l.grown d }
 
-pub refused_frees : (v w : CoreView) (i : ℕ) (step : Step) (f : Fault) → IsLawfulCore v → IsLawfulCore w →
-    IsCoreStep v i step (Err f) w → (counts_of w).free ≡ (counts_of v).free
-refused_frees v w i step f kept kept' s =
-    ap (λ (p : Point). free (start_at p) p.entries) (refused_left v w i step f kept kept' s)
-
 refused_holds : (v w : CoreView) (i : ℕ) (step : Step) (f : Fault) → IsLawfulCore v → IsLawfulCore w →
     IsCoreStep v i step (Err f) w → holds_in w i ≡ holds_in v i
 refused_holds v w i step f kept kept' s = ap (λ p. holds_at p i) (refused_left v w i step f kept kept' s)
@@ -65,14 +64,6 @@ pub no_room_holds : (v full w : CoreView) (n i : ℕ) (step : Step) (f : Fault) 
     IsCoreStep v i step (Err f) full → IsTrimmed full (Ok n) w → holds_in w i ≡ holds_in v i
 no_room_holds v full w n i step f kept kept' s t =
     trimmed_holds full w n i kept' t ∙ refused_holds v full i step f kept kept' s
-
-module _ {A : Type 0} (fit : A → Type 0) (counted : Bool) (amount : A → ℕ) (v w : CoreView) (i : ℕ) (step : Step)
-    (kept : IsLawfulCore v) (kept' : IsLawfulCore w) (x y : A) where
-  -- what a step that found no room leaves with who steps
-  pub refused_stays : (f : Fault) → IsCoreStep v i step (Err f) w →
-      Moves fit counted amount x (counts_of v).free y (counts_of w).free → counted ≡ true → y ≡ x
-  refused_stays f s m =
-      stays fit counted amount x y (counts_of v).free (counts_of w).free (refused_frees v w i step f kept kept' s) m
 
 -- a step that makes room, from one core to another
 module _ (moved : CoreView → Type 0) (v w : CoreView) (seat : ℕ) (step : Step) (r : Result Answer Fault)

@@ -1,6 +1,7 @@
 -- What a load knows of a turn of the lock.
-use Rattle.std.specs.Prelude.{◌≡◌, ◌≢◌, ◌<◌, ◌⊎◌, ℕ, Bool, true, false, List, [], ℤ, pos, ◌+ℤ◌, ◌-ℤ◌, ◌≤ℤ◌, ◌≤◌}
-use Rattle.monitor.specs.Below.{Mode, X, S, Header, Step, Await, Give, Counts, counts, free, held, is_lock, is_semaphore, opening, CoreView, start_of, Entry}
+use Rattle.std.specs.Prelude.{◌≡◌, ◌≢◌, ◌<◌, ◌⊎◌, ℕ, Bool, true, false, List, [], ℤ, pos, ◌+ℤ◌, ◌-ℤ◌, ◌≤ℤ◌, ◌≤◌, Result, Ok, Err}
+use Rattle.monitor.specs.Below.{Mode, X, S, Header, Word, Fault, Answer, Recorded, Sleep, Step, Await, Give, Counts, counts, free, held, is_lock, is_semaphore, opening, CoreView, start_of, Entry}
+use Rattle.history.specs.declared.entry.Word.TheVariants as word
 use Rattle.monitor.specs.Shown.{Shown}
 use Rattle.monitor.specs.declared.load.Holds.{Holds}
 
@@ -77,3 +78,19 @@ abbrev pub Moves : {A : Type 0} → (A → Type 0) → Bool → (A → ℕ) → 
 Moves fit true amount x f y g =
     (pos (amount y) +ℤ g ≡ pos (amount x) +ℤ f) × (g ≡ f → y ≡ x) × (fit x → fit y)
 Moves fit false amount x f y g = fit x → fit y
+
+-- an entry that refuses what was asked
+abbrev pub is_refused : Word → Bool
+is_refused (word.Refused f) = true
+is_refused _ = false
+
+-- By such an answer no holds and no permits change hands: nothing was recorded, or a refusal.
+abbrev pub leaves_holds : Result Answer Fault → Bool
+leaves_holds (Ok (Recorded e named)) = is_refused e.word
+leaves_holds (Ok Sleep) = true
+leaves_holds (Err f) = true
+
+-- the call failed at once: nothing was recorded, or a refusal
+abbrev pub was_refused : Result Entry Fault → Bool
+was_refused (Ok e) = is_refused e.word
+was_refused (Err f) = true

@@ -1,7 +1,7 @@
 //! An acquire, which may join the wait queue.
 ghost use Rattle.std.specs.Prelude.{◌≡◌, true};
 ghost use Rattle.monitor.specs.Calling.{CanCall, Called};
-ghost use Rattle.monitor.specs.Load.{Brings, Moves, free_of, holds_of};
+ghost use Rattle.monitor.specs.Load.{Brings, Moves, free_of, holds_of, was_refused};
 ghost use Rattle.monitor.specs.Machine.{AsksAwait};
 ghost use Rattle.monitor.specs.Settled.{IsSettled};
 ghost use Rattle.monitor.specs.Room.{IsCallIn};
@@ -97,6 +97,7 @@ impl<H: Hooks + Drop, L: Load> Monitor<H, L> {
         ensures acquired { IsCallIn when_full (P.did parking.now) pass.old (Acquire mode n) how result pass.new }
         ensures carries { L.carries load.new (holds_of pass.new) }
         ensures moves { Moves L.fit L.is_counted L.amount load.old (free_of pass.old) load.new (free_of pass.new) }
+        ensures stays { was_refused result ≡ true → load.new ≡ load.old }
     {
         self.make(
             rt,
@@ -129,6 +130,7 @@ impl<H: Hooks + Drop, L: Load> Monitor<H, L> {
         ensures made { IsCallIn when_full (P.did parking.now) pass.old request how result pass.new }
         ensures carries { L.carries load.new (holds_of pass.new) }
         ensures moves { Moves L.fit L.is_counted L.amount load.old (free_of pass.old) load.new (free_of pass.new) }
+        ensures stays { was_refused result ≡ true → load.new ≡ load.old }
     {
         if let Some(interrupts) = Interrupts::at_entry(parking, pass, how) {
             return self.refuse(rt, parking, pass, load, request, how, when_full, interrupts);
@@ -174,6 +176,7 @@ impl<H: Hooks + Drop, L: Load> Monitor<H, L> {
         ensures settled { IsSettled result }
         ensures carries { L.carries load.new (holds_of pass.new) }
         ensures moves { Moves L.fit L.is_counted L.amount load.old (free_of pass.old) load.new (free_of pass.new) }
+        ensures stays { was_refused result ≡ true → load.new ≡ load.old }
     {
         pass.is_true();
         let refusal = self.begin(rt, pass, load, request, how, 0, true, when_full);

@@ -3,12 +3,12 @@
 //! Nearly all calls find the object free, and are done at once by their one step. They take the object by one
 //! exchange, step, and put it back. What they return is small: the seat that the step named. A step that isn't
 //! done at once takes the general path in the same turn of the lock. Only a call that finds the object taken
-//! goes the way that may wait.
-ghost use Rattle.std.specs.Prelude.{◌≡◌, ◌+◌, ◌<◌, ◌^◌};
+//! calls the function that may wait.
+ghost use Rattle.std.specs.Prelude.{◌≡◌, ◌+◌, ◌<◌, ◌^◌, true};
 ghost use Rattle.monitor.specs.Calling.{Called};
-ghost use Rattle.monitor.specs.Load.{Brings, LetsGo, Moves, free_of, given_by, holds_of};
+ghost use Rattle.monitor.specs.Load.{Brings, LetsGo, Moves, free_of, given_by, holds_of, leaves_holds};
 ghost use Rattle.monitor.specs.Room.{IsStepIn};
-ghost use Rattle.monitor.specs.inner.AtOnce.{IsBusy, IsStepAtOnce, IsStepFirst, Wakes};
+ghost use Rattle.monitor.specs.inner.AtOnce.{IsBusy, IsStepAtOnce, IsStepFirst, LeavesHolds, LeavesHoldsFirst, Wakes};
 ghost use Rattle.word_lock.specs.Woken.{WasWoken};
 
 use crate::load::Load;
@@ -61,6 +61,7 @@ impl<H: Hooks + Drop, L: Load> Monitor<H, L> {
         ensures woken { WasWoken self.now }
         ensures carries { L.carries load.new (holds_of pass.new) }
         ensures moves { Moves L.fit L.is_counted L.amount load.old (free_of pass.old) load.new (free_of pass.new) }
+        ensures stays { LeavesHoldsFirst result → load.new ≡ load.old }
     {
         match self.step_at_once(pass, load, step, when_full) {
             AtOnce::Done(named) => First::Done(named),
@@ -89,6 +90,7 @@ impl<H: Hooks + Drop, L: Load> Monitor<H, L> {
         ensures woken { WasWoken self.now }
         ensures carries { L.carries load.new (holds_of pass.new) }
         ensures moves { Moves L.fit L.is_counted L.amount load.old (free_of pass.old) load.new (free_of pass.new) }
+        ensures stays { leaves_holds result ≡ true → load.new ≡ load.old }
     {
         self.step_with(rt, pass, load, step, when_full)
     }
@@ -113,6 +115,7 @@ impl<H: Hooks + Drop, L: Load> Monitor<H, L> {
         ensures woken { Wakes result (WasWoken self.now) }
         ensures carries { L.carries load.new (holds_of pass.new) }
         ensures moves { Moves L.fit L.is_counted L.amount load.old (free_of pass.old) load.new (free_of pass.new) }
+        ensures stays { LeavesHolds result → load.new ≡ load.old }
     {
         let Some(mut held) = self.lock.lock_now(&mut pass.token) else {
             return AtOnce::Busy;

@@ -1,7 +1,7 @@
 //! An await on a condition.
-ghost use Rattle.std.specs.Prelude.{◌≡◌};
+ghost use Rattle.std.specs.Prelude.{◌≡◌, true};
 ghost use Rattle.monitor.specs.Calling.{CanCall, Called};
-ghost use Rattle.monitor.specs.Load.{Brings, Moves, free_of, holds_of};
+ghost use Rattle.monitor.specs.Load.{Brings, Moves, free_of, holds_of, was_refused};
 ghost use Rattle.monitor.specs.Room.{IsCallIn};
 ghost use Rattle.monitor.specs.declared.machine.Request.TheVariants.{AwaitOn};
 ghost use Rattle.monitor.specs.AwaitOn.{IsAwait, first_stage};
@@ -89,6 +89,7 @@ impl<H: Hooks + Drop, L: Load> Monitor<H, L> {
         ensures awaited { IsCallIn when_full (P.did parking.now) pass.old (AwaitOn condition) how result pass.new }
         ensures carries { L.carries load.new (holds_of pass.new) }
         ensures moves { Moves L.fit L.is_counted L.amount load.old (free_of pass.old) load.new (free_of pass.new) }
+        ensures stays { was_refused result ≡ true → load.new ≡ load.old }
     {
         self.make(
             rt,

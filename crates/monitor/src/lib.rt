@@ -17,7 +17,7 @@
 //!
 //! What every call asks and leaves stands once, in `specs/Calling.antt`. `CanCall`: the pass is one of this
 //! monitor's, and there is a place to park for each seat. `Called`: it is a pass of the same monitor and seat,
-//! and what it has seen comes after what it had seen, is lawful, and has just these entries of its seat. What
+//! and what it has seen comes after what it had seen, is sound, and has just these entries of its seat. What
 //! else a contract says is special of its call.
 //!
 //! Two passes may have seen histories of different length, and `meet` makes these the same. Everything that

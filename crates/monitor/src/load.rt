@@ -19,7 +19,7 @@ pub struct Holds {
 /// items.
 ///
 /// A step that lets the last exclusive hold go puts under the lock what its seat carries. So that part must be fit
-/// to lie there. By other steps it stays as fit as it was.
+/// to lie there. By other steps it stays as fit as it was. A step that records nothing, or a refusal, trades nothing.
 pub trait Load: Drop {
     ghost use Rattle.std.specs.Prelude.{Bool, ℕ};
     ghost use Rattle.history.specs.declared.entry.Mode.{Mode};

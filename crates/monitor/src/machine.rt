@@ -16,6 +16,7 @@ ghost use Rattle.monitor.specs.Machine.{
   AsksAwait,
   IsBegun,
   IsGoneOn,
+  IsRefusal,
   at_stage,
   begins_wait,
   begun,
@@ -316,6 +317,7 @@ impl<H: Hooks + Drop, L: Load> Monitor<H, L> {
         ensures woken { WasWoken self.now }
         ensures carries { L.carries load.new (holds_of pass.new) }
         ensures moves { Moves L.fit L.is_counted L.amount load.old (free_of pass.old) load.new (free_of pass.new) }
+        ensures stays { IsRefusal result.next → load.new ≡ load.old }
     {
         let step = request.step(how, interrupted);
         let answer = self.step_with(rt, pass, load, step, when_full);

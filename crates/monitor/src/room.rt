@@ -7,7 +7,7 @@
 //! without entries has no room.
 ghost use Rattle.std.specs.Prelude.{◌≡◌, true};
 ghost use Rattle.monitor.specs.Calling.{Called};
-ghost use Rattle.monitor.specs.Load.{Brings, LetsGo, Moves, free_of, given_by, holds_of};
+ghost use Rattle.monitor.specs.Load.{Brings, LetsGo, Moves, free_of, given_by, holds_of, leaves_holds};
 ghost use Rattle.monitor.specs.inner.Load.{is_signal};
 ghost use Rattle.monitor.specs.Room.{IsStepIn};
 ghost use Rattle.monitor.specs.inner.CoreSteps.{is_full};
@@ -54,6 +54,7 @@ impl<H: Hooks + Drop, L: Load> Monitor<H, L> {
         ensures woken { WasWoken self.now }
         ensures carries { L.carries load.new (holds_of pass.new) }
         ensures moves { Moves L.fit L.is_counted L.amount load.old (free_of pass.old) load.new (free_of pass.new) }
+        ensures stays { leaves_holds result ≡ true → load.new ≡ load.old }
     {
         let held = self.lock.lock(rt, &mut pass.token);
         let answer = step_taken(

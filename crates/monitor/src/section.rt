@@ -1,11 +1,11 @@
 //! The sections of the lock in which a seat makes a step.
 //!
 //! There are three ways to take the object: to wait for it, to take it if nobody has it, and to do so in a
-//! program where nobody waits, and so nobody is woken either. What is done between the object is taken and it
-//! is put back is the same for all of them, and stands here.
+//! program where nobody waits, and so nobody is woken either. What happens from then until the object is put
+//! back is the same for all three, and stands here.
 ghost use Rattle.std.specs.Prelude.{◌≡◌, false, true};
 ghost use Rattle.frame.specs.Core.{counts_of};
-ghost use Rattle.monitor.specs.Load.{Brings, LetsGo, Moves, free_of, given_by, holds_in, holds_of};
+ghost use Rattle.monitor.specs.Load.{Brings, LetsGo, Moves, free_of, given_by, holds_in, holds_of, leaves_holds};
 ghost use Rattle.monitor.specs.Shown.{shown};
 ghost use Rattle.monitor.specs.inner.Load.{is_signal};
 ghost use Rattle.monitor.specs.inner.Sections.{Taking, Went};
@@ -46,6 +46,7 @@ pub(crate) fn step_taken<H: Hooks + Drop, L: Load>(
     ensures moves { (t : Ticket) → Taking t (held_ticket held) held.value.laden.value.core seat share.old
         → Moves L.fit L.is_counted L.amount load.old (free_of (shown t seat share.old))
         load.new (free_of (shown token.new seat share.new)) }
+    ensures stays { leaves_holds result ≡ true → load.new ≡ load.old }
 {
     let mut held = held;
     let answer = held.value.step(seat, step, load, when_full);

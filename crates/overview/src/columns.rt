@@ -14,7 +14,7 @@ pub(crate) struct Columns {
 }
 
 impl Columns {
-    /// Returns the columns of so many entries.
+    /// Returns the columns of this many entries.
     pub(crate) fn of(entries: u64) -> Self
         requires { entries < 2 ^ 32 }
         ensures is { result ≡ columns_of entries }

@@ -21,7 +21,7 @@ pub(crate) struct Frame {
 }
 
 impl Frame {
-    /// Returns the frame of so many entries, in so many rows.
+    /// Returns the frame of this many entries, in this many rows.
     pub(crate) fn of(names: &Names, header: Header, entries: u64, rows: u64) -> Self
         requires { (entries < 2 ^ 32) × (rows < 2 ^ 16) }
         ensures is { result ≡ frame_of names.now header entries rows }
@@ -78,7 +78,7 @@ impl Frame {
         (self.right() + 16).max(1048)
     }
 
-    /// Returns the height with so many lines of waits.
+    /// Returns the height with this many lines of waits.
     pub(crate) fn height(self, waits: u64) -> u64
         requires { IsFrame self × (waits ≤ 5) }
         ensures { result ≡ height_of self waits }
@@ -87,7 +87,7 @@ impl Frame {
     }
 }
 
-/// Returns the height of so many lines of waits.
+/// Returns the height of this many lines of waits.
 fn waits_height(waits: u64) -> u64
     requires { waits ≤ 5 }
     ensures is { result ≡ waits_height waits }

@@ -49,7 +49,7 @@ pub(crate) const LEGEND: &[u8] = b"<rect class='x' x='8' y='48' width='24' heigh
     <rect class='q' x='400' y='48' width='24' height='12'/>\
     <text x='429' y='58'>most in line at once, and refused entries</text>\n";
 
-/// Appends all that precedes the rows. There are so many lines of waits below them.
+/// Appends all that precedes the rows. There are this many lines of waits below them.
 pub(crate) fn put_head(
     out: &mut Vec<u8>,
     names: &Names,

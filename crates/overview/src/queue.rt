@@ -47,7 +47,7 @@ fn peak_of(levels: &[u64], columns: Columns, column: u64) -> u64
     most
 }
 
-/// Returns how many seats wait in the queue after each of so many entries.
+/// Returns how many seats wait in the queue after each of this many entries.
 fn levels_of(alloc: Global, entries: u64, bars: &[Bar]) -> Result<Vec<u64>, AllocError>
     requires few { entries < 2 ^ 32 }
     requires short { All IsShort bars.now }

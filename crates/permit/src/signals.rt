@@ -154,9 +154,13 @@ impl Signals {
     /// It may return early.
     #[cold]
     pub(crate) fn sleep<R: Wait>(&self, rt: &R, interruptible: bool, left: Option<Duration>) {
-        if self.comes_soon(interruptible) {
-            return;
+        if !self.comes_soon(interruptible) {
+            self.sleep_at_once(rt, interruptible, left);
         }
+    }
+
+    // The same without the looks before.
+    fn sleep_at_once<R: Wait>(&self, rt: &R, interruptible: bool, left: Option<Duration>) {
         let sleeper = self.count_in();
         if awaited(sleeper.read, interruptible).is_none() {
             let low = (sleeper.read & LOW) as u32;

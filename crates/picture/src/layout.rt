@@ -36,7 +36,7 @@ pub(crate) struct Rect {
 }
 
 impl Layout {
-    /// Returns the layout of the entries from `from` on, before `to`, in so many rows.
+    /// Returns the layout of the entries from `from` on, before `to`, in this many rows.
     pub(crate) fn of(names: &Names, header: Header, from: u64, to: u64, rows: u64) -> Self
         requires { (to < 2 ^ 32) × (rows < 2 ^ 16) }
         ensures is { result ≡ layout_of names.now header from to rows }

@@ -19,7 +19,7 @@ fn put_first(out: &mut Vec<u8>, milliseconds: u32) -> Result<(), AllocError>
     out.extend_from_slice(b" milliseconds; a thread may be about to go on\n")
 }
 
-/// Returns the text of how a run of a script stands that did not end within so many milliseconds.
+/// Returns the text of how a run of a script stands that did not end within this many milliseconds.
 pub fn standing_text(
     alloc: Global,
     milliseconds: u32,

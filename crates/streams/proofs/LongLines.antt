@@ -1,7 +1,7 @@
 -- A line that is read piece by piece, of which the first bytes stay.
-use Rattle.std.proofs.Common.{◌≡◌, ◌≢◌, ℕ, ◌-◌, ◌<◌, List, [], ◌++◌, length, take, drop, Option, None, Some, refl, sym, ap, subst, ◌∙◌, arith, append_assoc, append-nil, inl, inr, ◌⊎◌, MatchOption, is_some, false, length-append, length-take-le, take-take, take_all}
+use Rattle.std.proofs.Common.{◌≡◌, ◌≢◌, ℕ, ◌-◌, List, [], ◌++◌, length, take, drop, Option, None, Some, refl, sym, ap, subst, ◌∙◌, arith, append_assoc, append-nil, MatchOption, is_some, false, length-append, length-take-le, take-take, take_all}
 use Rattle.std.specs.Io.KnownBytes.{Keeps}
-use Rattle.std.proofs.lemmas.Bool.{cases_order, false≢true}
+use Rattle.std.proofs.lemmas.Bool.{false≢true}
 use Rattle.std.proofs.lemmas.List.{take-append-le}
 use Rattle.std.proofs.lemmas.List.Elements.{All-append}
 use Rattle.std.proofs.Math.Seq.{drop-append_seam}
@@ -11,16 +11,15 @@ use Rattle.streams.specs.inner.Window.{IsFrontAhead}
 
 -- the first bytes of a line and of more of it
 first_of : (n : ℕ) (line more : List ℕ) → take n (take n line ++ more) ≡ take n (line ++ more)
-first_of n line more = by (cases_order (length line) n)
-  where
-    by : (length line ≡ n) ⊎ ((length line < n) ⊎ (n < length line))
-        → take n (take n line ++ more) ≡ take n (line ++ more)
-    by (inl same) = ap (λ (t : List ℕ). take n (t ++ more)) (take_all n line (omega (arith, same)))
-    by (inr (inl lt)) = ap (λ (t : List ℕ). take n (t ++ more)) (take_all n line (omega (arith, lt)))
-    by (inr (inr lt)) =
-        let long = length-take-le n line (omega (arith, lt)) in
-        take-append-le n (take n line) more (omega (arith, long))
-        ∙ take-take n n line (omega arith) ∙ sym (take-append-le n line more (omega (arith, lt)))
+first_of n line more =
+    grind (
+      arith,
+      take_all n line,
+      length-take-le n line,
+      take-append-le n (take n line) more,
+      take-take n n line,
+      take-append-le n line more,
+    )
 
 -- nothing was read behind the front
 pub stays : (old window new : List ℕ) (first left after : Option (List ℕ)) →
@@ -48,9 +47,7 @@ still old window (Some xs) (Some ys) front =
 pub last_read : (old new : List ℕ) (left after : Option (List ℕ)) (n : ℕ) (g : Grows old new left after n) →
     drop (length new - n) new ≡ g.more
 last_read old new left after n g =
-    let start : length new - n ≡ length old =
-    omega (arith, g.count, ap length g.behind, length-append old g.more) in
-    ap (λ (i : ℕ). drop i new) start ∙ ap (drop (length old)) g.behind ∙ drop-append_seam old g.more
+    grind (arith, g.count, g.behind, length-append old g.more, drop-append_seam old g.more)
 
 -- a piece was read that holds no break
 pub goes_on : (old window grown new : List ℕ) (first left after : Option (List ℕ)) (n : ℕ) →

@@ -8,7 +8,7 @@ use std::marker::Model;
 
 /// Who is told how much of a source is read.
 pub trait Watch {
-    /// What it makes of a watch to be told of so many bytes.
+    /// What it makes of a watch to be told of this many bytes.
     ghost notes: { Self → ℕ → Self → Type 0 };
 
     /// What it makes of a watch to be told that no more bytes are read.

@@ -23,7 +23,7 @@ pub(crate) fn put_long(out: &mut Vec<u8>, name: &[u8], number: u128) -> Result<(
     put_wide(out, number)
 }
 
-/// Appends a name, and the number of an entry after so many folded ones.
+/// Appends a name, and the number of an entry after this many folded ones.
 pub(crate) fn put_place(
     out: &mut Vec<u8>,
     name: &[u8],

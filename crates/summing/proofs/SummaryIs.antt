@@ -1,5 +1,5 @@
 -- The summary that is made of the numbers and tables.
-use Rattle.std.proofs.Common.{◌≡◌, ℕ, List, length, ap, ◌∙◌}
+use Rattle.std.proofs.Common.{◌≡◌, ℕ, List, length}
 use Rattle.summing.specs.Below.{Entry, Start}
 use Rattle.summing.specs.Prelude.{Peak, ConditionTally, count, is_grant, peak, SummaryView, conditions_below, rows_below, summary}
 use Rattle.summing.specs.declared.row.Row.{Row}
@@ -13,9 +13,4 @@ pub summary_is : (s : Start) (h : List Entry) (entries grants : ℕ) (high : Pea
     high ≡ peak s h → rows ≡ rows_below s h s.header.seats →
     conditions ≡ conditions_below h s.header.conditions →
     view_of entries grants high rows conditions ≡ summary s h
-summary_is s h entries grants high rows conditions a b c d e =
-    ap (λ n. view_of n grants high rows conditions) a
-    ∙ ap (λ n. view_of (length h) n high rows conditions) b
-    ∙ ap (λ p. view_of (length h) (count (λ e. is_grant e.word) h) p rows conditions) c
-    ∙ ap (λ xs. view_of (length h) (count (λ e. is_grant e.word) h) (peak s h) xs conditions) d
-    ∙ ap (view_of (length h) (count (λ e. is_grant e.word) h) (peak s h) (rows_below s h s.header.seats)) e
+summary_is s h entries grants high rows conditions a b c d e = cc

@@ -24,7 +24,7 @@ pub(crate) fn note_condition(conditions: &mut Vec<ConditionTally>, entry: Entry)
     }
 }
 
-/// Returns tallies of so many conditions.
+/// Returns tallies of this many conditions.
 pub(crate) fn no_conditions(alloc: Global, count: u8) -> Result<Vec<ConditionTally>, AllocError>
     ensures long { IfOk result (λ tallies. length tallies.items ≡ count) }
     ensures none { IfOk result (λ tallies. (c : ℕ) → slice_index_or tallies.items c no_condition_tally

@@ -23,7 +23,7 @@ pub struct Passing {
     pub(crate) mark: u64,
 }
 
-/// Returns what is noted of so many seats before the first entry.
+/// Returns what is noted of this many seats before the first entry.
 pub(crate) fn no_passings(alloc: Global, count: u16) -> Result<Vec<Passing>, AllocError>
     ensures long { IfOk result (λ passings. length passings.items ≡ count) }
     ensures none { IfOk result (λ passings. (i : ℕ) →
@@ -50,7 +50,7 @@ pub(crate) fn takes_anew(ledger: &Ledger, entry: Entry) -> bool
     is_take(entry.word) && !takes_again(ledger, entry)
 }
 
-/// Returns how often a seat was passed, if so many acquires have taken at once.
+/// Returns how often a seat was passed, if this many acquires have taken at once.
 pub(crate) fn passed_at(was: Passing, waits: bool, taken: u64) -> u64
     requires within { waits ≡ true → was.mark ≤ taken }
     requires few { (was.passed < 2 ^ 32) × (taken < 2 ^ 33) }

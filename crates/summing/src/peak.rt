@@ -12,7 +12,7 @@ pub struct Peak {
     pub place: Option<u64>,
 }
 
-/// Returns the longer queue of the one so far, and of one of so many seats after the entry of a number.
+/// Returns the longer queue of the one so far, and of one of this many seats after the entry of a number.
 pub(crate) fn higher(seats: u16, number: u64, was: Peak) -> Peak
     ensures { result ≡ higher seats number was }
 {

@@ -94,7 +94,7 @@ pub(crate) fn longest_with(wait: Option<Wait>, older: Option<Wait>) -> Option<Wa
     }
 }
 
-/// Returns the longest wait of a seat after so many entries, with the one that it is in.
+/// Returns the longest wait of a seat after this many entries, with the one that it is in.
 pub(crate) fn longest_at(tally: &SeatTally, number: u64) -> Option<Wait>
     requires { IfSome tally.now.begun (λ place. place ≤ number) }
     ensures { result ≡ longest_with (wait_from tally.now.begun number) tally.now.longest }

@@ -27,7 +27,7 @@ pub enum Timed {
     Late(Vec<u8>),
 }
 
-/// Runs the threads of a script, and waits for their ends at most so many milliseconds.
+/// Runs the threads of a script, and waits for their ends at most this many milliseconds.
 ///
 /// # Errors
 ///

@@ -84,13 +84,12 @@ impl NotedParking {
     }
 }
 
-#[tactic(auto, using(permit::specs::Deed::done))]
 impl Parking for NotedParking {
-    ghost use Rattle.permit.specs.Deed.{IsDone};
+    ghost use Rattle.test_threads.specs.Noted.{Did};
 
     ghost seats = { λ _. 256 };
 
-    ghost did = { λ place deed. IsDone place deed };
+    ghost did = { λ place deed. Did place.notes deed };
 
     fn now<R: Clock>(&self, _rt: &R) -> u64 {
         if self.is_late.swap(false, Ordering::SeqCst) {

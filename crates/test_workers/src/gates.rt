@@ -36,7 +36,7 @@ fn is_set<R: Clock>(rt: &R, flag: &AtomicBool) -> bool {
     is_set_in(rt, flag, TURNS)
 }
 
-/// Returns whether a flag is set in so many milliseconds.
+/// Returns whether a flag is set in this many milliseconds.
 fn is_set_in<R: Clock>(rt: &R, flag: &AtomicBool, turns: u32) -> bool {
     for _ in 0..turns {
         if flag.load(Ordering::SeqCst) {

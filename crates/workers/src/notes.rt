@@ -177,7 +177,7 @@ impl Notes {
         self.over.wake_all();
     }
 
-    /// Waits for the end of the run at most so many milliseconds, and returns whether it came. If the clock
+    /// Waits for the end of the run at most this many milliseconds, and returns whether it came. If the clock
     /// can't be read, the time has passed.
     pub(crate) fn ends_within<R: Wait + Clock>(&self, rt: &R, milliseconds: u32) -> bool {
         let limit = Duration::from_millis(u64::from(milliseconds));
@@ -217,3 +217,6 @@ fn time_left<R: Clock>(rt: &R, start: Option<Instant>, limit: Duration) -> Durat
         None => Duration::ZERO,
     }
 }
+
+#[cfg(test)]
+mod tests;

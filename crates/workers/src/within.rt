@@ -60,7 +60,7 @@ fn run_and_tell<R: Threads + Wait + Clock + Sync>(
     ended
 }
 
-/// Runs a script as [`run_threads`](crate::run_threads) does, and waits for its end at most so many
+/// Runs a script as [`run_threads`](crate::run_threads) does, and waits for its end at most this many
 /// milliseconds.
 ///
 /// If it is late, its threads are left as they are: they go on, or wait, until the program ends. No contract

@@ -386,11 +386,22 @@ fn parts_of_the_value_are_locked_as_a_whole() {
     assert_eq!((*first, mutex.is_mine()), (1, true));
     drop(first);
     assert!(!mutex.is_locked());
-    let failed = panic::catch_unwind(panic::AssertUnwindSafe(|| {
-        let _part = MutexGuard::map(mutex.lock(), |_| -> &mut u8 { panic!("on purpose") });
-    }));
-    assert!(failed.is_err() && !mutex.is_locked());
     assert_eq!(mutex.into_inner(), (1, vec![1, 2, 9]));
+}
+
+#[test]
+fn a_panic_for_a_part_of_the_value_leaves_it_unlocked() {
+    let mutex = Mutex::new(0);
+    let part = || MutexGuard::map(mutex.lock(), |value| value);
+    for call in [
+        &(|| drop(MutexGuard::map(mutex.lock(), |_| -> &mut u8 { panic!("on purpose") }))) as &dyn Fn(),
+        &|| drop(MutexGuard::try_map(mutex.lock(), |_| -> Option<&mut u8> { panic!("on purpose") })),
+        &|| drop(MappedMutexGuard::map(part(), |_| -> &mut u8 { panic!("on purpose") })),
+        &|| drop(MappedMutexGuard::try_map(part(), |_| -> Option<&mut u8> { panic!("on purpose") })),
+    ] {
+        assert_eq!(refusal(call), "on purpose");
+        assert!(!mutex.is_locked());
+    }
 }
 
 #[test]

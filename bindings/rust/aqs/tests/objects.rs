@@ -705,6 +705,9 @@ fn questions_take_a_seat_and_record_nothing() {
             assert!(said.ends_with("(AQS_TOO_MANY_THREADS)"), "{said}");
         });
     }
+    let texts = || (mutex.history().err(), mutex.trim().err());
+    let refused = thread::scope(|scope| scope.spawn(texts).join().unwrap());
+    assert_eq!(refused, (Some(Error::TooManyThreads), Some(Error::TooManyThreads)));
     drop(guard);
     assert!(!mutex.is_locked());
 }

@@ -141,12 +141,20 @@ fn it_says_whether_it_is_locked() {
     assert!(lock.is_locked());
     drop(two);
     assert!(!lock.is_locked());
+    let tried = lock.try_read().unwrap();
+    assert!(lock.is_locked());
+    drop(tried);
+    assert!(!lock.is_locked());
     let writer = lock.write();
     assert!(lock.is_locked() && lock.is_locked_exclusive());
     let reader = RwLockWriteGuard::downgrade(writer);
     assert!(lock.is_locked() && !lock.is_locked_exclusive());
     drop(reader);
     assert!(!lock.is_locked());
+    let tried = lock.try_write().unwrap();
+    assert!(lock.is_mine() && lock.is_locked());
+    drop(tried);
+    assert!(!lock.is_mine() && !lock.is_locked());
 }
 
 #[test]
@@ -278,6 +286,24 @@ fn parts_of_the_value_are_locked_as_a_whole() {
     assert_eq!((*item, lock.is_mine(), lock.is_locked_exclusive()), (9, true, true));
     drop(item);
     assert!(!lock.is_locked());
+}
+
+#[test]
+fn a_panic_for_a_part_of_the_value_leaves_it_unlocked() {
+    let lock = RwLock::new(0);
+    let read = || RwLockReadGuard::map(lock.read(), |value| value);
+    let written = || RwLockWriteGuard::map(lock.write(), |value| value);
+    for call in [
+        &(|| drop(RwLockReadGuard::map(lock.read(), |_| -> &u8 { panic!("on purpose") }))) as &dyn Fn(),
+        &|| drop(RwLockReadGuard::try_map(lock.read(), |_| -> Option<&u8> { panic!("on purpose") })),
+        &|| drop(MappedRwLockReadGuard::map(read(), |_| -> &u8 { panic!("on purpose") })),
+        &|| drop(RwLockWriteGuard::map(lock.write(), |_| -> &mut u8 { panic!("on purpose") })),
+        &|| drop(RwLockWriteGuard::try_map(lock.write(), |_| -> Option<&mut u8> { panic!("on purpose") })),
+        &|| drop(MappedRwLockWriteGuard::map(written(), |_| -> &mut u8 { panic!("on purpose") })),
+    ] {
+        assert_eq!(refusal(call), "on purpose");
+        assert!(!lock.is_locked());
+    }
 }
 
 #[test]

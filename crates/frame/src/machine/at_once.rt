@@ -29,11 +29,8 @@ use deciding::entries::plain;
 use deciding::room::owed_behind;
 use history::entry::{Entry, Mode, Word};
 use history::header::{Header, Object};
-use history::limits::MOST_AMOUNT;
+use history::limits::MOST_PERMITS;
 use history::step::Step;
-
-/// The most free permits.
-const MAX_PERMITS: i64 = MOST_AMOUNT as i64;
 
 impl<H: Hooks + Drop> Core<H> {
     /// Performs a step if it can be done at once: an acquire or a try that succeeds, or a release, of an idle
@@ -193,7 +190,7 @@ impl<H: Hooks + Drop> Core<H> {
         ensures { result
             ≡ not (int_lt (pos max_amount) (available (start_of self.now) self.now.entries +ℤ pos more)) }
     {
-        self.available() + i64::from(more) <= MAX_PERMITS
+        self.available() + i64::from(more) <= MOST_PERMITS
     }
 
     /// Returns whether the object has such a step, with its mode and its amount.

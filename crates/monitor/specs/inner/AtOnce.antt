@@ -1,6 +1,7 @@
 -- What a step of the fast way leaves.
-use Rattle.std.specs.Prelude.{◌≡◌, Ok}
+use Rattle.std.specs.Prelude.{◌≡◌, true, Ok}
 use Rattle.monitor.specs.Below.{Recorded, Step, entry_at_once}
+use Rattle.monitor.specs.Load.{leaves_holds}
 use Rattle.monitor.specs.Room.{IsStepIn}
 use Rattle.monitor.specs.Shown.{Shown}
 use Rattle.monitor.specs.declared.at_once.AtOnce.{AtOnce}
@@ -32,3 +33,13 @@ abbrev pub IsBusy : AtOnce → Type 0
 IsBusy (once.Done name) = ⊥
 IsBusy (once.Otherwise r) = ⊥
 IsBusy once.Busy = Unit {0}
+
+-- it was made by an answer that leaves all holds
+abbrev pub LeavesHolds : AtOnce → Type 0
+LeavesHolds (once.Done name) = ⊥
+LeavesHolds (once.Otherwise r) = leaves_holds r ≡ true
+LeavesHolds once.Busy = ⊥
+
+abbrev pub LeavesHoldsFirst : First → Type 0
+LeavesHoldsFirst (first.Done name) = ⊥
+LeavesHoldsFirst (first.Otherwise r) = leaves_holds r ≡ true

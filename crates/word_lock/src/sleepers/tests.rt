@@ -159,6 +159,72 @@ fn a_wake_that_is_sent_as_a_thread_is_enlisted_is_known_to_it(rt: HostRuntime) {
     assert!(rt; enlist_and_wake(&rt, &Sleepers::new()));
 }
 
+/// Returns whether any wake was sent since a thread was enlisted.
+fn is_wake_sent(sleepers: &Sleepers, enlisted: &Enlisted) -> bool {
+    word_of(sleepers) % ON_THE_WAY != u64::from(enlisted.wakes)
+}
+
+/// Returns whether a wake is sent within some seconds after a thread was enlisted.
+fn is_woken<R: Clock>(rt: &R, sleepers: &Sleepers, enlisted: &Enlisted) -> bool {
+    for _ in 0..SPINS {
+        if is_wake_sent(sleepers, enlisted) {
+            return true;
+        }
+        spin_loop();
+    }
+    for _ in 0..PAUSES {
+        if is_wake_sent(sleepers, enlisted) {
+            return true;
+        }
+        sleep(rt, Duration::from_micros(PAUSE));
+    }
+    false
+}
+
+/// Is enlisted beside a thread that was, and that has the lock by now without a wake. Returns whether it is woken.
+fn is_woken_beside_another<R: Clock>(rt: &R, sleepers: &Sleepers) -> bool {
+    let other = sleepers.enlist(None);
+    sleepers.arrive(other);
+    let enlisted = sleepers.enlist(None);
+    let is_woken = is_woken(rt, sleepers, &enlisted);
+    sleepers.arrive(enlisted);
+    is_woken
+}
+
+fn is_woken_each_time<R: Clock>(rt: &R, sleepers: &Sleepers, is_over: &AtomicBool) -> bool {
+    let begun = rt.monotonic().unwrap_or(Duration::ZERO);
+    let mut is_woken = true;
+    for _ in 0..TURNS {
+        is_woken = is_woken_beside_another(rt, sleepers);
+        let passed = rt
+            .monotonic()
+            .unwrap_or(Duration::ZERO)
+            .saturating_sub(begun);
+        if !is_woken || Duration::from_millis(LONGEST) <= passed {
+            break;
+        }
+    }
+    is_over.store(true, Ordering::SeqCst);
+    is_woken
+}
+
+fn enlist_beside_another<R: Threads + Wait + Clock + Sync>(rt: &R, sleepers: &Sleepers) -> bool {
+    let is_over = &AtomicBool::new(false);
+    let (is_woken, ()) = join(
+        rt,
+        || -> bool { is_woken_each_time(rt, sleepers, is_over) },
+        || { send_wakes(rt, sleepers, is_over) },
+    );
+    is_woken
+}
+
+// If the mark of the woken thread were cleared before the thread is enlisted, the wake of another one could set it in
+// between. Then no unlock would wake the thread, since one seems to be on its way.
+#[test]
+fn a_wake_that_is_sent_as_a_thread_is_enlisted_does_not_keep_its_own_back(rt: HostRuntime) {
+    assert!(rt; enlist_beside_another(&rt, &Sleepers::new()));
+}
+
 fn enlist_often(sleepers: &Sleepers) {
     for _ in 0..TURNS {
         let enlisted = sleepers.enlist(None);

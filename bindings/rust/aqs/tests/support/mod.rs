@@ -4,6 +4,7 @@ use std::panic::{self, AssertUnwindSafe};
 use std::time::{Duration, Instant};
 use std::{env, fs, path::PathBuf, thread};
 
+#[allow(dead_code)] // not each file waits
 pub const SHORT: Duration = Duration::from_millis(10);
 pub const LONG: Duration = Duration::from_secs(30);
 

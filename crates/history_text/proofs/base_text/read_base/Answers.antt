@@ -35,13 +35,7 @@ loop-base-preserved c =
           line_begins text h c.requires.based c.loop-base.base.lines _ rest ahead.0 _ taken.0
           (was.begins text begun) good ahead.1 taken.1 last;
       header = c.in_ok-left.ensures.header ∙ was.header;
-      few = omega (
-        arith,
-        was.few,
-        ap length ahead.1,
-        length-append line ahead.0,
-        ap length last,
-      );
+      few = omega (arith, was.few, ap length ahead.1, length-append line ahead.0, ap length last);
     }
 
 pub returns-clause-ahead : goal.returns-clause-ahead

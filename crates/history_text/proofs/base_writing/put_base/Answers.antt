@@ -1,5 +1,4 @@
-use Rattle.std.proofs.Common.{◌≡◌, ◌∷◌, ◌++◌, List, [], map, subst, ap, sym, ◌∙◌}
-use Rattle.std.specs.List.{AllByRecursion}
+use Rattle.std.proofs.Common.{◌≡◌, ◌∷◌, ◌++◌, List, [], map, ap, ◌∙◌}
 use Rattle.std.proofs.lemmas.Result.{on_ok_weaker}
 use Rattle.history_text.specs.Below.{SeatBase, Sleeper, LinePlace, Base}
 use Rattle.history_text.specs.Prelude.{BaseLine, Stands, IsBaseLine, first_line, seat_lines, sleeper_lines, lines_text}
@@ -10,18 +9,14 @@ use Rattle.history_text.proofs.base_writing.put_base.Goals as goal
 pub put_standings-requires : goal.put_standings-requires
 put_standings-requires c =
     let b = c.args.base.now in
-    let line : c.deref-2.result.now ≡ b.line =
-    c.deref-2.ensures.value ∙ ap (λ (x : Base). x.line) c.base.view_is in
-    subst (λ (l : List LinePlace). AllByRecursion IsBaseLine (map Stands l)) (sym line)
+    rw (c.deref-2.ensures.value, ap (λ (x : Base). x.line) c.base.view_is)
     (each_front IsBaseLine (map Stands b.line) (sleeper_lines 0 b.sleepers)
     (each_back IsBaseLine (seat_lines 0 b.seats) _ c.requires.each.1))
 
 pub put_sleepers-requires-clause-each : goal.put_sleepers-requires-clause-each
 put_sleepers-requires-clause-each c =
     let b = c.args.base.now in
-    let lists : map (λ list. list.items) c.deref-3.result.now ≡ b.sleepers =
-    ap (map (λ list. list.items)) c.deref-3.ensures.value ∙ ap (λ (x : Base). x.sleepers) c.base.view_is in
-    subst (λ (l : List (List Sleeper)). AllByRecursion IsBaseLine (sleeper_lines 0 l)) (sym lists)
+    rw (c.deref-3.ensures.value, ap (λ (x : Base). x.sleepers) c.base.view_is)
     (each_back IsBaseLine (map Stands b.line) (sleeper_lines 0 b.sleepers)
     (each_back IsBaseLine (seat_lines 0 b.seats) _ c.requires.each.1))
 

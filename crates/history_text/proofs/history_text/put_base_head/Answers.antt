@@ -1,4 +1,4 @@
-use Rattle.std.proofs.Common.{◌≡◌, ◌∙◌, sym, ap, subst, arith}
+use Rattle.std.proofs.Common.{sym, ap, subst, ◌∙◌, arith}
 use Rattle.history_text.specs.Below.{Base, IsInRange}
 use Rattle.history_text.specs.BaseText.{calls_sum}
 use Rattle.history_text.proofs.HeadWritten.{good_spelt, head_written, sum_few}
@@ -14,28 +14,22 @@ put_base-requires-clause-each c =
 
 pub calls_of-requires : goal.calls_of-requires
 calls_of-requires c =
-    let seats : c.deref.result.now ≡ c.args.base.now.seats =
-    c.deref.ensures.value ∙ ap (λ (x : Base). x.seats) c.base.view_is in
-    let same = ap calls_sum seats in
-    let few = sum_few c.args.base.now c.requires.base.1 in
-    let most = c.requires.base.1.entries in
-    omega (arith, same, few, most)
+    rw (c.deref.ensures.value, ap (λ (x : Base). x.seats) c.base.view_is)
+    (omega (arith, sum_few c.args.base.now c.requires.base.1, c.requires.base.1.entries))
 
 pub returns-clause-ok : goal.returns-clause-ok
 returns-clause-ok c =
     let b = c.args.base.now in
-    let seats : c.deref.result.now ≡ b.seats =
-    c.deref.ensures.value ∙ ap (λ (x : Base). x.seats) c.base.view_is in
     let folded = ap (λ (x : Base). x.entries) c.base.view_is in
+    let seats = c.deref.ensures.value ∙ ap (λ (x : Base). x.seats) c.base.view_is in
     let calls = c.calls_of.ensures ∙ ap calls_sum seats in
     let few = sum_few b c.requires.base.1 in
-    let most = c.requires.base.1.entries in
     record {
       lines = head_written b c.args.header.now c.args.out.now.items c.put_first_line.new.out.items
           c.put_base.new.out.items c.requires.some c.requires.base.0 c.in_ok-put_first_line.ensures.ok
           c.in_ok-put_base.ensures.ok;
       folded = folded;
-      few = omega (arith, folded, most);
+      few = omega (arith, folded, c.requires.base.1.entries);
       calls = calls;
       some = omega (arith, folded, calls, few);
     }

@@ -1,7 +1,7 @@
-use Rattle.std.proofs.Common.{◌≡◌, ℕ, ◌+◌, ◌<◌, ◌^◌, List, length, reverse, sym, ap, subst, ◌∙◌, arith, ◌++◌}
+use Rattle.std.proofs.Common.{◌≡◌, ℕ, ◌+◌, ◌<◌, ◌^◌, List, length, reverse, sym, ap, ◌∙◌, arith, ◌++◌}
 use Rattle.std.proofs.lemmas.Option.{slice_get_within}
-use Rattle.history_text.specs.Below.{Entry, Base, base_on, or_opening, ended}
-use Rattle.history_text.specs.Prelude.{IsHeadPut, entry_line, head_line, head_of, lines_told, entry_lines, lines_text}
+use Rattle.history_text.specs.Below.{Entry, base_on, ended}
+use Rattle.history_text.specs.Prelude.{entry_line, head_line, head_of, lines_told, entry_lines, lines_text}
 use Rattle.history.proofs.AllCalls.{calls_told}
 use Rattle.history_text.proofs.Heads.{based_well}
 use Rattle.history_text.proofs.HistoryWriting.{past}
@@ -13,9 +13,7 @@ loop-entry-preserved c =
     let b = base_on c.args.header.now c.args.history.now in
     let xs = reverse c.args.history.now.entries in
     let number = c.loop-entry.number in
-    let head =
-    subst (λ (a : Base). IsHeadPut a c.in_ok-out.out.items c.put_head.new.out.items c.in_ok-folded.folded
-    c.in_ok-folded.field-0-1) (ap (or_opening c.args.header.now) c.base.ensures) c.in_ok-folded.ensures.ok in
+    let head = rw c.base.ensures at c.in_ok-folded.ensures.ok in
     let lt : number < length xs = slice_get_within xs number c.in-Some.entry (sym c.in-Some.ensures) in
     record {
       lines = more_lines b.entries xs (ended (head_line (head_of b)) ++ lines_text (lines_told b))
@@ -32,9 +30,7 @@ returns c =
     let k = c.args.header.now in
     let b = base_on k c.args.history.now in
     let xs = reverse c.args.history.now.entries in
-    let head =
-    subst (λ (a : Base). IsHeadPut a c.in_ok-out.out.items c.put_head.new.out.items c.in_ok-folded.folded
-    c.in_ok-folded.field-0-1) (ap (or_opening c.args.header.now) c.base.ensures) c.in_ok-folded.ensures.ok in
+    let head = rw c.base.ensures at c.in_ok-folded.ensures.ok in
     let all = past xs c.loop-entry.number (sym c.in_default.ensures) in
     let lines =
     c.loop-entry.invariant.lines

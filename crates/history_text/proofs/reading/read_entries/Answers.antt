@@ -1,4 +1,4 @@
-use Rattle.std.proofs.Common.{◌≡◌, refl, ℕ, ◌∷◌, ◌+◌, ◌≤◌, max, [], length, reverse, arith, ap, ◌∙◌}
+use Rattle.std.proofs.Common.{◌≡◌, refl, ℕ, ◌∷◌, ◌+◌, max, [], length, reverse, arith, ap, ◌∙◌}
 use Rattle.std.proofs.lemmas.List.{reverse-append}
 use Rattle.history_text.specs.Below.{HistoryView, or_opening, ends_call, whole_pages, ended}
 use Rattle.line_text.proofs.Faults.{fault_passed}
@@ -13,13 +13,8 @@ next_entry-requires-clause-few c = c.loop-history.invariant.few
 
 pub next_entry-requires-clause-lines : goal.next_entry-requires-clause-lines
 next_entry-requires-clause-lines c =
-    omega (
-      arith,
-      c.loop-history.invariant.few,
-      c.loop-history.invariant.lines,
-      c.requires.place.lines,
-      c.requires.range.cap,
-    )
+    let was = c.loop-history.invariant in
+    omega (arith, was.few, was.lines, c.requires.place.lines, c.requires.range.cap)
 
 pub returns-in_err-entry : goal.returns-in_err-entry
 returns-in_err-entry c = λ text read.
@@ -46,13 +41,7 @@ returns c = λ text was.
 -- the pages of one entry more
 pages_more : (places owed len : ℕ) → owed ≡ 0 → places ≡ whole_pages len →
     max places (whole_pages (len + owed + 1)) ≡ whole_pages (len + 1)
-pages_more places owed len none was =
-    let same : len + owed + 1 ≡ len + 1 = omega (arith, none) in
-    let more : whole_pages len ≤ whole_pages (len + 1) = omega arith in
-    ap (λ n. max places (whole_pages n)) same ∙ largest (whole_pages (len + 1)) (omega (arith, was, more))
-  where
-    largest : (n : ℕ) → places ≤ n → max places n ≡ n
-    largest n few = omega (arith, few)
+pages_more places owed len none was = omega arith
 
 pub loop-history-preserved : goal.loop-history-preserved
 loop-history-preserved c =
@@ -85,17 +74,8 @@ loop-history-preserved c =
       lines = rw c.behind-place.ensures c.loop-history.invariant.lines;
       folded = rw c.behind-place.ensures c.loop-history.invariant.folded;
       count = rw (c.behind-place.ensures, entries) (omega (arith, c.loop-history.invariant.count));
-      few = rw c.behind-place.ensures (omega (
-        arith,
-        c.loop-history.invariant.count,
-        ap length entries,
-        c.len.ensures.value,
-        c.len.ensures.within_cap,
-        cap,
-      ));
-      calls = rw (c.behind-place.ensures, entries) (omega (
-        arith,
-        c.loop-history.invariant.calls,
-        one_at_most (ends_call e.word),
-      ));
+      few = rw c.behind-place.ensures
+          (omega (arith, c.loop-history.invariant.count, ap length entries, c.len.ensures));
+      calls = rw (c.behind-place.ensures, entries)
+          (omega (arith, c.loop-history.invariant.calls, one_at_most (ends_call e.word)));
     }

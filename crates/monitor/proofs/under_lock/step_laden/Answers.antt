@@ -1,10 +1,11 @@
 use mir.Syntax.{w64}
 use mir.Val.{SFits}
-use Rattle.std.proofs.Common.{ℕ, ◌∙◌, rules, sym, ap, subst}
+use Rattle.std.proofs.Common.{◌≡◌, ℕ, true, ◌∙◌, rules, sym, ap, subst}
 use Rattle.std.proofs.lemmas.Int.{to_z-of_z}
-use Rattle.monitor.specs.Below.{Step, counts_of}
+use Rattle.monitor.specs.Below.{Mode, Step, counts_of}
 use Rattle.monitor.specs.Prelude.{IsLawfulCore, Brings, LetsGo, Moves, given_by, holds_in}
-use Rattle.monitor.proofs.Loads.{told_free, turn, turn_step}
+use Rattle.monitor.proofs.Loads.{AreLeft, left_as_it_was, moves_none, told_free, turn, turn_step}
+use Rattle.monitor.proofs.under_lock.step_laden.Goals.{Then-leaves_holds}
 use Rattle.monitor.proofs.under_lock.step_laden.Goals as goal
 
 traded : (g : _) (c : goal.After-trade g) → g.L.Load.rests c.trade.new.self (counts_of c.step-answer.new.self)
@@ -36,3 +37,27 @@ returns-clause-carries g c = (traded g c).1
 
 pub returns-clause-moves : goal.returns-clause-moves
 returns-clause-moves g c = (traded g c).2
+
+-- an answer that leaves all holds
+left : (g : _) (c : Then-leaves_holds g) → AreLeft c.args.laden.now.core c.step-answer.new.self c.args.seat
+left g c =
+    let is : c.leaves_holds.result ≡ true = search rules in
+    let s = c.step-answer.ensures in
+    left_as_it_was c.args.laden.now.core c.step-answer.new.self c.args.seat c.step-answer.result
+    (sym c.leaves_holds.ensures ∙ is) s.base s.fault s.refused
+
+pub returns-then-leaves_holds-clause-rests : goal.returns-then-leaves_holds-clause-rests
+returns-then-leaves_holds-clause-rests g c =
+    g.met.L.Load.alike c.args.laden.now.load (counts_of c.args.laden.now.core) (counts_of c.step-answer.new.self)
+    (left g (goal.at.returns-then-leaves_holds-clause-rests g c).Then-leaves_holds).alike c.requires.rests
+
+pub returns-then-leaves_holds-clause-carries : goal.returns-then-leaves_holds-clause-carries
+returns-then-leaves_holds-clause-carries g c =
+    subst (λ (f : Mode → ℕ). g.L.Load.carries c.args.there.now f)
+    (sym (left g (goal.at.returns-then-leaves_holds-clause-carries g c).Then-leaves_holds).holds) c.requires.carries
+
+pub returns-then-leaves_holds-clause-moves : goal.returns-then-leaves_holds-clause-moves
+returns-then-leaves_holds-clause-moves g c =
+    moves_none g.L.Load.fit g.L.Load.is_counted g.L.Load.amount c.args.there.now
+    (counts_of c.args.laden.now.core).free (counts_of c.step-answer.new.self).free
+    (left g (goal.at.returns-then-leaves_holds-clause-moves g c).Then-leaves_holds).free

@@ -3,7 +3,7 @@ use Rattle.monitor.specs.Below.{CoreView, counts_of, Mode, Fault, HistoryFull}
 use Rattle.monitor.specs.Load.{LetsGo, Moves}
 use Rattle.monitor.specs.inner.CoreSteps.{IsCoreStep}
 use Rattle.monitor.proofs.Freeing.{brings_still, fit_still, moves_since}
-use Rattle.monitor.proofs.Rooms.{no_fold, no_room, no_room_holds, not_full, refused_stays, trimmed_holds}
+use Rattle.monitor.proofs.Rooms.{full_leaves, no_fold, no_room, no_room_holds, not_full, trimmed_holds}
 use Rattle.monitor.proofs.under_lock.step_laden_in_room.Goals.{After-trim_laden}
 use Rattle.monitor.proofs.under_lock.step_laden_in_room.Goals as goal
 
@@ -27,12 +27,10 @@ refused g c =
     c.step_laden-answer.result (sym c.is_full.ensures ∙ is)
     (record { answered = s.answered; told = s.told; owed = s.owed })
 
-stays : (g : _) (c : After-trim_laden g) → g.L.Load.is_counted ≡ true →
-    c.step_laden-answer.new.there ≡ c.args.there.now
+stays : (g : _) (c : After-trim_laden g) → c.step_laden-answer.new.there ≡ c.args.there.now
 stays g c =
-    refused_stays g.L.Load.fit g.L.Load.is_counted g.L.Load.amount c.args.laden.now.core c.step_laden-answer.new.laden.core
-    c.args.seat c.args.step c.requires.kept c.step_laden-answer.ensures.kept c.args.there.now
-    c.step_laden-answer.new.there HistoryFull (refused g c) c.step_laden-answer.ensures.moves
+    let is : c.is_full.result ≡ true = search rules in
+    c.step_laden-answer.ensures.stays (full_leaves c.step_laden-answer.result (sym c.is_full.ensures ∙ is))
 
 still_fit : (g : _) (c : After-trim_laden g) → g.L.Load.fit c.args.there.now →
     g.L.Load.fit c.step_laden-answer.new.there
@@ -58,7 +56,7 @@ step_laden-requires-clause-carries g c =
 pub step_laden-requires-clause-brings : goal.step_laden-requires-clause-brings
 step_laden-requires-clause-brings g c =
     brings_still g.L.Load.is_counted g.L.Load.amount c.args.there.now c.step_laden-answer.new.there _
-    (stays g (goal.at.step_laden-requires-clause-brings g c).After-trim_laden) c.requires.brings
+    (λ _. stays g (goal.at.step_laden-requires-clause-brings g c).After-trim_laden) c.requires.brings
 
 pub returns-in-Ok-clause-stepped : goal.returns-in-Ok-clause-stepped
 returns-in-Ok-clause-stepped g c =
@@ -77,7 +75,7 @@ returns-in-Ok-clause-stepped g c =
       since = moves_since g.L.Load.fit g.L.Load.is_counted g.L.Load.amount c.args.there.now c.step_laden-answer.new.there
           c.step_laden.new.there (counts_of c.trim_laden.new.laden.core).free
           (counts_of c.trim_laden.new.laden.core).free (counts_of c.step_laden.new.laden.core).free
-          (stays g before)
+          (λ _. stays g before)
           (still_fit g before) refl s.moves;
     })
 
@@ -89,3 +87,10 @@ returns-in-Err-clause-stepped g c =
     (counts_of c.args.laden.now.core).free c.step_laden-answer.new.there (counts_of z).free)
     (refused g before) c.step_laden-answer.ensures.moves c.in-Err.ensures.trimmed in
     inr (inr (x.0, x.1, x.2, ap (λ (f : Fault). Err f) x.3))
+
+pub returns-in-Ok-clause-stays : goal.returns-in-Ok-clause-stays
+returns-in-Ok-clause-stays g c = λ leaves.
+    c.step_laden.ensures.stays leaves ∙ stays g (goal.at.returns-in-Ok-clause-stays g c).After-trim_laden
+
+pub returns-in-Err-clause-stays : goal.returns-in-Err-clause-stays
+returns-in-Err-clause-stays g c = λ _. stays g (goal.at.returns-in-Err-clause-stays g c).After-trim_laden

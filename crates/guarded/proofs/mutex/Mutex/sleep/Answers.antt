@@ -1,5 +1,6 @@
 use Rattle.std.proofs.Common.{◌<◌, ◌∙◌, arith}
 use Rattle.monitor_fronts.specs.Holding.{holds}
+use Rattle.guarded.proofs.Failing.{stays_so}
 use Rattle.guarded.proofs.Stowing.{has_value, kept_so, may_lie}
 use Rattle.guarded.proofs.mutex.Mutex.sleep.Goals as goal
 
@@ -25,3 +26,7 @@ pub returns-clause-kept : goal.returns-clause-kept
 returns-clause-kept g c =
     kept_so g.I.Keeps.invariant c.call.new.slot (c.call.ensures.fit
     (may_lie g.I.Keeps.invariant c.args.slot.now c.requires.guards.there c.requires.kept))
+
+pub returns-clause-stays : goal.returns-clause-stays
+returns-clause-stays g c =
+    stays_so c.args.slot.now c.call.new.slot c.whether.result c.call.result c.whether.ensures c.call.ensures.stays

@@ -4,62 +4,38 @@ use Rattle.history_text.proofs.base_under_way.BaseUnderWay.take.Goals as goal
 
 pub pass-requires-clause-follows : goal.pass-requires-clause-follows
 pass-requires-clause-follows c =
-    let self = c.self.inside in
-    may_next self.so_far self.base self.lines c.self.invariant c.args.line.now (rw (← c.self.view_is) at
-    c.requires)
+    may_next _ _ _ c.self.invariant c.args.line.now (rw (← c.self.view_is) at c.requires)
 
 pub take_line-requires-clause-seats : goal.take_line-requires-clause-seats
 take_line-requires-clause-seats c =
-    let self = c.self.inside in
-    let may =
-    may_next self.so_far self.base self.lines c.self.invariant c.args.line.now (rw (← c.self.view_is) at
-    c.requires) in
-    seat_here self.so_far self.base self.lines c.self.invariant c.args.line.now may
+    let may = may_next _ _ _ c.self.invariant c.args.line.now (rw (← c.self.view_is) at c.requires) in
+    seat_here _ _ _ c.self.invariant _ may
 
 pub take_line-requires-clause-line : goal.take_line-requires-clause-line
 take_line-requires-clause-line c =
-    let self = c.self.inside in
-    let may =
-    may_next self.so_far self.base self.lines c.self.invariant c.args.line.now (rw (← c.self.view_is) at
-    c.requires) in
-    place_in_line self.so_far self.base self.lines c.self.invariant c.args.line.now may
+    let may = may_next _ _ _ c.self.invariant c.args.line.now (rw (← c.self.view_is) at c.requires) in
+    place_in_line _ _ _ c.self.invariant _ may
 
 pub take_line-requires-clause-sleepers : goal.take_line-requires-clause-sleepers
 take_line-requires-clause-sleepers c =
-    let self = c.self.inside in
-    let may =
-    may_next self.so_far self.base self.lines c.self.invariant c.args.line.now (rw (← c.self.view_is) at
-    c.requires) in
-    place_asleep self.so_far self.base self.lines c.self.invariant c.args.line.now may
+    let may = may_next _ _ _ c.self.invariant c.args.line.now (rw (← c.self.view_is) at c.requires) in
+    place_asleep _ _ _ c.self.invariant _ may
 
 pub overflow_add-self : goal.overflow_add-self
-overflow_add-self c =
-    let self = c.self.inside in
-    omega (arith, few self.so_far self.base self.lines c.self.invariant, c.self.invariant.count)
+overflow_add-self c = omega (arith, few _ _ _ c.self.invariant, c.self.invariant.count)
 
 pub invariant_of-self : goal.invariant_of-self
 invariant_of-self c =
-    let self = c.self.inside in
-    let may =
-    may_next self.so_far self.base self.lines c.self.invariant c.args.line.now (rw (← c.self.view_is) at
-    c.requires) in
-    rw (c.pass.ensures, c.take_line.ensures)
-    (grown self.so_far self.base self.lines c.self.invariant c.args.line.now may)
+    let may = may_next _ _ _ c.self.invariant c.args.line.now (rw (← c.self.view_is) at c.requires) in
+    rw (c.pass.ensures, c.take_line.ensures) (grown _ _ _ c.self.invariant c.args.line.now may)
 
 pub returns-clause-taken : goal.returns-clause-taken
 returns-clause-taken c =
-    let self = c.self.inside in
-    let may =
-    may_next self.so_far self.base self.lines c.self.invariant c.args.line.now (rw (← c.self.view_is) at
-    c.requires) in
+    let may = may_next _ _ _ c.self.invariant c.args.line.now (rw (← c.self.view_is) at c.requires) in
     rw (c.pass.ensures, c.take_line.ensures, ← c.self.view_is)
-    (taken_view self.so_far self.base self.lines c.self.invariant c.args.line.now may)
+    (taken_view _ _ _ c.self.invariant c.args.line.now may)
 
 pub returns-clause-few : goal.returns-clause-few
 returns-clause-few c =
-    let self = c.self.inside in
-    let may =
-    may_next self.so_far self.base self.lines c.self.invariant c.args.line.now (rw (← c.self.view_is) at
-    c.requires) in
-    rw (c.pass.ensures, c.take_line.ensures)
-    (few _ _ _ (grown self.so_far self.base self.lines c.self.invariant c.args.line.now may))
+    let may = may_next _ _ _ c.self.invariant c.args.line.now (rw (← c.self.view_is) at c.requires) in
+    rw (c.pass.ensures, c.take_line.ensures) (few _ _ _ (grown _ _ _ c.self.invariant c.args.line.now may))

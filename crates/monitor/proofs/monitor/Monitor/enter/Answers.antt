@@ -1,9 +1,11 @@
-use Rattle.std.proofs.Common.{◌≡◌, ◌<◌, ◌≤◌, ◌∙◌, ap, sym, subst, Ok, Result, IfSome}
+use Rattle.std.proofs.Common.{◌≡◌, ◌<◌, ◌≤◌, ◌∙◌, true, ap, sym, subst, Ok, Result, IfSome}
 use Rattle.monitor.specs.Below.{Entry, Fault, Answer, Recorded, entry_at_once, LockId}
+use Rattle.monitor.specs.Load.{is_refused, was_refused}
 use Rattle.monitor.specs.Room.{IsEnteredIn, IsStepIn}
 use Rattle.monitor.specs.inner.Stepping.{named_in}
 use Rattle.monitor.proofs.FastWay.{entered_in}
 use Rattle.monitor.proofs.InLine.{woken_as}
+use Rattle.monitor.proofs.Refusals.{done_not_refused, entry_leaves}
 use Rattle.monitor.proofs.RoomTurns.{entered_ok, no_sleep_in, place_in}
 use Rattle.monitor.proofs.monitor.Monitor.enter.Goals.{After-step_first}
 use Rattle.monitor.proofs.monitor.Monitor.enter.Goals as goal
@@ -54,3 +56,12 @@ returns-in-Otherwise-clause-entered g c =
     c.requires.idle
     (woken_as did c.args.pass.now c.step_first.new.pass (named_in c.in-Otherwise.answer) c.step_first.new.pass.seen
     c.step_first.ensures.called.same c.entered.ensures.unparked) c.in-Otherwise.ensures.stepped)
+
+pub returns-in-Done-clause-stays : goal.returns-in-Done-clause-stays
+returns-in-Done-clause-stays g c = λ refused.
+    let not_so = ap (λ (e : Entry). is_refused e.word) c.entry_at_once.ensures ∙ done_not_refused _ _ in cc
+
+pub returns-in-Otherwise-clause-stays : goal.returns-in-Otherwise-clause-stays
+returns-in-Otherwise-clause-stays g c = λ refused.
+    c.in-Otherwise.ensures.stays (entry_leaves c.in-Otherwise.answer
+    (subst (λ (r : Result Entry Fault). was_refused r ≡ true) c.entered.ensures.entry refused))

@@ -1,12 +1,14 @@
 use Rattle.std.proofs.Common.{rules, ◌≡◌, ◌≤◌, ◌∙◌, false, None, Ok, ℕ, ap, sym, subst}
 use Rattle.monitor.specs.Below.{LockId, Entry, Recorded, Step, entry_at_once, Point}
-use Rattle.monitor.specs.Prelude.{IsUnparked, WasNotInterrupted, Brings, LetsGo, free_of, given_by, holds_of, begun, step_by, IsBegunIn, IsCallIn, IsStepIn, at_point, Waiting}
+use Rattle.monitor.specs.Prelude.{IsUnparked, WasNotInterrupted, Brings, LetsGo, free_of, given_by, holds_of, begun, step_by, IsBegunIn, IsCallIn, IsRefusal, IsStepIn, at_point, is_refused, Turn, Waiting}
 use Rattle.monitor.specs.inner.Waits.{MayBegin}
+use Rattle.monitor.specs.declared.machine.Next.{Next}
 use Rattle.monitor.specs.declared.machine.Next.TheVariants as next
 use Rattle.monitor.proofs.Acquiring.{found_none, found_one}
 use Rattle.monitor.proofs.FastWay.{made_at_once}
 use Rattle.monitor.proofs.Freeing.{brings_still, fit_still, moves_since, stays}
 use Rattle.monitor.proofs.InLine.{woken_as}
+use Rattle.monitor.proofs.Refusals.{done_not_refused, refusal_leaves, reply_not_refused}
 use Rattle.monitor.proofs.RoomTurns.{awake_in, ends_in, place_first_in, place_in, same_at, step_in_as, waited_in, waits_from}
 use Rattle.monitor.proofs.Sections.{called_since}
 use Rattle.monitor.proofs.TurnByTurn.{Begins, begun_free, begun_waits, may_wait, step_gives_none, step_lets, waits_now}
@@ -191,3 +193,23 @@ returns-in-Done-clause-made g c =
     (done_so g at.In-Done)
     (woken_as did c.args.pass.now c.step_first.new.pass c.in-Done.named c.step_first.new.pass.seen
     c.step_first.ensures.called.same c.unpark.ensures))
+
+pub returns-in-Done-clause-stays : goal.returns-in-Done-clause-stays
+returns-in-Done-clause-stays g c = λ refused.
+    let not_so = ap (λ (e : Entry). is_refused e.word) c.entry_at_once.ensures ∙ done_not_refused _ _ in cc
+
+pub returns-in-Ends-clause-stays : goal.returns-in-Ends-clause-stays
+returns-in-Ends-clause-stays g c = λ refused.
+    c.in-Otherwise.ensures.stays (refusal_leaves c.args.request c.args.how c.moment-moment.result false
+    c.in-Otherwise.answer (subst (λ (t : Turn). IsRefusal t.next) c.first_turn-turn.ensures
+    (subst (λ (n : Next). IsRefusal n) (sym c.in-Ends.is) refused)))
+
+pub returns-in-Waits-clause-stays : goal.returns-in-Waits-clause-stays
+returns-in-Waits-clause-stays g c = λ refused.
+    let did = g.P.Parking.did c.args.parking.now in
+    let x = began g (goal.at.returns-in-Waits-clause-stays g c).After-unpark-in-Otherwise c.in-Waits.waiting
+    (begun_so g (goal.at.returns-in-Waits-clause-stays g c).After-first_turn-turn) c.in-Waits.is in
+    absurd (reply_not_refused did c.step_first.new.pass c.in-Waits.waiting.stage c.in-Waits.waiting.limits c.wait.result
+    c.wait.new.pass (waits_now did (at_point c.args.pass.now x.0) c.step_first.new.pass c.args.request c.args.how
+    (none g (goal.at.returns-in-Waits-clause-stays g c).After-first_turn-turn) x.1.0
+    (same_at c.args.pass.now c.step_first.new.pass x.0 c.step_first.ensures.called.same)) c.wait.ensures.waited refused)

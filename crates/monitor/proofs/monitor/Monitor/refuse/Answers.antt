@@ -1,5 +1,7 @@
 use Rattle.std.proofs.Common.{◌≡◌, ◌≤◌, ◌∙◌, sym, subst, true}
 use Rattle.monitor.specs.Below.{interrupted, LockId}
+use Rattle.monitor.specs.Prelude.{IsRefusal}
+use Rattle.monitor.specs.declared.machine.Next.{Next}
 use Rattle.monitor.proofs.InLine.{woken_as}
 use Rattle.monitor.proofs.RoomTurns.{never_waits_in, place_first_in, refused_in}
 use Rattle.monitor.proofs.monitor.Monitor.refuse.Goals as goal
@@ -29,3 +31,7 @@ returns-clause-made g c =
     c.begin-refusal.result.named c.begin-refusal.new.pass.seen c.begin-refusal.ensures.called.same c.unpark.ensures)
     (λ untold. subst (λ i. g.P.Parking.did c.args.parking.now (interrupted i)) c.requires.taken.0
     (c.settle.ensures.again c.requires.taken.1 untold)) c.in-Ends.is
+
+pub returns-clause-stays : goal.returns-clause-stays
+returns-clause-stays g c = λ refused.
+    c.begin-refusal.ensures.stays (subst (λ (n : Next). IsRefusal n) (sym c.in-Ends.is) refused)

@@ -1,4 +1,4 @@
-use Rattle.std.proofs.Common.{rules, ◌≡◌, Ok, ap, sym, subst}
+use Rattle.std.proofs.Common.{rules, ◌≡◌, Ok, ap, sym, subst, ◌∙◌}
 use Rattle.monitor.specs.Below.{Recorded, entry_at_once, CoreView, counts_of, held_ticket, Ticket}
 use Rattle.monitor.specs.Prelude.{Called, LetsGo, Moves, free_of, holds_of, IsStepIn, Shown, shown}
 use Rattle.monitor.specs.inner.CoreSteps.{IsCoreStepBy}
@@ -180,3 +180,6 @@ returns-in_default-clause-called g c =
     subst (λ (s : Shown). Called s (shown c.lock_now.new.token c.pass.inside.seat c.pass.inside.share)) c.pass.view_is
     (subst (λ (t : Ticket). Called (shown c.pass.inside.token c.pass.inside.seat c.pass.inside.share)
     (shown t c.pass.inside.seat c.pass.inside.share)) (sym same) (not_called _ c.pass.invariant.shows))
+
+pub returns-in-None-clause-stays : goal.returns-in-None-clause-stays
+returns-in-None-clause-stays g c = λ leaves. c.step_taken-answer.ensures.stays leaves ∙ c.in-None.ensures.stays

@@ -1,4 +1,4 @@
-use Rattle.std.proofs.Common.{ap, subst, sym}
+use Rattle.std.proofs.Common.{ap, subst, sym, ◌∙◌}
 use Rattle.monitor.specs.Prelude.{LetsGo, free_of, holds_of, IsStepIn, Shown}
 use Rattle.monitor.proofs.Freeing.{brings_still, moves_since}
 use Rattle.monitor.proofs.Sections.{called_since}
@@ -30,3 +30,6 @@ pub returns-in-Busy-clause-called : goal.returns-in-Busy-clause-called
 returns-in-Busy-clause-called g c =
     called_since c.args.pass.now c.step_at_once.new.pass c.step_later.new.pass c.step_at_once.ensures.called
     c.step_later.ensures.called
+
+pub returns-in-Busy-clause-stays : goal.returns-in-Busy-clause-stays
+returns-in-Busy-clause-stays g c = λ leaves. c.step_later.ensures.stays leaves ∙ c.in-Busy.ensures.busy tt

@@ -1,9 +1,9 @@
-use Rattle.std.proofs.Common.{◌<◌, ◌^◌, ℕ, List, length, Option, None, Some, arith, IfOk}
+use Rattle.std.proofs.Common.{◌<◌, ◌^◌, ℕ, List, length, Option, None, Some, arith}
 use Rattle.std.proofs.lemmas.Result.{IfOk-weaker}
 use Rattle.summing.specs.Below.{Entry, Start}
 use Rattle.audit.proofs.Fronts.{front_length}
 use Rattle.summing.specs.declared.summing.Summing.{Summing}
-use Rattle.summing.specs.Prelude.{AreTaken, legal_front, HasSummed, IsSumming}
+use Rattle.summing.specs.Prelude.{AreTaken, legal_front, HasSummed}
 use Rattle.summing.proofs.judging.JudgingSumming.finish.Goals as goal
 
 taken_is : (s : Start) (h : List Entry) (z : Summing) (wrong : Option ℕ) → AreTaken s h z wrong →

@@ -1,6 +1,6 @@
 use Rattle.std.proofs.Common.{arith, sym, ◌∙◌, List, length, subst}
 use Rattle.std.proofs.lemmas.Bool.{false≢true}
-use Rattle.summing.specs.Below.{front, Entry}
+use Rattle.summing.specs.Below.{Entry}
 use Rattle.audit.proofs.Fronts.{front_more, front_same, has_seat, wrong_now, wrong_still}
 use Rattle.summing.specs.Summing.{HasSummed}
 use Rattle.summing.proofs.judging.JudgingSumming.follow.Goals as goal
