@@ -31,6 +31,7 @@ AQS = os.environ.get("AQS", str(HERE.parent / "crates" / "aqs" / "out" / "aqs"))
 # Threads and rounds of the storms: all of them together take some seconds.
 STORMS = (("4", "400"), ("16", "120"), ("256", "12"))
 UNTIL_ONE_FAILS = "--until-one-fails"
+SUM_OF_FACTORIALS = "sum of factorials: 522956313\n"  # of 1 to 12, which the thread pool of Rust finds
 SHOWN = 3000
 MINUTES = 60
 PATIENCE = 5  # how often as long as on a usual machine a command may take on one that is slow, or busy
@@ -119,13 +120,14 @@ class Tests:
     def left_out(self, name, why):
         print(f"left out: {name}: {why}", flush=True)
 
-    def run(self, name, words, seconds=60, cwd=C, silent=False, **environment):
-        """Runs a command. With `silent` it must not complain, as a sanitizer does."""
+    def run(self, name, words, seconds=60, cwd=C, silent=False, says="", **environment):
+        """Runs a command. It prints what it `says`. With `silent` it must not complain, as a sanitizer does."""
         try:
             status, output, errors = check_recorder.ran(words, seconds * self.patience, cwd, **environment)
         except OSError as error:
             return self.count(name, False, str(error))
-        return self.count(name, status == 0 and not (silent and errors.strip()), output + errors)
+        is_good = status == 0 and not (silent and errors.strip()) and says in output
+        return self.count(name, is_good, output + errors)
 
     def audit(self, name, folder):
         """Judges each history in a folder: they must be legal, and some."""
@@ -319,7 +321,7 @@ def check_rust(tests):
     tests.run("cargo test", words, 120, cwd=RUST, **environment)
     file = f"{kept}/thread-pool.history"
     words = ["cargo", "run", "-q", "--offline", "--example", "thread_pool", file]
-    if tests.run("the thread pool of Rust", words, 240, cwd=RUST, **environment):
+    if tests.run("the thread pool of Rust", words, 240, cwd=RUST, says=SUM_OF_FACTORIALS, **environment):
         tests.draw("the thread pool", file)
     tests.audit("Rust", kept)
 

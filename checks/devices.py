@@ -80,7 +80,11 @@ WRITE_FAILED = (4, b"aqs: write failed\n")
 
 
 def run(program, words, text=b"", **how):
-    done = subprocess.run([program, *words], input=text, capture_output=True, timeout=60, **how)
+    """The status and both outputs, or no status if the program does not end."""
+    try:
+        done = subprocess.run([program, *words], input=text, capture_output=True, timeout=60, **how)
+    except subprocess.TimeoutExpired as stop:
+        return None, stop.stdout or b"", stop.stderr or b""
     return done.returncode, done.stdout, done.stderr
 
 
@@ -237,7 +241,8 @@ def little_memory(program, words, text, wanted):
         if not lacks_memory(words, answer):
             told = ", ".join(f"{count} times {said}" for said, count in lacked.items())
             print(f"  {words}: {told}; at {pages} pages {answer[0]} {answer[2][:80]!r}")
-            return bool(lacked) and (answer[0] == 127 or answer[0] < 0) and not answer[1]
+            is_ended = answer[0] is not None and (answer[0] == 127 or answer[0] < 0)
+            return bool(lacked) and is_ended and not answer[1]
         lacked[answer[2].decode().strip() or "calls that lack memory"] += 1
     return False
 
@@ -252,6 +257,8 @@ def threads_not_started(program, count=8):
     most = next(2000 << doubled for doubled in range(10) if answer_at(2000 << doubled)[0] == 0)
     for pages in range(most, 0, -(most // 128)):
         answer = answer_at(pages)
+        if answer[0] is None:
+            return False
         if answer[0] == 4 and answer not in told:
             told.append(answer)
     return told == [(4, b"", b"aqs: thread %d not started\n" % number) for number in range(count - 1, -1, -1)]

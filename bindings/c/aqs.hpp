@@ -139,12 +139,13 @@ aqs_status_t for_time(milliseconds time, Call call) {
 // Makes a call with the time that a moment is away, and again until the clock shows the moment.
 template <class Clock, class Duration, class Call>
 aqs_status_t until_moment(const std::chrono::time_point<Clock, Duration> &moment, Call call) {
+    // The unit of the clock may overflow, and this type can't. It is exact if a long double has 64 bits of mantissa.
+    const milliseconds awaited = moment.time_since_epoch();
     for (;;) {
-        const auto now = Clock::now();
-        const bool is_over = !(now < moment);
-        const milliseconds awaited = moment.time_since_epoch(), shown = now.time_since_epoch();
-        const aqs_status_t status = call(is_over ? 0 : piece_of(awaited - shown));
-        if (status != AQS_TIMED_OUT || !(Clock::now() < moment)) return status;
+        const milliseconds shown = Clock::now().time_since_epoch();
+        const aqs_status_t status = call(piece_of(awaited - shown));
+        const milliseconds reached = Clock::now().time_since_epoch();
+        if (status != AQS_TIMED_OUT || !(reached < awaited)) return status;
     }
 }
 

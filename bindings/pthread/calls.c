@@ -68,8 +68,10 @@ static inline int acquire(
     aqs_answer_t answer;
     uint16_t index = index_of(object, seat);
     aqs_begin(&seat->pass, &call, &answer);
-    object->core->entries++;
-    if (likely(is_done(&answer))) return 0;
+    if (likely(is_done(&answer))) {
+        object->core->entries++;
+        return 0;
+    }
     end_begin(object, me, index, &call, &answer);
     if (answer.kind == AQS_IS_WAITING) wait_turns(object, me, index, deadline, ends, &answer);
     return error_of(&answer);
@@ -80,8 +82,10 @@ static inline int one_step(object_t *object, thread_t *me, seat_t *seat, uint8_t
     aqs_answer_t answer;
     uint16_t index = index_of(object, seat);
     aqs_step_now(&seat->pass, step, &answer);
-    object->core->entries++;
-    if (likely(is_done(&answer))) return 0;
+    if (likely(is_done(&answer))) {
+        object->core->entries++;
+        return 0;
+    }
     end_step(object, me, index, step, &answer);
     return error_of(&answer);
 }

@@ -67,7 +67,7 @@ class Line(NamedTuple):
 
 def line_of(text):
     words = text.split()
-    file = re.search(r"\S+\.history", text)
+    file = re.search(r"\d+-[a-z]+-[^/]*?\.history", text)
     kept = int(words[1]) if file else 0
     return Line(
         int(words[0]), kept, int(words[2]), float(words[3]), int(words[4]), float(words[5]), file and file[0])
@@ -121,8 +121,13 @@ def check_rare_cases(tests):
             tests.audit(name, f"{folder}/*")
     folder = tests.histories("record-counted")
     told = ran([RECORD, "-o", folder, "--", RARE_CASES, "has_locks_of_other_kinds"])
-    is_counted = "1 named semaphores, 1 locks of C11" in told[2]
+    is_counted = "2 named semaphores, 1 locks of C11" in told[2]
     tests.count("named semaphores and locks of C11 are counted", is_counted, str(told))
+    case = [RARE_CASES, "main_thread_is_cancelled"]
+    told = ran([RECORD, "-o", folder, "-e", "0", "--", *case]), ran(case, LD_PRELOAD=LIBRARY)
+    tests.count("it ends if nothing is written meanwhile, or at all", told == ((0, "", ""),) * 2, str(told))
+    told = ran([RECORD, "-o", folder, "--", RARE_CASES, "a_child_with_our_memory_ends"])
+    tests.count("the end of such a child isn't its parent's", "left to glibc: 2 spinlocks\n" in told[2], str(told))
     told = ran([RECORD, "-o", "/proc/none/such", "--", RARE_CASES, "standard_error_is_another_file"])
     tests.count("a fault isn't written to a file of the program", told[1] == "0 bytes\n", str(told))
 
@@ -144,8 +149,8 @@ def check_what_is_recorded(tests):
     is_good = seats == [["0", "1", "0"], ["0"]]
     tests.count("a reader gives back the seat that it has", is_good, str(seats))
     folder = first_process(tests.histories("record-one_signal_and_a_broadcast"))
-    signals = [re.findall(r"(?m)^\d+ 0 (signal|signalall) 0 (\d+)$", text) for text in texts_of(folder)]
-    is_good = signals == [[("signal", "1"), ("signalall", "2")]]
+    signals = [re.findall(r"(?m)^\d+ \d+ (signal|signalall) 0 (\d+)$", text) for text in texts_of(folder)]
+    is_good = signals == [[("signal", "1"), ("signalall", "4")]]
     tests.count("a signal wakes one thread, and a broadcast those that are left", is_good, str(signals))
     lines = index_of(first_process(tests.histories("record-waits_take_a_known_time")))
     is_good = [(line.waits, line.sleeps) for line in lines] == [(1, 1)]
@@ -176,7 +181,8 @@ def check_answers(tests):
     """What each call answers is the same recorded, also where few entries are kept and nothing is written meanwhile."""
     runs = [(case,) for case in ran([ANSWERS])[1].split()]
     runs += [("one_thread_locks_often", "-k", most) for most in ("1", "4000")]
-    runs += [(case, "-k", "64") for case in ("full_histories_leave_no_memory", "tries_fill_a_history")]
+    full = ("full_histories_leave_no_memory", "many_holds_of_one_thread", "tries_fill_a_history")
+    runs += [(case, "-k", "64") for case in full]
     runs += [("a_program_rests", "-e", "0")]
     with ThreadPoolExecutor(AT_A_TIME) as pool:
         for folder, case, told, recorded in list(pool.map(lambda run: record_answers(tests, *run), runs)):
@@ -201,6 +207,12 @@ def check_numbers(tests):
     tests.count("threads have the numbers of those that ended, the least first", is_good, str(seats))
     seats = [[seats_of(text) for text in texts_of(path)] for path in processes(folder) if path != parent]
     tests.count("a child numbers its threads anew", seats == [[(["0", "1"], "5")]], str(seats))
+    folder = first_process(tests.histories("answers-a_thread_calls_before_the_main_thread"))
+    seats = [seats_of(text)[0] for text in texts_of(folder)]
+    tests.count("the main thread has the number 0, whoever calls first", seats == [["1", "0"]], str(seats))
+    folder = tests.histories("answers-a_child_does_what_was_written")
+    entries = sorted([line.entries for line in index_of(path)] for path in processes(folder))
+    tests.count("a child writes as much as its parent had written", entries == [[2], [2, 2]], str(entries))
 
 
 def check_gone(tests):
@@ -217,8 +229,13 @@ def check_gone(tests):
     tests.count("it says how many there were", is_good, text)
     check_index(tests, "a process whose mutexes are gone", folder, ("mutex",))
     folder = first_process(tests.histories("answers-destroyed_after_they_were_written"))
-    entries = [line.entries for line in index_of(folder)]
-    tests.count("the index has what was destroyed as it was written", entries == [4, 4, 2], str(entries))
+    entries = [(line.entries, line.file is not None) for line in index_of(folder)]
+    is_good = entries == [(4, True), (4, True), (2, True), (0, False)]
+    tests.count("the index has what was destroyed as it was written", is_good, str(entries))
+    lines = index_of(first_process(tests.histories("answers-semaphores_that_are_gone")))
+    told = [(line.entries, line.waits, line.sleeps, line.slept) for line in lines]
+    is_good = told == [*[(2, 1, 0, 0)] * 16, (4, 2, 0, 0)] and lines[-1].waited > 0
+    tests.count("the index adds up how often and how long threads waited for what is gone", is_good, str(lines))
 
 
 def check_counts(tests):
@@ -230,11 +247,21 @@ def check_counts(tests):
         entries = [[line.entries for line in index_of(path)] for path in (parent, child)]
         is_good = entries == [[12000] * 3, [4] * 3] and all(line.kept <= most for line in index_of(parent))
         tests.count(f"each entry is counted{words}", is_good, str(entries))
+    texts = texts_of(first_process(tests.histories("answers-one_thread_locks_often")))
+    heads = [text.split(" seats ")[0] for text in texts]
+    is_good = heads == [f"aqs-history 1 {kind} nonfair" for kind in ("semaphore", "lock", "rw")]
+    tests.count("no object is fair", is_good, str(heads))
+    folder = tests.histories("answers-words_that_are_empty")
+    told = ran([RECORD, "-o", folder, "--", ANSWERS, "writes_a_little_and_much"], AQS_KEEP="", AQS_EVERY="")
+    kept = [line.kept for line in index_of(first_process(folder))]
+    tests.count("an empty number is as none", kept == [6002, 2, 2], f"{told} {kept}")
+    entries = [line.entries for line in index_of(first_process(tests.histories("answers-objects_of_other_kinds")))]
+    tests.count("what glibc keeps is not recorded", entries == [2], str(entries))
     entries = [line.entries for line in index_of(first_process(tests.histories("answers-used_while_it_is_written")))]
     tests.count("what is done while a history is written is written too", entries == [2002] * 24, str(entries))
     folder = first_process(tests.histories("answers-conditions_change_their_mutex"))
     sleeps = [line.sleeps for line in index_of(folder)]
-    tests.count("each wait on a condition has a number", sleeps == [21, 3, 1], str(sleeps))
+    tests.count("each wait on a condition has a number", sleeps == [23, 3, 1], str(sleeps))
     seats = [seats_of(text)[1] for text in texts_of(folder)]
     tests.count("one that sleeps at a time needs few seats", seats == ["5"] * 3, str(seats))
     texts = texts_of(first_process(tests.histories("answers-tries_fill_a_history-k64")))
@@ -322,7 +349,7 @@ def check_cost(tests):
 
 def check_stripped(tests):
     """Without debug information the index is whole, and places have no lines."""
-    folder, stripped = tests.histories("record-stripped"), os.path.join(tests.folder, "stripped")
+    folder, stripped = tests.histories("record-stripped"), os.path.join(tests.folder, "strip: ped")
     if not shutil.which("strip"):
         tests.left_out("a program without debug information", "there is no strip")
         return
@@ -330,6 +357,9 @@ def check_stripped(tests):
     told = ran([RECORD, "-o", folder, "--", stripped, "4", "3"])
     if tests.count("a recorded program without debug information", told[0] == 0, str(told)):
         check_index(tests, "a program without debug information", first_process(folder))
+        files = [os.path.basename(file) for file in glob.glob(f"{folder}/*/*.history")]
+        is_good = all(re.fullmatch(r"\d+-[a-z]+-strip__ped\+0x[0-9a-f]+\.history", file) for file in files)
+        tests.count("files have plain names", is_good, str(files))
 
 
 def check_refusals(tests):
@@ -352,7 +382,9 @@ def check_full_disk(tests):
     is_told = told[:2] == (0, "done\n") and told[2].count("aqs: can't write ") == 1
     tests.count("a history that has no room on the disk is told", is_told, str(told))
     lines = sorted(text.count("\n") for text in texts_of(first_process(folder)))
-    tests.count("the one from before stays", lines == [4, 4], str(lines))
+    tests.count("the one from before stays", lines == [4, 4, 4], str(lines))
+    index = pathlib.Path(first_process(folder), "index").read_text()
+    tests.count("the index is whole, and has no more", index.count("\n") == 2 + 3, index)
     tests.audit("a full disk", f"{folder}/*")
 
 
@@ -365,6 +397,13 @@ def check_script(tests):
     tests.count("nothing is left in TMPDIR", not os.listdir(room), str(os.listdir(room)))
     told = ran([RECORD, "-o", folder, "--", "sh", "-c", "kill -9 $$"])
     tests.count("a program that is killed", told[0] == 128 + signal.SIGKILL, str(told))
+    # If this check was started with SIGINT ignored, a shell in it could not trap SIGINT.
+    usual = signal.signal(signal.SIGINT, signal.default_int_handler)
+    try:
+        told = ran([RECORD, "-o", folder, "--", "sh", "-c", "trap 'exit 7' INT; kill -INT 0; exit 8"])
+    finally:
+        signal.signal(signal.SIGINT, usual)
+    tests.count("a program that ends by Ctrl-C, which is for both", told[0] == 7, str(told))
     told, other = ran([RECORD, "-h"]), ran([RECORD, "-x", "--", "true"])
     is_good = told[0] == 0 and told[1].startswith("usage: ") and other[0] == 2 and "usage: " in other[2]
     tests.count("aqs-record says its usage", is_good, f"{told}\n{other}")
@@ -381,7 +420,7 @@ def record_elsewhere(tests, folder, words, **environment):
     told = ran([*words, ANSWERS, "uses_a_mutex_elsewhere"], cwd=tests.folder, **environment)
     made = processes(os.path.join(tests.folder, folder))
     files = [len(os.listdir(path)) for path in made]
-    tests.count(f"what is recorded goes to {folder}", told[0] == 8 and files == [2], f"{told} {made}")
+    tests.count(f"what is recorded goes to {folder}", told == (8, "", "") and files == [2], f"{told} {made}")
     return made[0] if made else ""
 
 
@@ -402,6 +441,14 @@ def check_folders(tests):
         tests.count("the index names the line", text.endswith(f"/answers.c:{line}\n"), text)
         ran([RECORD, "-o", "made/below", "--", ANSWERS, "uses_a_mutex_elsewhere"], cwd=tests.folder)
         tests.count("an index of another run stays as it is", index.read_text() == text, index.read_text())
+    [line] = index_of(first_process(tests.histories("answers-calls_by_a_name")))
+    is_good = re.fullmatch(r"1-mutex-From_A_to_z_09\+0x[0-9a-f]{1,3}\.history", line.file)
+    tests.count("a file has the name of the function that called first", bool(is_good), line.file)
+    folder = tests.histories("record-address")
+    told = ran([RECORD, "-o", folder, "--", ANSWERS, "calls_by_a_name"])
+    text = pathlib.Path(first_process(folder), "index").read_text()
+    is_good = f"  mutex     {told[2].strip()}  1-mutex-" in text
+    tests.count("the index has the address of the mutex", is_good, f"{told}\n{text}")
     names = [os.path.basename(path) for path in processes(tests.histories("answers-executes_another"))]
     is_good = len(names) == 2 and names[1] == f"{names[0]}.2"
     tests.count("a process that executes another has two folders", is_good, str(names))
@@ -410,7 +457,8 @@ def check_folders(tests):
 def check(tests, judged):
     if not tests.run("the recorder is built", ["make", "-s", "all", "tests"], 300, cwd=HERE):
         return
-    tests.run("numbers of entries that take more than 32 bits", [OUT / "texts"])
+    tests.run("texts that follow each other, and lack memory", [OUT / "texts"])
+    tests.run("memory of the recorder's own", [OUT / "heaps"])
     check_refusals(tests)
     check_rare_cases(tests)
     check_what_is_recorded(tests)

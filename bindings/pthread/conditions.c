@@ -39,19 +39,29 @@ enum { SHARED_FLAG = 1, MONOTONIC_FLAG = 2 };
 
 static inline tag_t *tag_of(pthread_cond_t *variable) { return (tag_t *)variable; }
 
+static condition_t *new_condition(pthread_cond_t *variable, unsigned flags) {
+    condition_t *condition = heap_take_zeroed(sizeof *condition);
+    if (!condition) return NULL;
+    condition->users = 1;
+    condition->number = NO_NUMBER;
+    condition->born = epoch_of_now();
+    condition->clock = flags & MONOTONIC_FLAG ? CLOCK_MONOTONIC : CLOCK_REALTIME;
+    tag_of(variable)->object = condition;
+    atomic_store_explicit(&tag_of(variable)->mark, mark_of(variable), memory_order_release);
+    return condition;
+}
+
+/* Where memory lacks it waits for it, and leaves the table to others meanwhile. */
 static COLD condition_t *open_condition(pthread_cond_t *variable) {
     unsigned flags = variable->__data.__wrefs;
+    condition_t *condition;
     if (!is_recording || flags & SHARED_FLAG) return NULL;
     thread_t *me = self();
     lock_table(me);
-    condition_t *condition = tagged(tag_of(variable), variable);
-    if (!condition && (condition = heap_take_zeroed(sizeof *condition))) {
-        condition->users = 1;
-        condition->number = NO_NUMBER;
-        condition->born = epoch_of_now();
-        condition->clock = flags & MONOTONIC_FLAG ? CLOCK_MONOTONIC : CLOCK_REALTIME;
-        tag_of(variable)->object = condition;
-        atomic_store_explicit(&tag_of(variable)->mark, mark_of(variable), memory_order_release);
+    while (!(condition = tagged(tag_of(variable), variable)) && !(condition = new_condition(variable, flags))) {
+        unlock_table(me);
+        pause_a_little();
+        lock_table(me);
     }
     unlock_table(me);
     return condition;

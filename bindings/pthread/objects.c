@@ -30,10 +30,10 @@ static uint32_t cap_of(uint8_t level) {
     return half > least ? half : least;
 }
 
-static aqs_header_t header_of(const object_t *object, uint8_t level) {
+static aqs_header_t header_of(const object_t *object, uint8_t level, uint32_t holds) {
     return (aqs_header_t){
         .number = object->kind == SEMAPHORE ? (int32_t)object->permits : 0,
-        .cap = cap_of(level),
+        .cap = cap_of(level) + 4 * holds,
         .seats = seats_of[level],
         .conditions = object->kind == MUTEX ? conditions_of[level] : 0,
         .kind = core_kind[object->kind],
@@ -45,12 +45,14 @@ uint8_t conditions_at(const object_t *object) {
     return object->kind == MUTEX && object->core ? conditions_of[object->core->level] : 0;
 }
 
-static core_t *open_core(const object_t *object, uint8_t level) {
+/* `holds`: those with which its history begins. Each has an entry, and room for its end. There is room for as many
+   again. */
+static core_t *open_core(const object_t *object, uint8_t level, uint32_t holds) {
     uint16_t count = seats_of[level];
     core_t *core = heap_take_zeroed(sizeof *core + count * sizeof(seat_t));
     aqs_pass_t *passes = heap_take_zeroed(count * sizeof(aqs_pass_t));
     uint8_t answer = AQS_FAULT_OUT_OF_MEMORY;
-    if (core && passes) answer = aqs_open(header_of(object, level), passes, count);
+    if (core && passes) answer = aqs_open(header_of(object, level, holds), passes, count);
     for (uint16_t i = 0; answer == 0 && i < count; i++) core->seats[i].pass = passes[i];
     heap_give(passes);
     if (answer != 0) {
@@ -58,7 +60,7 @@ static core_t *open_core(const object_t *object, uint8_t level) {
         return NULL;
     }
     core->count = count, core->level = level;
-    core->enough = cap_of(level) / 8 * 7;
+    core->enough = cap_of(level) / 8 * 7 + holds;
     return core;
 }
 
@@ -96,6 +98,12 @@ static seat_t *next_sleeper(core_t *core, uint64_t after) {
         if (!found || seat->order < found->order) found = seat;
     }
     return found;
+}
+
+static uint32_t holds_in(const core_t *core) {
+    uint32_t holds = 0;
+    for (uint16_t i = 0; i < core->count; i++) holds += core->seats[i].holds + core->seats[i].reads;
+    return holds;
 }
 
 /* Leads a new core, whose seats say who holds and who sleeps, to that state. */
@@ -194,7 +202,7 @@ static void keep_core(object_t *object, core_t *old) {
 static bool replace_core(object_t *object, uint8_t level) {
     core_t *old = object->core;
     if (object->kind == SEMAPHORE) object->permits = permits_of(old);
-    core_t *core = open_core(object, level);
+    core_t *core = open_core(object, level, holds_in(old));
     if (!core) return false;
     take_over_seats(core, old, 0);
     if (!replay(core)) {
@@ -232,7 +240,7 @@ static uint8_t first_level(void) {
 
 static void open_first(object_t *object) {
     uint8_t level = object->wanted > first_level() ? object->wanted : first_level();
-    while (!(object->core = open_core(object, level))) pause_a_little();
+    while (!(object->core = open_core(object, level, 0))) pause_a_little();
     object->wanted = 0;
 }
 
@@ -255,7 +263,7 @@ static void adopt(object_t *object, const thread_t *me) {
     if (object->signals) memset(object->signals, 0, MOST_CONDITIONS * sizeof *object->signals);
     if (!old) return;
     if (object->kind == SEMAPHORE) object->permits = permits_of(old);
-    while (!(object->core = open_core(object, old->level))) pause_a_little();
+    while (!(object->core = open_core(object, old->level, holds_in(old)))) pause_a_little();
     take_over_seats(object->core, old, me->id);
     replay(object->core);
     object->core->replayed = object->core->replayed_ends = 0;

@@ -2,11 +2,15 @@
 
 AQS_HISTORIES names a folder for the histories.
 """
+import base64
 import contextlib
 import ctypes
+import email
 import gc
+import hashlib
 import os
 import pathlib
+import platform
 import re
 import signal
 import subprocess
@@ -80,6 +84,15 @@ def raised_in_other(call):
         return None
 
     return in_other(tried)
+
+
+def seated(call):
+    """Makes a call, again while a question of another thread takes the only seat."""
+    while True:
+        try:
+            return call()
+        except aqs.TooManyThreads:
+            time.sleep(0.001)
 
 
 def until(is_so):
@@ -463,11 +476,13 @@ class Arguments(Tests):
     """Each mistake that C would have taken for something else."""
 
     def test_numbers_never_wrap(self):
-        permits = aqs.Semaphore(0)
-        for n in (0, -1, 2**31, 2**32, 2**32 + 1, 2**64):
-            self.assertRaises(ValueError, permits.acquire, n=n, blocking=False)
-            self.assertRaises(ValueError, permits.release, n)
-        self.assertEqual(permits.available(), 0)
+        few = aqs.BoundedSemaphore(1)
+        few.acquire()
+        for permits in (aqs.Semaphore(0), few):
+            for n in (0, -1, 2**31, 2**32, 2**32 + 1, 2**64):
+                self.assertRaises(ValueError, permits.acquire, n=n, blocking=False)
+                self.assertRaises(ValueError, permits.release, n)
+            self.assertEqual(permits.available(), 0)
         for value in (2**31, 2**32, -1, -(2**31), -(2**32)):
             self.assertRaises(ValueError, aqs.Semaphore, value)
             self.assertRaises(ValueError, aqs.BoundedSemaphore, value)
@@ -482,9 +497,17 @@ class Arguments(Tests):
             self.assertRaises(ValueError, aqs.CountDownLatch, 1, most_entries=entries)
         for policy in (-1, 3, 2**32):
             self.assertRaises(ValueError, aqs.Semaphore, policy=policy)
-        for thread in (-1, 256, 65536):
+        for thread in (-1, 256, 65536, 2**32):
             self.assertRaises(ValueError, aqs.interrupt, thread)
         self.assertFalse(aqs.interrupted())
+
+    def test_a_number_out_of_its_range_is_named(self):
+        for options, words in (
+            ({"threads": 257}, "threads must be 1 to 256, not 257"),
+            ({"conditions": 17}, "conditions must be 1 to 16, not 17"),
+            ({"most_entries": 15}, "most_entries must be 16 to 4294967295, not 15"),
+        ):
+            self.assertRaisesRegex(ValueError, f"^{words}$", aqs.RLock, **options)
 
     def test_conditions_are_those_of_the_lock(self):
         lock = aqs.RLock(conditions=2)
@@ -577,7 +600,8 @@ class Arguments(Tests):
         with lock, both.write:
             self.assertIsInstance(raised_in_other(lock.release), RuntimeError)
             self.assertIsInstance(raised_in_other(lambda: both.write.release()), RuntimeError)
-            self.assertIsInstance(raised_in_other(condition.notify), RuntimeError)
+            for call in (condition.notify, condition.wait, lock.wait, both.write.wait):
+                self.assertIsInstance(raised_in_other(call), RuntimeError)
             self.assertTrue(lock._is_owned() and both.write._is_owned())
         self.assertFalse(lock.locked())
 
@@ -667,9 +691,16 @@ class Arguments(Tests):
         self.assertRegex(repr(both.write), "^<write side of an aqs.RWLock, count=0, at 0x")
 
     def test_reprs_raise_nothing(self):
-        permits, lock = aqs.Semaphore(0, threads=1), aqs.Lock()
-        threads = run_all(1, lambda _number: permits.acquire(timeout=0.3))
+        permits, lock, told = aqs.Semaphore(0, threads=1), aqs.Lock(), []
+
+        def wait(_number):
+            told.append(aqs.current_thread())
+            with contextlib.suppress(aqs.Interrupted):
+                seated(lambda: permits.acquire(interruptible=True))
+
+        threads = run_all(1, wait)
         until(lambda: re.search("^<aqs.Semaphore at 0x.*: AQS_TOO_MANY_THREADS: ", repr(permits)))
+        aqs.interrupt(told[0])
         join_all(threads)
         permits.close()
         self.assertRegex(repr(permits), "^<aqs.Semaphore at 0x.*: closed>$")
@@ -706,13 +737,22 @@ class Conditions(Tests):
                 threads.append(threading.Thread(target=wait, args=(number,)))
                 threads[-1].start()
                 until(lambda: len(condition._queue) == number + 1)
-            for n, now in ((2, [0, 1]), (0, [0, 1]), (-3, [0, 1]), (1, [0, 1, 2]), (256, [0, 1, 2, 3, 4, 5])):
+            for n, now in ((2, [0, 1]), (0, [0, 1]), (-3, [0, 1]), (1, [0, 1, 2]), (2**32, [0, 1, 2, 3, 4, 5])):
                 with condition:
                     condition.notify(n)
                 until(lambda: len(woken) == len(now))
                 time.sleep(0.01)
                 self.assertEqual(sorted(woken), now)
             join_all(threads)
+
+    def test_a_notify_to_nobody_is_not_recorded(self):
+        lock = aqs.RLock(keep_history=True)
+        condition = aqs.Condition(lock)
+        with lock:
+            before = lock.history()
+            for notify in (condition.notify, condition.notify_all, lock.notify, lock.notify_all):
+                notify()
+            self.assertEqual(lock.history(), before)
 
     def test_more_conditions_than_numbers(self):
         for numbers in (1, 2, 16):
@@ -879,9 +919,9 @@ class CtrlC(Tests):
     def ended(self, call, after=0.15):
         """Seconds that the call took, which Ctrl-C ended."""
         timer = threading.Timer(after, os.kill, (os.getpid(), signal.SIGINT))
-        timer.start()
         begin = time.monotonic()
         with self.assertRaises(KeyboardInterrupt):
+            timer.start()
             call()
             time.sleep(LONG)
         timer.join()
@@ -919,7 +959,7 @@ class CtrlC(Tests):
         }
         for name, call in waits.items():
             with self.subTest(name):
-                self.assertLess(self.ended(call), 2)
+                self.assertLess(self.ended(call), LONG / 2)
         self.assertEqual((permits.available(), few.available(), latch.count()), (0, 0, 1))
         self.assertEqual(barrier.n_waiting, 0)
         self.assertFalse(lock._is_owned() or both.read._is_owned() or other.write._is_owned())
@@ -990,20 +1030,21 @@ class CtrlC(Tests):
             raise KeyboardInterrupt
 
         signal.signal(signal.SIGINT, fail)
-        timer = threading.Timer(0.15, os.kill, (os.getpid(), signal.SIGINT))
 
         def wait(_number):
             with lock:
                 woken.append(condition.wait(LONG))
 
+        def send(_number):
+            until(lambda: len(condition._queue) == 2)
+            os.kill(os.getpid(), signal.SIGINT)
+
         threads = []
         with self.assertRaises(KeyboardInterrupt):
             with lock:
-                timer.start()
-                threads = run_all(1, wait)
+                threads = run_all(1, wait) + run_all(1, send)
                 condition.wait(LONG)
         join_all(threads)
-        timer.join()
         self.assertEqual(woken, [True])
 
     def test_what_was_just_taken_is_given_back(self):
@@ -1034,7 +1075,7 @@ class CtrlC(Tests):
 
         def wait(_number):
             with lock:
-                woken.append(condition.wait(5))
+                woken.append(condition.wait(LONG))
 
         with mock.patch("aqs._locks.turn", fail), self.assertRaises(KeyboardInterrupt), lock:
             threads = run_all(1, wait)
@@ -1049,6 +1090,7 @@ class CtrlC(Tests):
             self.assertEqual(barrier.wait(), 0)
             self.assertFalse(event._cond.acquire(False))
             self.assertRaises(RuntimeError, event._cond.acquire)
+            self.assertRaises(ValueError, event._cond.acquire, False, 5)
         self.assertTrue(event.wait())
 
     def test_a_handler_may_set_an_event(self):
@@ -1058,7 +1100,7 @@ class CtrlC(Tests):
         timer.start()
         begin = time.monotonic()
         self.assertTrue(event.wait(LONG))
-        self.assertLess(time.monotonic() - begin, 5)
+        self.assertLess(time.monotonic() - begin, LONG / 2)
         timer.join()
 
     def test_it_leaves_an_interrupt_pending(self):
@@ -1244,6 +1286,8 @@ class Options(Tests):
                 self.assertRegex(thing.history(), rf"^aqs-history 1 \w+ {wanted}.*seats 3 .*cap 20\n")
         for thing in (aqs.RLock(conditions=3), aqs.RWLock(conditions=3), aqs.Event(conditions=3)):
             self.assertRegex(thing.history(), "^aqs-history 1 .* conditions 3 ")
+        for gate in (aqs.Event(), aqs.Barrier(1)):
+            self.assertRegex(gate.history(), "^aqs-history 1 .* conditions 1 ")
         usual = "^aqs-history 1 lock nonfair seats 256 conditions 16 cap 1024\n"
         self.assertRegex(aqs.RLock().history(), usual)
 
@@ -1251,7 +1295,7 @@ class Options(Tests):
         for call in self.calls(self.things(most_entries=16)):
             for _ in range(40):
                 call()
-        for call in self.calls(self.things(most_entries=16, keep_history=True)):
+        for call in self.calls(self.things(most_entries=16, keep_history="yes")):
             with self.assertRaises(aqs.HistoryFull):
                 for _ in range(40):
                     call()
@@ -1396,6 +1440,13 @@ class Refusals(Tests):
             self.assertRaises(TypeError, condition.notify, 1.5)
             self.assertRaises(ValueError, condition.acquire, timeout=-5)
 
+    def test_a_condition_tells_its_lock_of_an_error(self):
+        lock, error = mock.MagicMock(), ValueError()
+        lock.__exit__.return_value = False
+        with self.assertRaises(ValueError), aqs.Condition(lock):
+            raise error
+        self.assertEqual(lock.__exit__.call_args[0][:2], (ValueError, error))
+
     def test_a_reader_does_not_wait_for_itself_with_a_time(self):
         lock = aqs.RWLock()
         with lock.read:
@@ -1423,9 +1474,14 @@ class Refusals(Tests):
         def wait(number):
             told.append(aqs.current_thread())
             with contextlib.suppress(aqs.Interrupted):
-                waits[number](interruptible=True)
+                seated(lambda: waits[number](interruptible=True))
 
-        threads = run_all(2, wait) + run_all(1, lambda _number: in_lock(both.write, lambda: over.wait(LONG)))
+        def write(_number):
+            seated(both.write.acquire)
+            over.wait(LONG)
+            both.write.release()
+
+        threads = run_all(2, wait) + run_all(1, write)
         for thing in (permits, latch, both):
             until(lambda: isinstance(raised_in_other(thing.waiters), aqs.TooManyThreads))
         for call in (
@@ -1447,6 +1503,21 @@ class Refusals(Tests):
         with lock, mock.patch.object(lock, "_calls", refusing):
             self.assertIsInstance(raised_in_other(lambda: lock._acquire_restore(2)), aqs.HistoryFull)
             self.assertEqual((lock.holds(), in_other(lock.holds)), (1, 0))
+
+    def test_a_second_hold_that_is_refused_is_told(self):
+        both = aqs.RWLock()
+        for lock in (aqs.RLock(), both.read, both.write):
+            plain, statuses = lock._calls.plain, [_library.HISTORY_FULL, _library.OK]
+
+            def refused(handle):
+                return plain(handle) or statuses.pop()
+
+            with mock.patch.object(lock, "_calls", lock._calls._replace(plain=refused)):
+                self.assertRaises(aqs.HistoryFull, lock._acquire_restore, 3)
+            self.assertEqual((lock.holds(), statuses), (1, []))
+            lock.release()
+            lock._unlock(lock._opened.handle)
+            self.assertFalse(lock.locked())
 
     def test_a_permit_that_cannot_be_counted_is_given_back(self):
         release, statuses = _library.library.aqs_sem_release, [_library.OUT_OF_MEMORY]
@@ -1555,7 +1626,7 @@ class Closing(Tests):
         def close(_number):
             kinds = (aqs.RLock, aqs.RWLock, aqs.Event, aqs.RWLock)
             lock, both, event, dropped = (kind(threads=1) for kind in kinds)
-            for side in (lock, lock, both.write, both.read, event._cond, dropped.write):
+            for side in (lock, lock, both.write, both.read, both.read, event._cond, dropped.write):
                 side.__enter__()
             for thing in (lock, both, event):
                 thing.close()
@@ -1744,7 +1815,7 @@ class Waiting(Tests):
 
         with mock.patch("aqs._waiting.SLICE", 0.01), condition:
             threads = run_all(1, wait) + run_all(1, lambda _number: until(notified))
-            self.assertTrue(condition.wait(5))
+            self.assertTrue(condition.wait(LONG))
             self.assertEqual(woken, [True])
         join_all(threads)
 
@@ -1759,7 +1830,7 @@ class Waiting(Tests):
                 condition.notify()
 
         with mock.patch("aqs._waiting.SLICE", 0.01), mock.patch.object(queue, "_drop", dropping), condition:
-            self.assertTrue(condition.wait(5))
+            self.assertTrue(condition.wait(LONG))
 
     def test_a_predicate_is_asked_again_after_the_time(self):
         for condition in (aqs.RLock(), aqs.Condition(), aqs.Condition(threading.Lock())):
@@ -1777,7 +1848,7 @@ class Waiting(Tests):
             threads[0].join(0.1)
 
         with mock.patch.object(condition, "_release_save", releasing), condition:
-            self.assertTrue(condition.wait(5))
+            self.assertTrue(condition.wait(LONG))
         join_all(threads)
 
     def test_who_is_woken_holds_up_no_notify(self):
@@ -1787,7 +1858,7 @@ class Waiting(Tests):
             condition.notify()
             time.sleep(0.02)
             monitor = condition._queue._monitor
-            self.assertTrue(monitor.acquire(timeout=5) and monitor.release() is None)
+            self.assertTrue(monitor.acquire(timeout=LONG) and monitor.release() is None)
             condition.notify()
         join_all(threads)
         self.assertEqual(sorted(woken), [(0, True), (1, True)])
@@ -1806,7 +1877,7 @@ class Waiting(Tests):
 
             with condition, condition:
                 threads = run_all(1, notify)
-                self.assertTrue(condition.wait(5))
+                self.assertTrue(condition.wait(LONG))
                 self.assertEqual(side.holds(), 2)
                 self.assertFalse(in_other(lambda: other.acquire(False)))
             join_all(threads)
@@ -1880,7 +1951,7 @@ class Forks(Tests):
         if not child:
             status = 1
             try:
-                signal.alarm(10)
+                signal.alarm(2 * LONG)
                 call()
                 status = 0
             except BaseException:
@@ -1907,7 +1978,7 @@ class Forks(Tests):
                 until(lambda: len(condition._queue) == 1)
                 with condition:
                     condition.notify()
-                thread.join(5)
+                thread.join(LONG)
                 assert woken == [("child", True)], woken
 
             def notifying(_number):
@@ -1925,6 +1996,32 @@ class Forks(Tests):
                 condition.notify()
             join_all(threads)
             self.assertEqual(woken, [(0, True)])
+
+    def test_no_queue_of_the_parent_is_there(self):
+        lock, event, barrier, woken = aqs.RLock(), aqs.Event(), aqs.Barrier(2), []
+
+        def wait(_number):
+            with lock:
+                woken.append(lock.wait(LONG))
+
+        def wakes():
+            for thing in (lock, event, barrier):
+                thing._at_fork_reinit()
+            assert not event._cond._queue and not barrier._cond._queue
+            threads = run_all(1, wait)
+            until(lambda: lock.waiters() == 1)
+            in_lock(lock, lock.notify)
+            join_all(threads)
+
+        threads = run_all(1, wait) + run_all(1, lambda _number: event.wait())
+        threads += run_all(1, lambda _number: barrier.wait())
+        until(lambda: lock.waiters() == event.waiters() == barrier.waiters() == 1)
+        self.in_child(wakes)
+        in_lock(lock, lock.notify)
+        event.set()
+        barrier.wait()
+        join_all(threads)
+        self.assertEqual(woken, [True])
 
     def test_what_is_opened_anew_is_as_at_first(self):
         options = {"policy": aqs.Policy.STRICT, "threads": 3, "most_entries": 20}
@@ -1977,13 +2074,49 @@ class Loading(Tests):
             with zipfile.ZipFile(f"{room}/{made.stdout.strip()}") as wheel:
                 self.assertIsNone(wheel.testzip())
                 record = wheel.read("aqs-0.1.0.dist-info/RECORD").decode()
-                self.assertEqual({line.split(",")[0] for line in record.split()}, set(wheel.namelist()))
+                recorded = {line.split(",")[0]: line.split(",")[1:] for line in record.split()}
+                self.assertEqual(recorded.pop("aqs-0.1.0.dist-info/RECORD"), ["", ""])
+                found = {name: wheel.read(name) for name in wheel.namelist() if name in recorded}
+                self.assertEqual(len(found) + 1, len(wheel.namelist()))
+                for name, data in found.items():
+                    digest = base64.urlsafe_b64encode(hashlib.sha256(data).digest()).decode().rstrip("=")
+                    self.assertEqual(recorded[name], [f"sha256={digest}", str(len(data))], name)
+                self.check_words_of_wheel(made.stdout, wheel)
                 wheel.extractall(room)
             code = "import aqs; print(aqs.Semaphore(2).available(), aqs._library.library._name)"
             settings = {name: value for name, value in os.environ.items() if name != "AQS_SO"}
             words = [sys.executable, "-B", "-c", code]
             ran = subprocess.run(words, cwd=room, env=settings, capture_output=True, text=True, timeout=60)
             self.assertEqual(ran.stdout, f"2 {os.path.realpath(room)}/aqs/libaqs.so\n", ran.stderr)
+
+    def check_words_of_wheel(self, name, wheel):
+        """They are those of pyproject.toml, and of the file's name."""
+        project = (HERE / "pyproject.toml").read_text(encoding="utf-8")
+        about, words = (
+            email.message_from_bytes(wheel.read(f"aqs-0.1.0.dist-info/{file}")) for file in ("METADATA", "WHEEL")
+        )
+        for key in ("Name", "Version", "Requires-Python", "Summary"):
+            word = {"Summary": "description"}.get(key, key.lower())
+            self.assertIn(f'\n{word} = "{about[key]}"\n', project)
+        self.assertEqual((about["Metadata-Version"], words["Wheel-Version"]), ("2.1", "1.0"))
+        self.assertEqual(words["Root-Is-Purelib"], "false")
+        self.assertEqual(name, f"aqs-{about['Version']}-{words['Tag']}.whl\n")
+        self.assertEqual(words["Tag"], f"py3-none-linux_{platform.machine()}")
+        files = {f"aqs/{file.name}" for file in (HERE / "aqs").iterdir() if file.suffix in (".py", ".typed")}
+        self.assertEqual({it for it in wheel.namelist() if "dist-info" not in it}, files | {"aqs/libaqs.so"})
+
+    def test_a_wheel_has_the_library_that_is_named(self):
+        with tempfile.TemporaryDirectory() as room:
+            words = [sys.executable, "-B", str(HERE / "wheel_backend.py")]
+            settings = {**os.environ, "AQS_SO": f"{room}/named.so"}
+            given = {"cwd": room, "env": settings, "capture_output": True, "text": True, "timeout": 60}
+            ran = subprocess.run(words, **given)
+            self.assertEqual((ran.returncode, os.listdir(room)), (1, []))
+            self.assertRegex(ran.stderr, f"^{re.escape(room)}/named.so is missing: .*make -C bindings/c.*AQS_SO")
+            pathlib.Path(room, "named.so").write_bytes(b"named")
+            ran = subprocess.run(words, **given)
+            with zipfile.ZipFile(f"{room}/{ran.stdout.strip()}") as wheel:
+                self.assertEqual(wheel.read("aqs/libaqs.so"), b"named")
 
     def test_a_child_has_no_waiters_of_its_parent(self):
         code = (
@@ -2057,7 +2190,8 @@ class Declarations(unittest.TestCase):
             error = _library.error_of(status)
             self.assertEqual((type(error), error.status), (own, status))
             self.assertTrue(all(isinstance(error, it) for it in (aqs.Error, *bases)), name)
-            self.assertTrue(str(error).startswith(f"{name}: "), str(error))
+            words = "the call was refused" if own is aqs.Error else own.__doc__
+            self.assertEqual(str(error), f"{name}: {words}")
             self.assertEqual(getattr(_library, name[4:], status), status, name)
         self.assertEqual(_library.NO_THREAD, 2**32 - 1)
 

@@ -33,7 +33,9 @@ static aqs_step_t step;
 static char woke[40]; /* a digit for each aqs_go_on */
 static int begins, steps, looks, trims, drops, busy_looks;
 static uint32_t times[4]; /* of the last calls, the first at 0 */
-static atomic_bool is_slow, is_under_way;
+static atomic_int slow_turn; /* which of the next turns takes long, or 0 */
+static atomic_bool is_under_way, forks;
+static bool forks_itself;
 static size_t size_of_text;
 static uint8_t of_open, of_look, of_trim;
 static uint64_t folded;
@@ -71,6 +73,24 @@ static void answer(const aqs_pass_t *pass, aqs_answer_t *answer) {
     if (!is_last) atomic_store(&to[seat].at, at + 1);
 }
 
+/* A turn that takes long ends some while after the process began to fork, or its own thread forks in it, as a signal
+   handler may. */
+static void take_long(void) {
+    if (atomic_load(&slow_turn) == 0 || atomic_fetch_sub(&slow_turn, 1) > 1) return;
+    if (forks_itself) {
+        int status;
+        pid_t child = fork();
+        CHECK(child >= 0);
+        if (child == 0) _Exit(0);
+        CHECK(waitpid(child, &status, 0) == child && status == 0);
+        return;
+    }
+    atomic_store(&is_under_way, true);
+    while (!atomic_load(&forks)) usleep(20);
+    usleep(10000);
+    atomic_store(&is_under_way, false);
+}
+
 uint8_t aqs_open(aqs_header_t given, aqs_pass_t *places, size_t count) {
     header = given;
     count_of_passes = count;
@@ -80,11 +100,7 @@ uint8_t aqs_open(aqs_header_t given, aqs_pass_t *places, size_t count) {
 void aqs_step_now(aqs_pass_t *pass, aqs_step_t made, aqs_answer_t *to_answer) {
     step = made;
     steps++;
-    if (atomic_exchange(&is_slow, false)) {
-        atomic_store(&is_under_way, true);
-        usleep(10000);
-        atomic_store(&is_under_way, false);
-    }
+    take_long();
     answer(pass, to_answer);
 }
 void aqs_begin(aqs_pass_t *pass, const aqs_call_t *made, aqs_answer_t *to_answer) {
@@ -92,9 +108,11 @@ void aqs_begin(aqs_pass_t *pass, const aqs_call_t *made, aqs_answer_t *to_answer
     if (begins < 4) times[begins] = made->time;
     begins++;
     if (clock_step) atomic_fetch_add(&clock_shows, clock_step);
+    take_long();
     answer(pass, to_answer);
 }
 void aqs_go_on(aqs_pass_t *pass, uint8_t how, aqs_answer_t *to_answer) {
+    take_long();
     answer(pass, to_answer);
     size_t length = strlen(woke);
     if (to_answer->kind != AQS_IS_BUSY && length + 1 < sizeof woke) woke[length] = (char)('0' + how);
@@ -105,6 +123,7 @@ void aqs_entry_now(aqs_pass_t *pass, uint64_t number, aqs_answer_t *to_answer) {
 }
 static uint8_t look(void) {
     looks++;
+    take_long();
     return busy_looks > 0 ? busy_looks--, AQS_IS_BUSY : of_look;
 }
 uint8_t aqs_text_now(aqs_pass_t *pass, uint8_t *out, size_t size, uint64_t *length) {
@@ -119,6 +138,7 @@ uint8_t aqs_text_now(aqs_pass_t *pass, uint8_t *out, size_t size, uint64_t *leng
 uint8_t aqs_trim_now(aqs_pass_t *pass, uint64_t *count) {
     CHECK(pass->live);
     trims++;
+    take_long();
     if (busy_looks > 0) return busy_looks--, AQS_IS_BUSY;
     if (of_trim == AQS_IS_ENTRY) *count = folded;
     return of_trim;
@@ -150,13 +170,17 @@ void aqs_drop(aqs_pass_t *pass) {
 /* Counts the calls of aqs.c that let threads sleep and wake, and those that order what other threads do. Notes
    where a thread slept last. */
 static atomic_int futex_calls, orders;
+static void (*after_order)(void);
 static atomic_long slept_at;
 long __real_syscall(long number, long a, long b, long c, long d, long e, long f);
 long __wrap_syscall(long number, long a, long b, long c, long d, long e, long f) {
     if (number == SYS_futex) atomic_fetch_add(&futex_calls, 1);
     if (number == SYS_futex && b == FUTEX_WAIT_BITSET_PRIVATE) atomic_store(&slept_at, a);
-    if (number == SYS_membarrier && a == MEMBARRIER_CMD_PRIVATE_EXPEDITED) atomic_fetch_add(&orders, 1);
-    return __real_syscall(number, a, b, c, d, e, f);
+    long result = __real_syscall(number, a, b, c, d, e, f);
+    bool orders_turns = number == SYS_membarrier && a == MEMBARRIER_CMD_PRIVATE_EXPEDITED && result == 0;
+    if (orders_turns) atomic_fetch_add(&orders, 1);
+    if (orders_turns && after_order) after_order();
+    return result;
 }
 
 /* No other clock is asked. */
@@ -436,6 +460,8 @@ static void statuses(void) {
         if (answers[i].answer.end != AQS_END_NONE) continue;
         for (size_t row = 0; row < sizeof step_calls / sizeof step_calls[0]; row++) {
             is_status(step_calls[row].kind, step_calls[row].name, answers[i].of_step, answers[i].name);
+            bool is_refused_drain = step_calls[row].wanted.code == AQS_STEP_DRAIN && answers[i].of_step != AQS_OK;
+            CHECK(!is_refused_drain || players[0].number == 77); /* it writes no number */
         }
     }
     CHECK(trims == 0); /* nobody asked for a trim */
@@ -664,6 +690,9 @@ static const struct {
      ENTRY(GOT),
      "1 wait_interruptibly 0 ..; 0 interrupt 1 = OK; 1 = OK; 1 interrupted = 1",
      "2"},
+    {"again, and who is woken",
+     {KIND(WAITING), {.kind = AQS_IS_ENTRY, .word = AQS_WORD_BACK, .again = true, .has_wakes = true, .wakes = 1},
+      {PARKS}, ENTRY(GOT)}, 4, ENTRY(GOT), "1 wait_interruptibly 0 = OK; 1 interrupted = 1; 1 lock = OK", "00"},
     {"who is woken by one that waits", {{PARKS, .has_wakes = true, .wakes = 1}, ENTRY(GOT)},
      2,
      ENTRY(GOT),
@@ -856,9 +885,11 @@ static void start_owners(size_t from, size_t to) {
 static void fork_in_a_turn(void) {
     int status, before = atomic_load(&orders);
     while (!atomic_load(&is_under_way)) usleep(20);
+    atomic_store(&forks, true);
     pid_t child = fork();
     CHECK(child >= 0);
     if (child == 0) _Exit(atomic_load(&is_under_way));
+    atomic_store(&forks, false);
     CHECK(waitpid(child, &status, 0) == child);
     if (!WIFEXITED(status) || WEXITSTATUS(status) != 0) FAIL("the process forks in a turn");
     if (atomic_load(&orders) != before + 1) FAIL("nothing orders the turns before the fork");
@@ -868,21 +899,65 @@ static void fork_in_the_turn_of(size_t number) {
     char line[40];
     snprintf(line, sizeof line, "of thread %zu", number);
     play_line = line;
-    atomic_store(&is_slow, true);
+    atomic_store(&slow_turn, 1);
     CHECK(sem_post(&may_turn[number]) == 0);
     fork_in_a_turn();
     CHECK(pthread_join(owners[number], NULL) == 0);
 }
 
+/* A turn that begins after that order waits until the process has forked. */
+static void begin_now(void) {
+    ask(&players[0], SEM_release, 1, 0);
+    if (ends(&players[0], 10)) FAIL("it doesn't wait");
+}
+
+static void fork_beside_one_that_begins(void) {
+    int status;
+    play_line = "that begins while the process forks";
+    after_order = begin_now;
+    pid_t child = fork();
+    CHECK(child >= 0);
+    if (child == 0) _Exit(0);
+    CHECK(waitpid(child, &status, 0) == child && status == 0);
+    after_order = NULL;
+    CHECK(ends(&players[0], LIMIT));
+}
+
+/* Each kind of turn: the first and the next ones of a call, a step, a look and a trim. */
+static const struct {
+    kind_t kind;
+    const char *name;
+    int turn;
+} turns[] = {{LOCK, "lock", 1},      {LOCK, "lock", 2},     {LOCK, "timedwait", 3}, {SEM, "release", 1},
+             {SEM, "getvalue", 1},   {LATCH, "getcount", 1}, {ANY, "text", 1},       {ANY, "queue_length", 1},
+             {ANY, "trim", 1}};
+
+static void fork_in_each_turn(void) {
+    static const aqs_answer_t later[] = {KIND(WAITING), KIND(WAITING), ENTRY(GOT)};
+    for (size_t i = 0; i < sizeof turns / sizeof turns[0]; i++) {
+        play_line = turns[i].name;
+        answer_with(0, 0, turns[i].turn > 1 ? later : &got, turns[i].turn > 1 ? 3 : 1);
+        atomic_store(&slow_turn, turns[i].turn);
+        ask(&players[0], call_of(turns[i].kind, turns[i].name), 1, 0);
+        fork_in_a_turn();
+        CHECK(ends(&players[0], LIMIT));
+    }
+    fork_beside_one_that_begins();
+    play_line = "by the thread that makes it";
+    forks_itself = true;
+    atomic_store(&slow_turn, 1);
+    ask(&players[0], SEM_release, 1, 0);
+    if (!ends(&players[0], LIMIT)) FAIL("the fork waits for its own thread");
+    forks_itself = false;
+    answer_with(0, 0, &got, 1);
+}
+
 static void forks_in_turns(void) {
-    play_name = "a fork in a turn", play_line = "of thread 0";
+    play_name = "a fork in a turn";
     open_all(&(aqs_options_t){.threads = SEATS});
     for (int seat = 0; seat < SEATS; seat++) answer_with(seat, 0, &got, 1);
     CHECK(sem_init(&has_number, 0, 0) == 0);
-    atomic_store(&is_slow, true);
-    ask(&players[0], SEM_release, 1, 0);
-    fork_in_a_turn();
-    CHECK(ends(&players[0], LIMIT));
+    fork_in_each_turn();
     start_owners(PLAYERS, PLACES);
     fork_in_the_turn_of(PLACES - 1);
     start_owners(PLACES - 1, ALL_PLACES);

@@ -78,6 +78,9 @@ static void waits_long() {
     auto release = [&] { permits.release(); };
     waits([&] { return permits.try_acquire_until(steady_clock::time_point::max()); }, release);
     waits([&] { return permits.try_acquire_until(system_clock::time_point::max()); }, release);
+    // In the clock's own unit these are more than its numbers have.
+    std::chrono::time_point<steady_clock, std::chrono::hours> never(std::chrono::hours::max());
+    waits([&] { return permits.try_acquire_until(never); }, release);
     aqs::latch latch(1);
     waits([&] { return latch.wait_until(steady_clock::time_point::max()); }, [&] { latch.count_down(); });
 }
@@ -92,6 +95,9 @@ static void over_at_once() {
     CHECK(!permits.try_acquire_until(steady_clock::time_point::min()));
     CHECK(!permits.try_acquire_until(system_clock::time_point::min()));
     CHECK(!permits.try_acquire_until(system_clock::now() - 1h));
+    // In nanoseconds this would be 146 years ahead.
+    std::chrono::time_point<steady_clock, std::chrono::hours> long_ago(-3843072h);
+    CHECK(!permits.try_acquire_until(long_ago));
     CHECK(steady_clock::now() - begin < 5s);
     permits.release(6);
     CHECK(permits.try_acquire_for(0s));

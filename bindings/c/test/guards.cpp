@@ -456,6 +456,8 @@ static void errors() {
           == AQS_NO_SUCH_CONDITION);
     CHECK(status_of([] { aqs::latch latch(2147483648u); }) == AQS_OUT_OF_RANGE);
     CHECK(status_of([] { aqs::latch latch(4294967295u, aqs::options()); }) == AQS_OUT_OF_RANGE);
+    CHECK(aqs::latch(2147483647u).count() == 2147483647u);
+    CHECK(aqs::latch(2147483647u, aqs::options()).count() == 2147483647u);
     CHECK(status_of([] { aqs::semaphore permits(1); permits.acquire(3000000000u); }) == AQS_BAD_AMOUNT);
     // The standard's locks throw such errors too, and their users look at the code.
     try {

@@ -459,7 +459,7 @@ static void signalled_while_another_is_stopped(void) {
     atomic_store(&posts, 0);
 }
 
-/* Of 20 kinds of releases in one handler four are refused, and none of the others is lost. */
+/* Of 20 kinds of releases in one handler four are refused, and none of the others is lost, nor is one more of each. */
 
 enum { KINDS = 20, MOST_KINDS = 16, TIMES = 100 };
 
@@ -468,7 +468,8 @@ static int64_t released;
 
 static void release_each_kind(void) {
     refused = 0, released = 0;
-    for (uint32_t n = 1; n <= KINDS; n++) {
+    for (uint32_t i = 0; i < 2 * KINDS; i++) {
+        uint32_t n = 1 + i % KINDS;
         aqs_status_t status = aqs_sem_release(semaphore, n);
         CHECK(status == AQS_OK || status == AQS_OUT_OF_MEMORY);
         if (status == AQS_OK) released += n;
@@ -519,7 +520,7 @@ int main(void) {
     struct sigaction traps = {.sa_sigaction = on_trap, .sa_flags = SA_SIGINFO | SA_NODEFER};
     struct sigaction storms = {.sa_handler = on_storm};
     const aqs_options_t options = {.threads = THREADS + 2, .history = 16};
-    alarm(100);
+    alarm(300);
     CHECK(sigaction(SIGTRAP, &traps, NULL) == 0 && sigaction(SIGUSR2, &storms, NULL) == 0);
     CHECK(pthread_key_create(&first_key, begin_to_end) == 0);
     IS(aqs_sem_open(&semaphore, 1000000, &options), AQS_OK);
@@ -538,7 +539,7 @@ int main(void) {
     handler_in_handler();
     handlers_as_threads_end();
     signalled_while_another_is_stopped();
-    many_posts(release_each_kind, KINDS - MOST_KINDS);
+    many_posts(release_each_kind, 2 * (KINDS - MOST_KINDS));
     many_posts(release_often, 0);
     without_memory();
     take_the_only_one();

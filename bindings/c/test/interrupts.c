@@ -98,6 +98,10 @@ static const play_t plays[] = {
      "[8: 0 lock = OK; 0 unlock = OK]; 0 interrupt 1 = OK; 1 lock_interruptibly = HISTORY_FULL; "
      "1 timedlock 3 = HISTORY_FULL; "
      "1 interrupted = 1; 1 interrupted = 0", NULL},
+    {"a call that gets no seat leaves it pending", "lock fair seats 1 conditions 1 cap 64",
+     "0 lock = OK; 0 interrupt 1 = OK; 1 lock_interruptibly = TOO_MANY_THREADS; 1 timedlock 5 = TOO_MANY_THREADS; "
+     "1 wait_interruptibly 0 = TOO_MANY_THREADS; 1 timedwait 0 5 = TOO_MANY_THREADS; 1 interrupted = 1; "
+     "1 interrupted = 0; 0 unlock = OK", "0 got x 1; 0 gave x 1"},
     {"amounts that no semaphore has leave it pending", "semaphore fair seats 2 permits 0 cap 16",
      "0 interrupt 0 = OK; 0 acquire_interruptibly 2147483648 = BAD_AMOUNT; "
      "0 timedacquire 4294967295 3 = BAD_AMOUNT; 0 interrupted = 1", ""},

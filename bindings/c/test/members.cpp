@@ -16,7 +16,20 @@ static std::vector<const void *> of; // the object of each
 static aqs_status_t answer = AQS_OK; // to each call
 static aqs_options_t opened_with;
 
+// A clock on which it is soon after a call.
+struct call_clock {
+    typedef std::chrono::milliseconds duration;
+    typedef duration::rep rep;
+    typedef duration::period period;
+    typedef std::chrono::time_point<call_clock> time_point;
+    static constexpr bool is_steady = true;
+    static inline time_point shown;
+    static time_point now() { return shown; }
+};
+static const auto soon = call_clock::time_point(9ms);
+
 static void note(const char *name, const void *object, std::vector<long> numbers) {
+    call_clock::shown = soon;
     made += made.empty() ? name : std::string("; ") + name;
     for (long it : numbers) made += " " + std::to_string(it);
     of.push_back(object);
@@ -164,7 +177,7 @@ static long told(const std::function<long()> &member) {
 static void makes(const std::string &call, const void *object, const std::function<long()> &member,
                   long (*wanted)(int), long value) {
     for (int status = AQS_OK; status <= AQS_HANDLER_RAN; status++) {
-        made.clear(), of.clear();
+        made.clear(), of.clear(), call_clock::shown = {};
         answer = (aqs_status_t)status;
         long found = told(member);
         answer = AQS_OK;
@@ -247,7 +260,7 @@ static void locks(Lock &lock, const std::string &kind, const std::string &side) 
     tries(call + side + "_interruptibly", it, [&] { return lock.lock_interruptibly(); });
     tries(call + "try" + side, it, [&] { return lock.try_lock(); });
     tries(call + "timed" + side + " 5", it, [&] { return lock.try_lock_for(5ms); });
-    tries(call + "timed" + side + " 0", it, [&] { return lock.try_lock_until(past); });
+    tries(call + "timed" + side + " 9", it, [&] { return lock.try_lock_until(soon); });
     does(call + unlock, it, [&] { lock.unlock(); });
 }
 
@@ -262,7 +275,7 @@ static void conditions(Lock &lock, const std::string &kind) {
     does(call + "wait 2", it, [&] { condition.wait(guard); });
     tries(call + "wait_interruptibly 2", it, [&] { return condition.wait_interruptibly(guard); });
     tries(call + "timedwait 2 5", it, [&] { return condition.wait_for(guard, 5ms); });
-    tries(call + "timedwait 2 0", it, [&] { return condition.wait_until(guard, past); });
+    tries(call + "timedwait 2 9", it, [&] { return condition.wait_until(guard, soon); });
     does(call + "signal 2", it, [&] { condition.notify_one(); });
     does(call + "signal_all 2", it, [&] { condition.notify_all(); });
     answer = AQS_TIMED_OUT;
@@ -287,6 +300,9 @@ static void histories(Object &object) {
     the_text = "a text of 20 letters";
     tries_left = 6;
     CHECK(object.history() == the_text && made.find("aqs_history_text; aqs_history_text") == 0 && of.back() == it);
+    answer = AQS_TOO_MANY_THREADS;
+    CHECK(told([&] { return (long)object.history().size(); }) == thrown(answer));
+    answer = AQS_OK;
 }
 template <class Object>
 static void questions(Object &object) {
@@ -327,7 +343,7 @@ static void read_write_locks() {
     tries("aqs_rwlock_rdlock_interruptibly", it, [&] { return mutex.lock_shared_interruptibly(); });
     tries("aqs_rwlock_tryrdlock", it, [&] { return mutex.try_lock_shared(); });
     tries("aqs_rwlock_timedrdlock 5", it, [&] { return mutex.try_lock_shared_for(5ms); });
-    tries("aqs_rwlock_timedrdlock 0", it, [&] { return mutex.try_lock_shared_until(past); });
+    tries("aqs_rwlock_timedrdlock 9", it, [&] { return mutex.try_lock_shared_until(soon); });
     does("aqs_rwlock_rdunlock", it, [&] { mutex.unlock_shared(); });
     tells("aqs_rwlock_is_write_locked", it, 1, [&] { return mutex.is_write_locked(); });
     says("aqs_rwlock_is_mine", it, 1, [&] { return mutex.is_mine(); });
@@ -344,7 +360,7 @@ static void condition_objects() {
     does("aqs_cond_wait", it, [&] { condition.wait(guard); });
     tries("aqs_cond_wait_interruptibly", it, [&] { return condition.wait_interruptibly(guard); });
     tries("aqs_cond_timedwait 5", it, [&] { return condition.wait_for(guard, 5ms); });
-    tries("aqs_cond_timedwait 0", it, [&] { return condition.wait_until(guard, past); });
+    tries("aqs_cond_timedwait 9", it, [&] { return condition.wait_until(guard, soon); });
     does("aqs_cond_signal", it, [&] { condition.notify_one(); });
     does("aqs_cond_signal_all", it, [&] { condition.notify_all(); });
     waits_for_predicates(condition, guard, "aqs_cond_wait", "aqs_cond_timedwait");
@@ -364,8 +380,8 @@ static void semaphores() {
     tries("aqs_sem_tryacquire 5", it, [&] { return permits.try_acquire(5); });
     tries("aqs_sem_timedacquire 1 7", it, [&] { return permits.try_acquire_for(7ms); });
     tries("aqs_sem_timedacquire 5 7", it, [&] { return permits.try_acquire_for(7ms, 5); });
-    tries("aqs_sem_timedacquire 1 0", it, [&] { return permits.try_acquire_until(past); });
-    tries("aqs_sem_timedacquire 5 0", it, [&] { return permits.try_acquire_until(past, 5); });
+    tries("aqs_sem_timedacquire 1 9", it, [&] { return permits.try_acquire_until(soon); });
+    tries("aqs_sem_timedacquire 5 9", it, [&] { return permits.try_acquire_until(soon, 5); });
     does("aqs_sem_release 1", it, [&] { permits.release(); });
     does("aqs_sem_release 5", it, [&] { permits.release(5); });
     tells("aqs_sem_drain", it, 9, [&] { return permits.drain(); });
@@ -381,7 +397,7 @@ static void latches() {
     does("aqs_latch_await", it, [&] { latch.wait(); });
     tries("aqs_latch_await_interruptibly", it, [&] { return latch.wait_interruptibly(); });
     tries("aqs_latch_timedawait 5", it, [&] { return latch.wait_for(5ms); });
-    tries("aqs_latch_timedawait 0", it, [&] { return latch.wait_until(past); });
+    tries("aqs_latch_timedawait 9", it, [&] { return latch.wait_until(soon); });
     tells("aqs_latch_getcount", it, 11, [&] { return latch.count(); });
     tells("aqs_latch_getcount", it, 0, [&] { return latch.try_wait(); });
     questions(latch);

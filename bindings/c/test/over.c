@@ -115,9 +115,12 @@ static void all_pass(void) {
 
 static atomic_bool has_passed;
 
+/* Its pending interrupt ends nothing, and stays. */
 static void *come_once(void *none) {
+    IS(aqs_thread_interrupt(aqs_thread_self()), AQS_OK);
     IS(aqs_barrier_wait(barrier, NULL), AQS_OK);
     atomic_store(&has_passed, true);
+    CHECK(aqs_thread_interrupted());
     return none;
 }
 
@@ -189,6 +192,10 @@ static void out_of_range(void) {
     IS(aqs_barrier_open(&barrier, 3, &(aqs_options_t){.threads = 2}), AQS_OUT_OF_RANGE);
     IS(aqs_barrier_open(&barrier, 2, &(aqs_options_t){.history = 3}), AQS_OUT_OF_RANGE);
     CHECK(!barrier);
+    IS(aqs_barrier_open(&barrier, 2, &(aqs_options_t){.threads = 2}), AQS_OK); /* as many as there are seats */
+    aqs_barrier_close(barrier);
+    IS(aqs_barrier_open(&barrier, AQS_THREADS, NULL), AQS_OK);
+    aqs_barrier_close(barrier);
     aqs_mutex_t *none = (aqs_mutex_t *)&none;
     IS(aqs_mutex_open(&none, &(aqs_options_t){.threads = 999}), AQS_OUT_OF_RANGE);
     CHECK(!none);

@@ -4,6 +4,8 @@
 #define PLAYERS 18
 #include "play.h"
 
+#include <sys/wait.h>
+
 #define MISS(thread) thread " trylock = WOULD_BLOCK; "
 
 static const play_t plays[] = {
@@ -156,10 +158,18 @@ static const play_t plays[] = {
      "3 unlock = OK; 0 notify_all 6 = OK; 1 waits; 0 notify_all 5 = OK; 1 = OK; 1 notify 5 = OK; "
      "1 unlock = OK; 2 = OK; "
      "2 unlock = OK; 0 notify 5 = OK; 4 lock = OK; 4 timedawait 6 1 = TIMED_OUT; 4 unlock = OK", NULL},
+    {"who leaves its line: the last, one between two others, the first", "lock fair seats 6 conditions 1 cap 64",
+     "1 lock = OK; 1 await_interruptibly 0 ..; 2 lock = OK; 2 await_interruptibly 0 ..; 3 lock = OK; "
+     "3 await_interruptibly 0 ..; 0 interrupt 3 = OK; 3 = INTERRUPTED; 3 unlock = OK; 4 lock = OK; 4 await 0 ..; "
+     "0 interrupt 2 = OK; 2 = INTERRUPTED; 2 unlock = OK; 5 lock = OK; 5 await 0 ..; 0 interrupt 1 = OK; "
+     "1 = INTERRUPTED; 1 unlock = OK; 0 notify 0 = OK; 4 = OK; 4 unlock = OK; 5 waits; 0 notify 0 = OK; 5 = OK; "
+     "5 unlock = OK", NULL},
     {"a signal that comes when the last has left", "lock fair seats 4 conditions 1 cap 64",
      "1 lock = OK; 1 await_interruptibly 0 ..; 0 lock = OK; 0 interrupt 1 = OK; 1 waits; 3 lock ..; "
      "2 notify 0 ..; 0 unlock = OK; 1 = INTERRUPTED; 1 unlock = OK; 3 = OK; 3 await 1 ..; 2 = OK; 3 waits; "
      "0 notify 1 = OK; 3 = OK; 3 unlock = OK", NULL},
+    {"a signal by a thread that has a pending interrupt", "lock fair seats 4 conditions 1 cap 64",
+     "1 lock = OK; 1 await 0 ..; 0 interrupt 0 = OK; 0 notify 0 = OK; 1 = OK; 1 unlock = OK; 0 interrupted = 1", NULL},
     {"a signal that gets no seat", "lock fair seats 1 conditions 1 cap 64",
      "1 lock = OK; 1 await_interruptibly 0 ..; 0 notify 0 = TOO_MANY_THREADS; "
      "0 notify_all 0 = TOO_MANY_THREADS; 1 waits; 0 interrupt 1 = OK; 1 = INTERRUPTED; 1 is_mine = 1; "
@@ -278,6 +288,24 @@ static void at_another_lock_meanwhile(void) {
     CHECK(pthread_join(thread, NULL) == 0);
     aqs_lock_close(&second);
     close_it(kind);
+}
+
+/* The child of a process closes a lock on which a thread of the parent waits: it is as it was before it was opened. */
+static void closed_in_a_child(void) {
+    static aqs_lock_t waited_on = AQS_LOCK_INIT;
+    int status;
+    play_name = "a lock that a child closes", lock = &waited_on;
+    play_lines(LOCK, "1 lock = OK; 1 await 0 ..");
+    pid_t child = fork();
+    CHECK(child >= 0);
+    if (child == 0) {
+        aqs_lock_close(&waited_on);
+        for (int number = 0; number < CONDITIONS; number++) CHECK(waited_on.object_.users_[number] == 0);
+        _Exit(0);
+    }
+    CHECK(waitpid(child, &status, 0) == child && status == 0);
+    play_lines(LOCK, "0 notify 0 = OK; 1 = OK; 1 unlock = OK");
+    aqs_lock_close(&waited_on);
 }
 
 /* Threads ------------------------------------------------------------------------------------------------ */
@@ -504,6 +532,7 @@ int main(void) {
     all_conditions();
     two_locks();
     at_another_lock_meanwhile();
+    closed_in_a_child();
     one_after_the_other();
     many_alive();
     more_than_remembered();

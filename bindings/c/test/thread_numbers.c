@@ -174,11 +174,21 @@ static void without_a_key(void) {
     aqs_lock_close(lock);
 }
 
-/* A key's values need memory. */
+/* A key's values need memory. Each number comes back, the first and the last ones too. */
+
+static int times[PLACES]; /* that a thread had a number */
+
+static void *pair_and_count(void *none) {
+    pair(none);
+    times[aqs_thread_self()]++;
+    return none;
+}
+
 static void without_a_value(void) {
     open_lock();
     atomic_store(&lacks_values, true);
-    for (int i = 0; i < MANY; i++) run(pair, NULL);
+    for (int i = 0; i < 3 * PLACES; i++) run(pair_and_count, NULL);
+    for (int i = 0; i < PLACES; i++) CHECK(times[i] > 1);
     aqs_lock_close(lock);
 }
 
@@ -265,25 +275,33 @@ static void *stay_to_be_interrupted(void *number) {
     return NULL;
 }
 
-static void many_more_than_there_are(void) {
+static void have_numbers_below(aqs_thread_t end, int all) {
     static pthread_t threads[MORE];
     static aqs_thread_t numbers[MORE];
-    static bool is_taken[MORE];
+    bool is_taken[MORE] = {false};
     pthread_attr_t small;
     CHECK(pthread_attr_init(&small) == 0 && pthread_attr_setstacksize(&small, 128 << 10) == 0);
-    CHECK(pthread_barrier_init(&are_there, NULL, MORE + 1) == 0);
-    CHECK(pthread_barrier_init(&are_over, NULL, MORE + 1) == 0);
-    for (int i = 0; i < MORE; i++)
+    CHECK(pthread_barrier_init(&are_there, NULL, (unsigned)all + 1) == 0);
+    CHECK(pthread_barrier_init(&are_over, NULL, (unsigned)all + 1) == 0);
+    for (int i = 0; i < all; i++)
         CHECK(pthread_create(&threads[i], &small, stay_to_be_interrupted, &numbers[i]) == 0);
     pthread_barrier_wait(&are_there);
-    for (int i = 0; i < MORE; i++) {
-        CHECK(numbers[i] < MORE && !is_taken[numbers[i]]);
+    for (int i = 0; i < all; i++) {
+        CHECK(numbers[i] < end && !is_taken[numbers[i]]);
         is_taken[numbers[i]] = true;
         IS(aqs_thread_interrupt(numbers[i]), AQS_OK);
     }
     pthread_barrier_wait(&are_over);
-    for (int i = 0; i < MORE; i++) CHECK(pthread_join(threads[i], NULL) == 0);
+    for (int i = 0; i < all; i++) CHECK(pthread_join(threads[i], NULL) == 0);
     CHECK(pthread_attr_destroy(&small) == 0);
+}
+
+static void many_more_than_there_are(void) { have_numbers_below(MORE, MORE); }
+
+/* Without a key's value these numbers come back too. */
+static void many_more_once_again(void) {
+    atomic_store(&lacks_values, true);
+    for (int i = 0; i < 2; i++) have_numbers_below(2 * PLACES, 2 * PLACES - 100);
 }
 
 /* A thread that ends as owner keeps its seat, however many come after it, some with its number. */
@@ -344,6 +362,7 @@ static const struct {
     {"as many as there are", as_many_as_there_are},
     {"without memory for more", without_memory_for_more},
     {"many more than there are", many_more_than_there_are},
+    {"many more once again", many_more_once_again},
     {"an owner that ended", an_owner_that_ended},
     {"in a child", in_a_child},
 };

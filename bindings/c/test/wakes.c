@@ -126,6 +126,7 @@ static const play_t plays_of_mutexes[] = {
     {"its owner can't acquire it again", "mutex nonfair seats 2 conditions 1 cap 64",
      "0 lock = OK; 0 lock = TOO_MANY_HOLDS; 0 trylock = WOULD_BLOCK; 0 timedlock 5 = TOO_MANY_HOLDS; "
      "0 lock_interruptibly = TOO_MANY_HOLDS; 1 unlock = NOT_OWNER; 1 wait 0 = NOT_OWNER; "
+     "1 timedwait 0 5 = NOT_OWNER; 0 interrupt 1 = OK; 1 wait_interruptibly 0 = NOT_OWNER; 1 interrupted = 1; "
      "1 timedlock 2 = TIMED_OUT; 0 timedwait 0 2 = TIMED_OUT; 0 lock = TOO_MANY_HOLDS; 0 unlock = OK; "
      "0 unlock = NOT_OWNER; 1 trylock = OK; 1 unlock = OK",
      "0 got x 1; 1 queued x 1; 1 left x 1 timeout; 0 await 0 1; 0 lapse 0 timeout; 0 back 0 1 timeout; "

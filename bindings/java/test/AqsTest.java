@@ -18,6 +18,7 @@ import java.util.Collections;
 import java.util.List;
 import java.util.Random;
 import java.util.concurrent.BrokenBarrierException;
+import java.util.concurrent.CountDownLatch;
 import java.util.concurrent.TimeUnit;
 import java.util.concurrent.atomic.AtomicInteger;
 import java.util.concurrent.atomic.AtomicIntegerArray;
@@ -454,6 +455,12 @@ final class AqsTest {
             throwing(IllegalArgumentException.class, () -> plain.getWaitQueueLength(foreign));
             throwing(NullPointerException.class, () -> plain.hasWaiters(null));
             check(!plain.hasWaiters(other));
+            try (AqsReadWriteLock sides = new AqsReadWriteLock()) {
+                for (Condition none : Arrays.asList(one, other, foreign)) {
+                    throwing(IllegalArgumentException.class, () -> sides.hasWaiters(none));
+                    throwing(IllegalArgumentException.class, () -> sides.getWaitQueueLength(none));
+                }
+            }
             keep("own-signals", lock.history());
         }
     }
@@ -531,6 +538,7 @@ final class AqsTest {
         try (AqsReadWriteLock lock = new AqsReadWriteLock(new AqsOptions().mostEntries(1 << 18))) {
             mostHolds(lock.readLock());
             same(lock.getReadHoldCount(), 0);
+            check(lock.trim() >= 2 * 65535);
             mostHolds(lock.writeLock());
             same(lock.getWriteHoldCount(), 0);
             Condition met = lock.writeLock().newCondition();
@@ -758,6 +766,52 @@ final class AqsTest {
         }
     }
 
+    /** The one seat of an object is another thread's. Each call says so, and changes nothing. */
+    static void withoutASeat() throws Exception {
+        AqsOptions one = new AqsOptions().threads(1);
+        try (AqsSemaphore permits = new AqsSemaphore(0, one);
+                AqsCountDownLatch latch = new AqsCountDownLatch(1, one)) {
+            List<Thread> waiters = new ArrayList<>();
+            for (Work wait : Arrays.<Work>asList(permits::acquire, latch::await)) {
+                waiters.add(start(() -> throwing(InterruptedException.class, () -> whenASeatIsFree(wait))));
+            }
+            until(() -> hasNoSeat(permits) && hasNoSeat(latch));
+            try {
+                for (Work call : Arrays.<Work>asList(
+                        permits::availablePermits, permits::drainPermits, permits::release, permits::tryAcquire,
+                        permits::acquire, permits::acquireUninterruptibly, latch::getCount, latch::countDown,
+                        latch::await, latch::awaitUninterruptibly, () -> latch.await(1, TimeUnit.SECONDS))) {
+                    failing("AQS_TOO_MANY_THREADS", 13, call);
+                }
+            } finally {
+                waiters.forEach(Thread::interrupt);
+            }
+            join(waiters);
+            same(permits.availablePermits(), 0);
+            same(latch.getCount(), 1L);
+        }
+    }
+
+    /** Makes a call again while a question of another thread takes the seat. */
+    static void whenASeatIsFree(Work call) throws Exception {
+        for (;;) {
+            try {
+                call.run();
+                return;
+            } catch (AqsException taken) {
+                Thread.yield();
+            }
+        }
+    }
+
+    static boolean hasNoSeat(AqsObject object) {
+        try {
+            return object.getQueueLength() < 0;
+        } catch (AqsException none) {
+            return true;
+        }
+    }
+
     /** A call of an object that is closed leaves nothing: a later interrupt ends no later call. */
     static void afterARefusal(Work call) throws Exception {
         throwing(IllegalStateException.class, call);
@@ -906,6 +960,35 @@ final class AqsTest {
         }
     }
 
+    /** An interrupt reaches its own thread, also if there are more threads than a byte has numbers. */
+    static void manyThreads() throws Exception {
+        CountDownLatch over = new CountDownLatch(1);
+        try (AqsSemaphore permits = new AqsSemaphore(0)) {
+            List<Thread> threads = new ArrayList<>();
+            AtomicInteger called = new AtomicInteger(), ended = new AtomicInteger();
+            for (int i = 0; i < 256; i++) {
+                threads.add(start(() -> {
+                    check(!permits.tryAcquire(0, TimeUnit.SECONDS));
+                    called.incrementAndGet();
+                    over.await();
+                }));
+            }
+            until(() -> called.get() == 256);
+            for (int i = 0; i < 3; i++) {
+                Thread waiter = start(() -> {
+                    throwing(InterruptedException.class, permits::acquire);
+                    ended.incrementAndGet();
+                });
+                until(permits::hasQueuedThreads);
+                waiter.interrupt();
+                waiter.join(30_000);
+                same(ended.get(), i + 1);
+            }
+            over.countDown();
+            join(threads);
+        }
+    }
+
     /** One that comes while the last thread's action fails stays set too, though the barrier is broken. */
     static void lateInterruptAtABrokenBarrier() throws Exception {
         Thread[] waiter = new Thread[1];
@@ -952,6 +1035,7 @@ final class AqsTest {
         folder = Paths.get(words[0]);
         options();
         questions();
+        withoutASeat();
         sides();
         policies(new AqsOptions(), true, true);
         policies(new AqsOptions().fair(), true, false);
@@ -964,6 +1048,7 @@ final class AqsTest {
         uninterruptibleLatch();
         barriers();
         lateInterrupt();
+        manyThreads();
         lateInterruptAtABrokenBarrier();
         lateTime();
         interruptedLocks(false);

@@ -180,10 +180,22 @@ final class Scenarios {
         /** What a line comes to. One that can't be run is a fault too. */
         private String tried(Line line) {
             try {
-                return step(line.words);
+                return line.words[0].equals("until") ? repeated(line) : step(line.words);
             } catch (Exception fault) {
                 return fault.toString();
             }
+        }
+
+        /** Asks until what is expected comes out, for some time. */
+        private String repeated(Line line) throws Exception {
+            String[] question = Arrays.copyOfRange(line.words, 1, line.words.length);
+            long begin = System.nanoTime();
+            String found = step(question);
+            while (!found.equals(line.expected) && System.nanoTime() - begin < TimeUnit.SECONDS.toNanos(SECONDS)) {
+                Thread.sleep(1);
+                found = step(question);
+            }
+            return found;
         }
 
         void keep(int line, String text) throws IOException {

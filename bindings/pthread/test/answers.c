@@ -124,6 +124,10 @@ static void arguments_that_are_none(void) {
     printf(" %s", name_of_sem(sem_clockwait(&semaphore, CLOCK_MONOTONIC, &none)));
     printf(" %s", name_of_sem(sem_clockwait(&semaphore, other, &moment)));
     printf(", then %s\n", name_of_sem(sem_trywait(&semaphore)));
+    for (long more = 0; more < 2; more++) {
+        const struct timespec moment_in_1970 = {1, 999999999 + more}; /* 1000000000 are too many */
+        printf("no permit: %s\n", name_of_sem(sem_timedwait(&semaphore, &moment_in_1970)));
+    }
     printf("not owned: %s", name_of(pthread_cond_timedwait(&condition, &checked, &moment)));
     CHECK(pthread_mutex_lock(&checked) == 0);
     printf(", owned: %s", name_of(pthread_cond_timedwait(&condition, &checked, &none)));
@@ -152,7 +156,9 @@ static void locks_that_prefer_somebody(void) {
         pthread_rwlockattr_t attributes;
         pthread_rwlock_t own;
         CHECK(!pthread_rwlockattr_init(&attributes) && !pthread_rwlockattr_setkind_np(&attributes, kind));
-        CHECK(pthread_rwlock_init(&own, &attributes) == 0 && pthread_rwlock_rdlock(&own) == 0);
+        CHECK(pthread_rwlock_init(&own, &attributes) == 0);
+        CHECK(pthread_rwlock_wrlock(&own) == 0 && pthread_rwlock_unlock(&own) == 0); /* that is over */
+        CHECK(pthread_rwlock_rdlock(&own) == 0);
         printf("kind %d:", kind);
         pthread_t writer = started(write_late, &own);
         wait_for(&come, kind + 1);
@@ -161,6 +167,61 @@ static void locks_that_prefer_somebody(void) {
         join(writer);
         CHECK(pthread_rwlock_destroy(&own) == 0);
     }
+}
+
+static int ask_for(pthread_rwlock_t *which, int way) {
+    static const struct timespec past = {1, 0};
+    switch (way) {
+        case 0: return pthread_rwlock_rdlock(which);
+        case 1: return pthread_rwlock_tryrdlock(which);
+        case 2: return pthread_rwlock_timedrdlock(which, &past);
+        case 3: return pthread_rwlock_clockrdlock(which, CLOCK_MONOTONIC, &past);
+        case 4: return pthread_rwlock_trywrlock(which);
+        case 5: return pthread_rwlock_timedwrlock(which, &past);
+        default: return pthread_rwlock_clockwrlock(which, CLOCK_MONOTONIC, &past);
+    }
+}
+
+static void *ask_in_each_way(void *which) {
+    for (int way = 0; way < 7; way++) {
+        int error = ask_for(which, way);
+        printf(" %s", name_of(error));
+        if (!error) CHECK(pthread_rwlock_unlock(which) == 0);
+    }
+    puts("");
+    return NULL;
+}
+
+/* Another thread reads: who asks to read gets the lock, and who asks to write doesn't. */
+static void calls_beside_a_reader(void) {
+    CHECK(pthread_rwlock_rdlock(&lock) == 0);
+    join(started(ask_in_each_way, &lock));
+    CHECK(pthread_rwlock_unlock(&lock) == 0);
+}
+
+static pthread_mutex_t recursive = PTHREAD_RECURSIVE_MUTEX_INITIALIZER_NP;
+
+static void *use_when_free(void *nothing) {
+    printf("then to write: %s", name_of(pthread_rwlock_trywrlock(&lock)));
+    printf(", mutex: %s\n", name_of(pthread_mutex_trylock(&recursive)));
+    CHECK(pthread_rwlock_unlock(&lock) == 0 && pthread_mutex_unlock(&recursive) == 0);
+    return nothing;
+}
+
+/* A reader asks for more holds than a lock allows. A refused one changes nothing. An owner takes more holds than a
+   history has entries. */
+static void many_holds_of_one_thread(void) {
+    enum { READS = 70000, HOLDS = 6000 };
+    int reads = 0, error = 0;
+    while (reads < READS && !(error = pthread_rwlock_rdlock(&lock))) reads++;
+    printf("to read: %s", error == EAGAIN ? "0" : name_of(error));
+    for (int i = 0; i < reads; i++) CHECK(pthread_rwlock_unlock(&lock) == 0);
+    for (int i = 0; i < HOLDS / 2; i++)
+        CHECK(pthread_mutex_lock(&recursive) == 0 && pthread_mutex_trylock(&recursive) == 0);
+    for (int i = 0; i < HOLDS; i++) CHECK(pthread_mutex_unlock(&recursive) == 0);
+    printf(", one unlock more: %s, ", name_of(pthread_mutex_unlock(&recursive)));
+    join(started(use_when_free, NULL));
+    for (int i = 0; i < 2 * HOLDS; i++) CHECK(pthread_rwlock_rdlock(&lock) == 0 && pthread_rwlock_unlock(&lock) == 0);
 }
 
 /* An unlock by another thread ---------------------------------------------------------------------------- */
@@ -576,7 +637,30 @@ static void signals_from_before_a_wait(void) {
     join(thread);
 }
 
-static pthread_mutex_t recursive = PTHREAD_RECURSIVE_MUTEX_INITIALIZER_NP;
+static void *sleep_soon(void *variable) {
+    struct timespec from, to, moment = soon();
+    CHECK(pthread_mutex_lock(&mutex) == 0);
+    come++;
+    CHECK(clock_gettime(CLOCK_THREAD_CPUTIME_ID, &from) == 0);
+    int error = pthread_cond_timedwait(variable, &mutex, &moment);
+    CHECK(clock_gettime(CLOCK_THREAD_CPUTIME_ID, &to) == 0);
+    double took = (double)(to.tv_sec - from.tv_sec) * 1e3 + (double)(to.tv_nsec - from.tv_nsec) / 1e6;
+    printf("%s, %s\n", name_of(error), took < 25 ? "asleep" : "awake");
+    CHECK(pthread_mutex_unlock(&mutex) == 0);
+    return NULL;
+}
+
+/* The time of a wait is over while the main thread owns the mutex, which then waits on another variable. The thread
+   takes no processor meanwhile. */
+static void waits_that_end_beside_the_owner(void) {
+    static const struct timespec past = {1, 0};
+    pthread_t thread = started(sleep_soon, &variables[0]);
+    while (come < 1) usleep(1000);
+    CHECK(pthread_mutex_lock(&mutex) == 0);
+    usleep(50000);
+    CHECK(pthread_cond_timedwait(&variables[1], &mutex, &past) == ETIMEDOUT && pthread_mutex_unlock(&mutex) == 0);
+    join(thread);
+}
 
 static void *wait_for_recursive(void *variable) {
     CHECK(pthread_mutex_lock(&recursive) == 0);
@@ -667,6 +751,33 @@ static void a_handler_posts_to_three(void) {
     join(thread);
     for (int i = 0; i < 3; i++) printf("%d ", sem_getvalue(&three[i], &value) ? -1 : value);
     printf("errno stayed %d times\n", gone);
+}
+
+enum { SEMAPHORES = 20 };
+static sem_t many_semaphores[SEMAPHORES];
+static atomic_int refused;
+
+static void post_to_many(int number) {
+    (void)number;
+    for (int i = 0; i < SEMAPHORES; i++) refused += sem_post(&many_semaphores[i]) != 0;
+    come++;
+}
+
+/* A handler posts to more semaphores than a thread can have posts of. A post that isn't made is refused. */
+static void a_handler_posts_to_many(void) {
+    enum { TIMES = 200 };
+    int value, lost = SEMAPHORES * TIMES;
+    for (int i = 0; i < SEMAPHORES; i++) CHECK(sem_init(&many_semaphores[i], 0, 0) == 0);
+    handle(SIGUSR1, post_to_many, SA_RESTART);
+    pthread_t thread = started(use_until_over, NULL);
+    for (int i = 0; i < TIMES; i++) {
+        CHECK(pthread_kill(thread, SIGUSR1) == 0);
+        while (come <= i) sched_yield();
+    }
+    is_over = true;
+    join(thread);
+    for (int i = 0; i < SEMAPHORES; i++) lost -= sem_getvalue(&many_semaphores[i], &value) ? 0 : value;
+    printf("%d are lost\n", lost - refused);
 }
 
 static void note_handler(int number) {
@@ -798,6 +909,99 @@ static void use_in_child(void) {
     join(use_in_thread(0));
 }
 
+/* Without the recorder nothing heeds the signal that asks it to write. */
+static void survive_sigusr2(void) {
+    struct sigaction found;
+    CHECK(sigaction(SIGUSR2, NULL, &found) == 0);
+    if (found.sa_handler == SIG_DFL) handle(SIGUSR2, do_nothing, SA_RESTART);
+}
+
+/* The recorder writes what changed, at the latest in the next call of a process with one thread. */
+static void ask_to_write(void) {
+    CHECK(raise(SIGUSR2) == 0);
+    use(&mutex);
+}
+
+static void *hold_both(void *nothing) {
+    CHECK(pthread_mutex_lock(&second) == 0 && pthread_rwlock_rdlock(&lock) == 0);
+    come++;
+    while (!is_over) usleep(1000);
+    CHECK(pthread_rwlock_unlock(&lock) == 0 && pthread_mutex_unlock(&second) == 0);
+    return nothing;
+}
+
+static void find_what_is_held(void) {
+    int value;
+    printf("mutex: %s", name_of(pthread_mutex_trylock(&second)));
+    printf(", to write: %s", name_of(pthread_rwlock_trywrlock(&lock)));
+    printf(", to read: %s", name_of(pthread_rwlock_tryrdlock(&lock)));
+    printf(", %d permits\n", sem_getvalue(&semaphore, &value) ? -1 : value);
+    fflush(stdout);
+}
+
+/* In a child the threads of its parent hold what they held, and there are as many permits. */
+static void a_child_finds_what_others_hold(void) {
+    CHECK(sem_init(&semaphore, 0, 5) == 0 && sem_wait(&semaphore) == 0);
+    pthread_t thread = started(hold_both, NULL);
+    while (come < 1) usleep(1000);
+    in_child(find_what_is_held);
+    is_over = true;
+    join(thread);
+}
+
+static void *signal_the_second(void *nothing) {
+    while (come < 2) usleep(1000);
+    CHECK(!pthread_mutex_lock(&inherits) && !pthread_cond_signal(&condition) && !pthread_mutex_unlock(&inherits));
+    return nothing;
+}
+
+static void be_woken(void) {
+    pthread_t signals = started(signal_the_second, NULL);
+    wait_once(&inherits);
+    join(signals);
+    printf("%d woken\n", woken);
+    fflush(stdout);
+}
+
+/* A child wakes its own thread, and not the one of its parent that waits with a mutex that glibc keeps. */
+static void a_child_wakes_its_own_thread(void) {
+    pthread_mutexattr_t attributes;
+    CHECK(!pthread_mutexattr_init(&attributes));
+    CHECK(!pthread_mutexattr_setprotocol(&attributes, PTHREAD_PRIO_INHERIT));
+    CHECK(!pthread_mutex_init(&inherits, &attributes));
+    leaver = -1;
+    use(&mutex);
+    pthread_t waits = started(wait_once, &inherits);
+    wait_for(&come, 1);
+    in_child(be_woken);
+    CHECK(!pthread_mutex_lock(&inherits) && !pthread_cond_signal(&condition) && !pthread_mutex_unlock(&inherits));
+    join(waits);
+    printf("%d woken\n", woken);
+}
+
+static void use_second(void) { use(&second); }
+
+/* A child does as much as its parent had done when that was written. */
+static void a_child_does_what_was_written(void) {
+    survive_sigusr2();
+    use_second();
+    ask_to_write();
+    in_child(use_second);
+    printf("done\n");
+}
+
+static void *use_once(void *nothing) {
+    use(&mutex);
+    return nothing;
+}
+
+/* The main thread has the number 0, though another thread calls first. */
+static void a_thread_calls_before_the_main_thread(void) {
+    join(started(use_once, NULL));
+    use(&mutex);
+    printf("done\n");
+}
+
 /* Three threads come, of which the last two end. Then two come, one after the other, and a mutex is used first. A child
    has one thread more. Then three come again, and another mutex is used first. */
 static void threads_share_numbers(void) {
@@ -822,19 +1026,6 @@ static void sleep_in_vain(pthread_cond_t *variable, pthread_mutex_t *owned) {
     CHECK(pthread_cond_timedwait(variable, owned, &past) == ETIMEDOUT && pthread_mutex_unlock(owned) == 0);
 }
 
-/* Without the recorder nothing heeds the signal that asks it to write. */
-static void survive_sigusr2(void) {
-    struct sigaction found;
-    CHECK(sigaction(SIGUSR2, NULL, &found) == 0);
-    if (found.sa_handler == SIG_DFL) handle(SIGUSR2, do_nothing, SA_RESTART);
-}
-
-/* The recorder writes what changed, at the latest in the next call of a process with one thread. */
-static void ask_to_write(void) {
-    CHECK(raise(SIGUSR2) == 0);
-    use(&mutex);
-}
-
 /* 22 mutexes of one place are used and destroyed, each with a sleep. What has changed is written while the third and
    the 21st are used, and before the last. One more is never used. */
 static void mutexes_that_are_gone(void) {
@@ -852,9 +1043,12 @@ static void mutexes_that_are_gone(void) {
     printf("done\n");
 }
 
-/* Two mutexes are destroyed after they were written: one as it was then, and one that was used once more. */
+/* Two mutexes are destroyed after they were written: one as it was then, and one that was used once more. A third one
+   was never used. */
 static void destroyed_after_they_were_written(void) {
+    pthread_mutex_t unused;
     survive_sigusr2();
+    CHECK(pthread_mutex_init(&unused, NULL) == 0 && pthread_mutex_destroy(&unused) == 0);
     for (int more = 0; more < 2; more++) {
         pthread_mutex_t own;
         CHECK(pthread_mutex_init(&own, NULL) == 0);
@@ -862,6 +1056,16 @@ static void destroyed_after_they_were_written(void) {
         ask_to_write();
         if (more) use(&own);
         CHECK(pthread_mutex_destroy(&own) == 0);
+    }
+    printf("done\n");
+}
+
+/* 18 semaphores of one place are used and destroyed, each after a wait in vain. */
+static void semaphores_that_are_gone(void) {
+    static const struct timespec past = {1, 0};
+    for (int i = 0; i < 18; i++) {
+        sem_t own;
+        CHECK(sem_init(&own, 0, 0) == 0 && sem_timedwait(&own, &past) == -1 && sem_destroy(&own) == 0);
     }
     printf("done\n");
 }
@@ -912,9 +1116,10 @@ static void *sleep_for_good(void *owned) {
 }
 
 /* A wait with each of 20 variables. Then waits of one variable with a mutex, each after a wait of it with another: one
-   that timed out, and one that was cancelled, also with a mutex that glibc keeps. */
+   that timed out, and one that was cancelled, also with a mutex that glibc keeps. Then a wait after the
+   variable of the one before it was destroyed. */
 static void conditions_change_their_mutex(void) {
-    static pthread_cond_t many[20];
+    static pthread_cond_t many[23];
     pthread_mutexattr_t attributes;
     CHECK(!pthread_mutexattr_init(&attributes));
     CHECK(!pthread_mutexattr_setprotocol(&attributes, PTHREAD_PRIO_INHERIT));
@@ -936,6 +1141,11 @@ static void conditions_change_their_mutex(void) {
         }
         sleep_in_vain(&condition, i < 3 ? &third : &second);
     }
+    for (int i = 20; i < 22; i++) CHECK(pthread_cond_init(&many[i], NULL) == 0);
+    sleep_in_vain(&many[20], &second);
+    for (int i = 20; i < 22; i++) CHECK(pthread_cond_destroy(&many[i]) == 0);
+    CHECK(pthread_cond_init(&many[22], NULL) == 0);
+    sleep_in_vain(&many[22], &second);
     printf("done\n");
 }
 
@@ -949,7 +1159,7 @@ static void *sleep_once(void *owned) {
 }
 
 /* A condition variable is used with one mutex after the other, each of which is destroyed. In the last two rounds it is
-   signalled while another thread owns the mutex. */
+   signalled while another thread owns the mutex, and the one before that is destroyed meanwhile. */
 static void a_condition_outlives_its_mutexes(void) {
     for (int i = 1; i <= 22; i++) {
         pthread_mutex_t own;
@@ -957,10 +1167,12 @@ static void a_condition_outlives_its_mutexes(void) {
         if (i <= 20) {
             sleep_in_vain(&condition, &own);
         } else {
+            pthread_mutex_t first = PTHREAD_MUTEX_INITIALIZER;
             int before = come;
+            sleep_in_vain(&condition, &first);
             pthread_t sleeper = started(sleep_once, &own);
             wait_for(&come, before + 1);
-            CHECK(pthread_mutex_lock(&own) == 0);
+            CHECK(pthread_mutex_destroy(&first) == 0 && pthread_mutex_lock(&own) == 0);
             join(started(signal_condition, NULL));
             CHECK(pthread_mutex_unlock(&own) == 0);
             join(sleeper);
@@ -1005,6 +1217,44 @@ static void uses_a_mutex_elsewhere(void) {
     _Exit(8);
 }
 
+/* A function whose name others can ask for: the program shows its names (-rdynamic). */
+__attribute__((noinline)) void From_A_to_z_09(void) {
+    CHECK(!pthread_mutex_lock(&mutex) && !pthread_mutex_unlock(&mutex));
+}
+
+static void calls_by_a_name(void) {
+    From_A_to_z_09();
+    fprintf(stderr, "%p\n", (void *)&mutex);
+    printf("done\n");
+}
+
+/* A call that gets the object at once, and how that is given back. */
+#define GETS(back, call, ...) CHECK(call(__VA_ARGS__) == 0 && back == 0)
+
+static void use_in_each_way(pthread_mutex_t *own, pthread_cond_t *variable, pthread_rwlock_t *shelf) {
+    static const struct timespec past = {1, 0};
+    const clockid_t clock = CLOCK_MONOTONIC;
+    int value;
+    GETS(pthread_mutex_unlock(own), pthread_mutex_trylock, own);
+    GETS(pthread_mutex_unlock(own), pthread_mutex_timedlock, own, &past);
+    GETS(pthread_mutex_unlock(own), pthread_mutex_clocklock, own, clock, &past);
+    GETS(pthread_rwlock_unlock(shelf), pthread_rwlock_rdlock, shelf);
+    GETS(pthread_rwlock_unlock(shelf), pthread_rwlock_tryrdlock, shelf);
+    GETS(pthread_rwlock_unlock(shelf), pthread_rwlock_timedrdlock, shelf, &past);
+    GETS(pthread_rwlock_unlock(shelf), pthread_rwlock_clockrdlock, shelf, clock, &past);
+    GETS(pthread_rwlock_unlock(shelf), pthread_rwlock_wrlock, shelf);
+    GETS(pthread_rwlock_unlock(shelf), pthread_rwlock_trywrlock, shelf);
+    GETS(pthread_rwlock_unlock(shelf), pthread_rwlock_timedwrlock, shelf, &past);
+    GETS(pthread_rwlock_unlock(shelf), pthread_rwlock_clockwrlock, shelf, clock, &past);
+    GETS(sem_post(&semaphore), sem_wait, &semaphore);
+    GETS(sem_post(&semaphore), sem_trywait, &semaphore);
+    GETS(sem_post(&semaphore), sem_timedwait, &semaphore, &past);
+    GETS(sem_post(&semaphore), sem_clockwait, &semaphore, clock, &past);
+    CHECK(sem_getvalue(&semaphore, &value) == 0 && value == 1);
+    CHECK(!pthread_mutex_lock(own) && pthread_cond_clockwait(variable, own, clock, &past) == ETIMEDOUT);
+    CHECK(!pthread_mutex_unlock(own) && !pthread_cond_signal(variable) && !pthread_cond_broadcast(variable));
+}
+
 static void use_shared(void) {
     pthread_mutexattr_t of_mutex;
     pthread_condattr_t of_condition;
@@ -1019,10 +1269,9 @@ static void use_shared(void) {
     CHECK(!pthread_mutex_init(&own, &of_mutex) && !pthread_cond_init(&variable, &of_condition));
     CHECK(!pthread_rwlock_init(&shelf, &of_lock) && !sem_init(&semaphore, 1, 1));
     sleep_in_vain(&variable, &own);
-    CHECK(!pthread_cond_signal(&variable) && !pthread_cond_broadcast(&variable));
-    CHECK(!pthread_rwlock_rdlock(&shelf) && !pthread_rwlock_unlock(&shelf));
-    CHECK(!sem_wait(&semaphore) && !sem_post(&semaphore));
+    use_in_each_way(&own, &variable, &shelf);
     CHECK(!pthread_cond_destroy(&variable) && !pthread_mutex_destroy(&own) && !pthread_rwlock_destroy(&shelf));
+    CHECK(sem_destroy(&semaphore) == 0);
 }
 
 static void use_protocol(int protocol) {
@@ -1096,12 +1345,13 @@ static void tries_fill_a_history(void) {
     printf("to read: %s\n", name_of(pthread_rwlock_tryrdlock(&lock)));
 }
 
-/* What has changed is written after few entries, and at the end, after many. */
+/* What has changed is written after few entries, and at the end, after many of one mutex and few of another. */
 static void writes_a_little_and_much(void) {
     survive_sigusr2();
     use(&second);
     ask_to_write();
     for (int i = 0; i < 3000; i++) use(&second);
+    use(&third);
     printf("done\n");
 }
 
@@ -1137,6 +1387,8 @@ static const struct {
     CASE(mutexes_of_each_type),
     CASE(arguments_that_are_none),
     CASE(locks_that_prefer_somebody),
+    CASE(calls_beside_a_reader),
+    CASE(many_holds_of_one_thread),
     CASE(another_thread_unlocks),
     CASE(more_come_than_there_are_seats),
     CASE(threads_that_were_cancelled_before),
@@ -1144,15 +1396,22 @@ static const struct {
     CASE(signals_reach_those_who_wait),
     CASE(signals_beside_the_owner),
     CASE(signals_from_before_a_wait),
+    CASE(waits_that_end_beside_the_owner),
     CASE(holds_after_a_wait),
     CASE(a_handler_waits_too),
     CASE(a_handler_posts_to_three),
+    CASE(a_handler_posts_to_many),
     CASE(a_program_rests),
     CASE(reads_beside_sigusr2),
     CASE(threads_that_end),
+    CASE(a_child_finds_what_others_hold),
+    CASE(a_child_wakes_its_own_thread),
+    CASE(a_child_does_what_was_written),
+    CASE(a_thread_calls_before_the_main_thread),
     CASE(threads_share_numbers),
     CASE(mutexes_that_are_gone),
     CASE(destroyed_after_they_were_written),
+    CASE(semaphores_that_are_gone),
     CASE(one_thread_locks_often),
     CASE(used_while_it_is_written),
     CASE(conditions_change_their_mutex),
@@ -1160,6 +1419,7 @@ static const struct {
     CASE(objects_have_no_end),
     CASE(executes_another),
     CASE(uses_a_mutex_elsewhere),
+    CASE(calls_by_a_name),
     CASE(objects_of_other_kinds),
     CASE(full_histories_leave_no_memory),
     CASE(tries_fill_a_history),

@@ -14,6 +14,8 @@
 #include <stdio.h>
 #include <stdlib.h>
 #include <string.h>
+#include <sys/resource.h>
+#include <sys/syscall.h>
 #include <sys/wait.h>
 #include <threads.h>
 #include <time.h>
@@ -79,7 +81,8 @@ static void *end_late(void *nothing) {
 
 /* The process ends, with status 0, when its last thread has ended. */
 static void main_thread_is_cancelled(void) {
-    started(end_late, NULL);
+    for (int i = 0; i < 2; i++) started(end_late, NULL);
+    usleep(20000);
     pthread_cancel(pthread_self());
     pause();
 }
@@ -92,6 +95,8 @@ static void standard_error_is_another_file(void) {
     fflush(stdout);
     pid_t child = fork();
     if (child == 0) {
+        pthread_spinlock_t spin; /* what is left to glibc is told */
+        CHECK(pthread_spin_init(&spin, PTHREAD_PROCESS_PRIVATE) == 0);
         use_mutex();
         exit(0);
     }
@@ -206,6 +211,23 @@ static void writes_where_it_may_not_be_cancelled(void) {
     printf("it %s be cancelled\n", state == PTHREAD_CANCEL_DISABLE ? "may not" : "may");
 }
 
+static atomic_bool writes_parts;
+
+/* Stands in the place of the C library's, for the recorder too: a write may take a part, or end by a handler. */
+ssize_t write(int file, const void *at, size_t size) {
+    static atomic_uint calls;
+    bool in_parts = writes_parts;
+    if (in_parts && ++calls % 2) return errno = EINTR, -1;
+    return syscall(SYS_write, file, at, in_parts && size > 50 ? 50 : size);
+}
+
+/* What is recorded is whole, even if no write takes all that it is given. */
+static void files_are_written_in_parts(void) {
+    writes_parts = true;
+    for (int i = 0; i < 20; i++) use_mutex();
+    printf("done\n");
+}
+
 static atomic_int handled;
 
 static void post_once(int signal) {
@@ -252,15 +274,21 @@ static void *wait_in_thread(void *call) {
     return NULL;
 }
 
-/* Handlers that do nothing run in a thread that waits. What they don't end gets what it waits for. */
+static void count_it(int signal) {
+    (void)signal;
+    handled++;
+}
+
+/* Handlers that only count run in a thread that waits. What they don't end gets what it waits for. */
 static void handle_while_it_waits(char *call, int flags) {
-    struct sigaction action = {.sa_handler = do_nothing, .sa_flags = flags};
+    struct sigaction action = {.sa_handler = count_it, .sa_flags = flags};
     CHECK(sigaction(SIGUSR1, &action, NULL) == 0 && pthread_mutex_lock(&mutex) == 0);
-    is_done = 0;
+    is_done = handled = 0;
     pthread_t thread = started(wait_in_thread, call);
-    for (int i = 0; i < 20 && !is_done; i++) {
+    for (int i = 1; i <= 20 && !is_done; i++) {
         usleep(10000);
         CHECK(pthread_kill(thread, SIGUSR1) == 0);
+        while (handled < i && !is_done) usleep(1000);
     }
     CHECK(pthread_mutex_unlock(&mutex) == 0);
     if (!is_done) CHECK(sem_post(&nothing_comes) == 0);
@@ -280,18 +308,27 @@ static void handlers_run_while_it_waits(void) {
 
 /* What a call leaves as it was ---------------------------------------------------------------------------- */
 
-/* A thread that holds a signal up before its first call still does after it. */
-static void *lock_without_signals(void *nothing) {
+static void tell_held_up(const char *when) {
     sigset_t held_up;
-    CHECK(sigemptyset(&held_up) == 0 && sigaddset(&held_up, SIGUSR1) == 0);
-    CHECK(pthread_sigmask(SIG_SETMASK, &held_up, NULL) == 0);
-    use_mutex();
     CHECK(pthread_sigmask(SIG_SETMASK, NULL, &held_up) == 0);
-    printf("held up: SIGUSR1 %d, SIGUSR2 %d\n", sigismember(&held_up, SIGUSR1), sigismember(&held_up, SIGUSR2));
+    printf("%s: SIGUSR1 %d, SIGUSR2 %d\n", when, sigismember(&held_up, SIGUSR1), sigismember(&held_up, SIGUSR2));
+}
+
+static void *lock_and_tell(void *nothing) {
+    tell_held_up("a new thread");
+    use_mutex();
+    tell_held_up("after its first call");
     return nothing;
 }
 
-static void first_call_keeps_the_signal_mask(void) { join(started(lock_without_signals, NULL)); }
+/* A thread that holds a signal up makes another. Both still do, that one also after its first call. */
+static void calls_keep_the_signal_mask(void) {
+    sigset_t held_up;
+    CHECK(sigemptyset(&held_up) == 0 && sigaddset(&held_up, SIGUSR1) == 0);
+    CHECK(pthread_sigmask(SIG_SETMASK, &held_up, NULL) == 0);
+    join(started(lock_and_tell, NULL));
+    tell_held_up("who made it");
+}
 
 /* How a wait ended, and errno and how the thread is cancelled after it. */
 static void tell(const char *call, int error) {
@@ -414,7 +451,17 @@ static void *signal_and_die(void *nothing) {
     return nothing;
 }
 
-/* A wait says that the owner of the mutex has died, and that a thread doesn't own the mutex. */
+static void *wait_with(void *given) {
+    struct timespec late = after(CLOCK_REALTIME, 5000);
+    CHECK(pthread_mutex_lock(given) == 0);
+    is_done = 1;
+    printf("%s\n", strerrorname_np(pthread_cond_timedwait(&condition, given, &late)));
+    CHECK(pthread_mutex_unlock(given) == 0);
+    return NULL;
+}
+
+/* A wait says that the owner of the mutex has died, and that a thread doesn't own the mutex. Then it is none: the next
+   signal is for another thread. */
 static void wait_returns_the_errors_of_its_mutex(void) {
     pthread_mutex_t inherits = made(PTHREAD_MUTEX_STALLED, PTHREAD_PRIO_INHERIT, PTHREAD_MUTEX_ERRORCHECK);
     struct timespec late = after(CLOCK_REALTIME, 5000), soon = after(CLOCK_REALTIME, 20);
@@ -426,6 +473,10 @@ static void wait_returns_the_errors_of_its_mutex(void) {
     printf("%s\n", strerrorname_np(error));
     CHECK(pthread_mutex_consistent(&robust) == 0 && pthread_mutex_unlock(&robust) == 0);
     printf("%s\n", strerrorname_np(pthread_cond_timedwait(&condition, &inherits, &soon)));
+    thread = started(wait_with, &inherits);
+    while (!is_done) usleep(1000);
+    CHECK(!pthread_mutex_lock(&inherits) && !pthread_cond_signal(&condition) && !pthread_mutex_unlock(&inherits));
+    join(thread);
     CHECK(pthread_mutex_lock(&inherits) == 0);
     printf("%s\n", strerrorname_np(pthread_cond_timedwait(&condition, &inherits, &soon)));
     CHECK(pthread_mutex_unlock(&inherits) == 0);
@@ -440,7 +491,8 @@ static void has_locks_of_other_kinds(void) {
     char name[40];
     snprintf(name, sizeof name, "/rare-case-%d", (int)getpid());
     sem_t *named = sem_open(name, O_CREAT | O_EXCL, 0600, 1);
-    CHECK(named != SEM_FAILED && sem_unlink(name) == 0);
+    sem_t *same = sem_open(name, 0);
+    CHECK(named != SEM_FAILED && same == named && sem_close(same) == 0 && sem_unlink(name) == 0);
     CHECK(sem_wait(named) == 0 && sem_post(named) == 0 && sem_close(named) == 0);
     printf("done\n");
 }
@@ -594,7 +646,8 @@ static void a_signal_comes_as_the_owner_leaves(void) {
     }
 }
 
-/* More threads wait than an object of the core has seats. Their owner wakes them all at once, or one by one. */
+/* More threads wait than an object of the core has seats. Their owner wakes them all at once, or one by one, or a
+   thread that doesn't own the mutex wakes them all. */
 static int opened;
 
 static void *wait_until_opened(void *which) {
@@ -607,7 +660,7 @@ static void *wait_until_opened(void *which) {
 
 static void an_owner_wakes_many(void) {
     pthread_t threads[MANY];
-    for (int way = 1; way <= 2; way++) {
+    for (int way = 1; way <= 3; way++) {
         is_done = 0;
         for (int i = 0; i < MANY; i++) threads[i] = started(wait_until_opened, (void *)(long)way);
         while (is_done < MANY) usleep(1000);
@@ -615,7 +668,7 @@ static void an_owner_wakes_many(void) {
         opened = way;
         if (way == 1) CHECK(pthread_cond_broadcast(&condition) == 0);
         for (int i = 0; way == 2 && i < MANY; i++) CHECK(pthread_cond_signal(&condition) == 0);
-        CHECK(pthread_mutex_unlock(&mutex) == 0);
+        CHECK(pthread_mutex_unlock(&mutex) == 0 && (way < 3 || pthread_cond_broadcast(&condition) == 0));
         for (int i = 0; i < MANY; i++) join(threads[i]);
         printf("way %d: all woken\n", way);
         fflush(stdout);
@@ -684,6 +737,18 @@ static void children_fork(void) {
         _exit(WEXITSTATUS(status));
     }
     CHECK(child > 0 && waitpid(child, &status, 0) == child && WIFEXITED(status));
+    printf("status %d\n", WEXITSTATUS(status));
+}
+
+/* A child that has the memory of its parent ends. The parent goes on, and what it has left to glibc is told later. */
+static void a_child_with_our_memory_ends(void) {
+    pthread_spinlock_t spins[2];
+    int status;
+    CHECK(pthread_spin_init(&spins[0], PTHREAD_PROCESS_PRIVATE) == 0);
+    pid_t child = vfork();
+    if (child == 0) _exit(4);
+    CHECK(child > 0 && waitpid(child, &status, 0) == child && WIFEXITED(status));
+    CHECK(pthread_spin_init(&spins[1], PTHREAD_PROCESS_PRIVATE) == 0);
     printf("status %d\n", WEXITSTATUS(status));
 }
 
@@ -902,19 +967,60 @@ static void wait_for_woken(int number) {
     }
 }
 
-/* The owner wakes one of three threads, and then the others. Nothing of that is left. */
+enum { VARIABLES = 20000 };
+static pthread_cond_t variables[VARIABLES];
+static atomic_int initialised;
+
+static void limit_memory(rlim_t most) {
+    struct rlimit limit;
+    CHECK(getrlimit(RLIMIT_AS, &limit) == 0);
+    limit.rlim_cur = most < limit.rlim_max ? most : limit.rlim_max;
+    CHECK(setrlimit(RLIMIT_AS, &limit) == 0);
+}
+
+/* Lets memory be had again when the main thread gets no further, or waits. Then it signals. */
+static void *give_memory(void *last) {
+    for (int before = 1; before == 1 || before != initialised;) before = initialised, usleep(50000);
+    limit_memory(RLIM_INFINITY);
+    CHECK(pthread_mutex_lock(&mutex) == 0);
+    allowed = 1;
+    CHECK(pthread_cond_signal(last) == 0 && pthread_mutex_unlock(&mutex) == 0);
+    return NULL;
+}
+
+/* Memory lacks as condition variables are first used. Who waits on one lets its mutex go. */
+static void memory_lacks_for_conditions(void) {
+    pthread_cond_t *last = &variables[VARIABLES - 1];
+    struct timespec late = after(CLOCK_REALTIME, 10000);
+    int error = 0;
+    CHECK(pthread_mutex_lock(&mutex) == 0);
+    CHECK(pthread_cond_init(&variables[initialised++], NULL) == 0);
+    pthread_t gives = started(give_memory, last);
+    limit_memory(1);
+    for (; initialised < VARIABLES; initialised++) CHECK(pthread_cond_init(&variables[initialised], NULL) == 0);
+    while (!allowed && !error) error = pthread_cond_timedwait(last, &mutex, &late);
+    CHECK(pthread_mutex_unlock(&mutex) == 0);
+    printf("%s\n", error ? strerrorname_np(error) : "woken");
+    join(gives);
+}
+
+/* The owner wakes one of five threads, and then the others. Nothing of that is left. */
 static void one_signal_and_a_broadcast(void) {
-    pthread_t threads[3];
-    for (int i = 0; i < 3; i++) threads[i] = started(wait_until_allowed, NULL);
-    while (is_done < 3) usleep(1000);
+    enum { THREADS = 5 };
+    pthread_t threads[THREADS];
+    for (int i = 0; i < THREADS; i++) {
+        threads[i] = started(wait_until_allowed, NULL);
+        while (is_done <= i) usleep(1000);
+        use_mutex(); /* it sleeps now */
+    }
     CHECK(pthread_mutex_lock(&mutex) == 0);
     allowed = 1;
     CHECK(!pthread_cond_signal(&condition) && !pthread_mutex_unlock(&mutex));
     wait_for_woken(1);
     CHECK(pthread_mutex_lock(&mutex) == 0);
-    allowed = 2;
+    allowed = THREADS - 1;
     CHECK(!pthread_cond_broadcast(&condition) && !pthread_mutex_unlock(&mutex));
-    for (int i = 0; i < 3; i++) join(threads[i]);
+    for (int i = 0; i < THREADS; i++) join(threads[i]);
     printf("%d woken\n", woken);
     many_ask_for_the_mutex();
 }
@@ -945,6 +1051,30 @@ static void child_wakes_its_own_thread(void) {
     CHECK(!pthread_cond_signal(&condition) && !pthread_mutex_unlock(&mutex));
     join(waits);
     printf("%d woken\n", woken);
+}
+
+/* A child is made by the owner of the mutex, which has signalled a thread that isn't back yet. The child waits for no
+   such thread when it needs more seats. */
+static void child_of_an_owner_that_signalled(void) {
+    int status;
+    pthread_t waits = started(wait_until_allowed, NULL);
+    while (is_done < 1) usleep(1000);
+    CHECK(pthread_mutex_lock(&mutex) == 0); /* it waits now */
+    allowed = 1;
+    CHECK(pthread_cond_signal(&condition) == 0);
+    fflush(stdout);
+    pid_t child = fork();
+    CHECK(child >= 0);
+    if (child == 0) {
+        alarm(20);
+        CHECK(pthread_mutex_unlock(&mutex) == 0);
+        many_ask_for_the_mutex();
+        fflush(stdout);
+        _exit(7);
+    }
+    CHECK(waitpid(child, &status, 0) == child && pthread_mutex_unlock(&mutex) == 0);
+    printf("the child: %s %d\n", WIFEXITED(status) ? "status" : "signal", status);
+    join(waits);
 }
 
 static void *wait_for_the_mutex(void *nothing) {
@@ -1065,9 +1195,10 @@ static const struct {
     CASE(handlers_fork),
     CASE(is_asked_to_write_often),
     CASE(writes_where_it_may_not_be_cancelled),
+    CASE(files_are_written_in_parts),
     CASE(handler_posts_while_files_are_written),
     CASE(handlers_run_while_it_waits),
-    CASE(first_call_keeps_the_signal_mask),
+    CASE(calls_keep_the_signal_mask),
     CASE(waits_leave_errno_and_cancellation),
     CASE(many_threads_find_locks_held),
     CASE(many_waits_are_cancelled),
@@ -1079,14 +1210,17 @@ static const struct {
     CASE(children_wait_together),
     CASE(children_fork),
     CASE(children_are_made_meanwhile),
+    CASE(a_child_with_our_memory_ends),
     CASE(reader_asks_to_write),
     CASE(reader_comes_while_a_writer_waits),
     CASE(waits_until_long_ago),
     CASE(threads_come_one_after_another),
     CASE(a_reader_has_another_seat),
     CASE(destroyed_mutexes_leave_no_memory),
+    CASE(memory_lacks_for_conditions),
     CASE(one_signal_and_a_broadcast),
     CASE(child_wakes_its_own_thread),
+    CASE(child_of_an_owner_that_signalled),
     CASE(child_of_a_process_that_did_much),
     CASE(waits_take_a_known_time),
     CASE(waits_end_by_their_clocks),

@@ -181,6 +181,7 @@ impl Queue {
         self.waiting
     }
 
+    /// Whether nobody waits.
     pub fn is_empty(&self) -> bool
         ensures { result ≡ (length self.now.arrivals == 0) }
     {

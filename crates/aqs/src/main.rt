@@ -65,7 +65,7 @@ use tasks::names::names_of;
 use tasks::perform::perform_with;
 use tasks::ran::Ran;
 use tasks::run_script::{run_script, script_of};
-use tasks::task::{Job, Task};
+use tasks::task::Job;
 use tasks::tell::tell;
 use tasks::timed::{Timed, run_within, tell_late};
 use workers::Keep;

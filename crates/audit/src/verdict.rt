@@ -27,7 +27,9 @@ pub enum Verdict {
 /// A verdict, and the totals of a legal history.
 #[derive(Clone, Copy, Debug, Drop, PartialEq, Eq)]
 pub enum Judgement {
+    /// As [`Verdict::Legal`], with the totals at the end.
     Legal(Totals),
+    /// As [`Verdict::NotLegal`].
     NotLegal(u64),
 }
 

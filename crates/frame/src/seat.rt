@@ -15,10 +15,13 @@ use history::holds::holds_after;
 pub struct Seat {
     /// How many calls it ended, with those of folded entries.
     pub calls: u64,
+    /// Exclusive holds.
     pub exclusive: u32,
     /// Shared holds. Those of a semaphore may pass 64 bits.
     pub shared: u128,
+    /// Its last sleep at a condition.
     pub sleep: LastSleep,
+    /// Whether it was told that it could go, as `Core::is_told` returns it.
     pub told: bool,
 }
 

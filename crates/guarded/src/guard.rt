@@ -19,25 +19,17 @@ ghost use Rattle.guarded.specs.Waiting.{AwaitsUntil, HasCome, TimeWasUp, WaitFai
 ghost use Rattle.permit.specs.Deed.{showed};
 ghost use Rattle.guarded.specs.declared.slot.Slot.TheVariants.{Full};
 
-use crate::asking::Asked;
 use crate::keeps::{Any, Keeps};
 use crate::mutex::Mutex;
 use crate::slot::Slot;
 use frame::hooks::Hooks;
 use history::fault::Fault;
-use monitor::{How, Pass};
-use monitor_fronts::{done, milliseconds_left, whether};
+use monitor::{How, Pass, moment_after};
+use monitor_fronts::{done, milliseconds_left};
 use permit::Parking;
 use reentrant::lock::LockHooks;
 use std::sync::Wait;
 use std::time::Clock;
-
-// The moment that comes this number of milliseconds after another, or the last one.
-fn moment_after(moment: u64, milliseconds: u32) -> u64
-    ensures { result ≡ moment_after moment milliseconds }
-{
-    moment.saturating_add(u64::from(milliseconds))
-}
 
 /// The value of a lock, with its owner. Dropping it unlocks the lock, so a `?` may leave a section. That can't
 /// fail: room and memory for the entry were reserved when the hold was recorded.

@@ -28,7 +28,7 @@ ghost use Rattle.guarded.specs.Stowed.{Kept, Rests};
 
 use crate::asking::Asked;
 use crate::keeps::{Any, Keeps};
-use crate::options::Options;
+use crate::options::{CAP, CONDITIONS, Options};
 use crate::slot::Slot;
 use crate::try_lock::TryLockFault;
 use crate::view::View;
@@ -164,7 +164,15 @@ impl<T: Drop, I: Keeps<T>> Mutex<T, I> {
         ensures err { IfErr result (λ fault. fault ≡ OutOfMemory) }
     {
         let when_full = WhenFull::Trim;
-        match Mutex::open_keeping(alloc, value, Policy::NonFair, when_full, seats, 16, 4096) {
+        match Mutex::open_keeping(
+            alloc,
+            value,
+            Policy::NonFair,
+            when_full,
+            seats,
+            CONDITIONS,
+            CAP,
+        ) {
             Ok((lock, passes)) => Ok((lock, passes)),
             Err((_value, fault)) => Err(fault),
         }

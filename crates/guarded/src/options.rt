@@ -6,6 +6,12 @@ ghost use Rattle.monitor.specs.declared.room.WhenFull.TheVariants.{Trim};
 use history::header::Policy;
 use monitor::WhenFull;
 
+// How many conditions a lock has if no number is chosen.
+pub(crate) const CONDITIONS: u8 = 16;
+
+// The most entries that a history keeps if no number is chosen.
+pub(crate) const CAP: u32 = 4096;
+
 /// The choices at an opening. `Options::new()` has the usual ones, and each method changes one, as in
 /// `Options::new().policy(Policy::Fair).cap(1000)`.
 #[derive(Clone, Copy, Debug, PartialEq, Eq)]
@@ -32,8 +38,8 @@ impl Options {
         Options {
             policy: Policy::NonFair,
             when_full: WhenFull::Trim,
-            conditions: 16,
-            cap: 4096,
+            conditions: CONDITIONS,
+            cap: CAP,
         }
     }
 

@@ -24,6 +24,7 @@ ghost use Rattle.guarded.specs.Shelved.{Lies};
 
 use crate::asking::PoolCall;
 use crate::keeps::{Any, Keeps};
+use crate::options::CAP;
 use crate::shelf::Shelf;
 use crate::view::View;
 use counting::semaphore::SemaphoreHooks;
@@ -91,7 +92,7 @@ impl<T: Drop> Pool<T> {
         ensures own { IfOk result (λ r. All (λ p. p.lock ≡ r.0.lock) r.1.items) }
         ensures err { IfErr result (λ fault. fault ≡ OutOfMemory) }
     {
-        match Pool::open(alloc, items, Policy::NonFair, WhenFull::Trim, seats, 4096) {
+        match Pool::open(alloc, items, Policy::NonFair, WhenFull::Trim, seats, CAP) {
             Ok((pool, passes)) => Ok((pool, passes)),
             Err((_items, fault)) => Err(fault),
         }
@@ -140,7 +141,7 @@ impl<T: Drop, I: Keeps<T>> Pool<T, I> {
         ensures own { IfOk result (λ r. All (λ p. p.lock ≡ r.0.lock) r.1.items) }
         ensures err { IfErr result (λ fault. fault ≡ OutOfMemory) }
     {
-        match Pool::open_keeping(alloc, items, Policy::NonFair, WhenFull::Trim, seats, 4096) {
+        match Pool::open_keeping(alloc, items, Policy::NonFair, WhenFull::Trim, seats, CAP) {
             Ok((pool, passes)) => Ok((pool, passes)),
             Err((_items, fault)) => Err(fault),
         }

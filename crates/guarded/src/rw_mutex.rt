@@ -32,7 +32,7 @@ use crate::asking::Reading;
 use crate::guard::Guard;
 use crate::keeps::{Any, Keeps};
 use crate::mutex::Mutex;
-use crate::options::Options;
+use crate::options::{CAP, CONDITIONS, Options};
 use crate::slot::Slot;
 use crate::try_lock::TryLockFault;
 use crate::view::View;
@@ -165,7 +165,15 @@ impl<T: Drop, I: Keeps<T>> RwMutex<T, I> {
         ensures err { IfErr result (λ fault. fault ≡ OutOfMemory) }
     {
         let when_full = WhenFull::Trim;
-        match RwMutex::open_keeping(alloc, value, Policy::NonFair, when_full, seats, 16, 4096) {
+        match RwMutex::open_keeping(
+            alloc,
+            value,
+            Policy::NonFair,
+            when_full,
+            seats,
+            CONDITIONS,
+            CAP,
+        ) {
             Ok((lock, passes)) => Ok((lock, passes)),
             Err((_value, fault)) => Err(fault),
         }

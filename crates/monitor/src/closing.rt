@@ -7,7 +7,7 @@ ghost use Rattle.history.specs.Counts.{counts};
 ghost use Rattle.monitor.specs.Shown.{IsSound};
 ghost use Rattle.monitor.specs.declared.closing.CloseFault.TheVariants.{MissingPass};
 
-use crate::load::{Empty, Load};
+use crate::load::Load;
 use crate::monitor::Monitor;
 use crate::pass::Pass;
 use frame::Balance;

@@ -29,8 +29,8 @@ pub(crate) fn is_interruptible(how: How) -> bool
     }
 }
 
-// The moment that is this number of milliseconds after another, or the last moment.
-fn moment_after(moment: u64, milliseconds: u32) -> u64
+/// Returns the moment that comes this number of milliseconds after another, or the last moment.
+pub fn moment_after(moment: u64, milliseconds: u32) -> u64
     ensures { result ≡ moment_after moment milliseconds }
 {
     moment.saturating_add(u64::from(milliseconds))

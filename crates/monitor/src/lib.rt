@@ -81,7 +81,7 @@ mod under_lock;
 mod waiting;
 
 pub use closing::{CloseFault, Closed};
-pub use how::How;
+pub use how::{How, moment_after};
 pub use load::{Empty, Holds, Load};
 pub use machine::{Next, Request, Turn, Waiting};
 pub use monitor::Monitor;

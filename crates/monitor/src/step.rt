@@ -28,7 +28,9 @@ use std::time::Clock;
 /// What `step_now` returns.
 #[derive(Clone, Copy, Debug, PartialEq, Eq)]
 pub enum Now {
+    /// The step is done, with this answer.
     Done(Answer),
+    /// Another call had the object: nothing was done.
     Busy,
 }
 

@@ -23,7 +23,9 @@ use std::time::Clock;
 /// What ends a park, besides a permit.
 #[derive(Clone, Copy, Debug, PartialEq, Eq)]
 pub struct Limits {
+    /// A moment of [`Parking::now`], in milliseconds. `None`: no time ends the park.
     pub until: Option<u64>,
+    /// Whether an interrupt ends the park.
     pub interruptible: bool,
 }
 

@@ -3,7 +3,6 @@
 ghost use Rattle.std.specs.Prelude.{◌≡◌};
 ghost use Rattle.workers.specs.declared.fault.RunFault.TheVariants.{Memory};
 
-use history::fault::Fault;
 use std::alloc::{AllocError, AllocFailed};
 use thiserror::Error;
 

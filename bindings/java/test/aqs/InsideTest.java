@@ -1,11 +1,17 @@
 package aqs;
 
 import java.io.IOException;
+import java.io.InputStream;
 import java.lang.invoke.MethodHandle;
 import java.lang.ref.WeakReference;
+import java.lang.reflect.Field;
+import java.net.URL;
+import java.net.URLClassLoader;
 import java.nio.charset.StandardCharsets;
 import java.nio.file.Files;
 import java.nio.file.Paths;
+import java.util.Arrays;
+import java.util.Objects;
 import java.util.concurrent.CountDownLatch;
 import java.util.concurrent.TimeUnit;
 import java.util.concurrent.atomic.AtomicInteger;
@@ -231,7 +237,93 @@ final class InsideTest {
         }
     }
 
+    /** What comes out of a status, in whichever way it comes. */
+    static void statuses() {
+        String range = "aqs: a number is out of range";
+        comesOut(Native.NOT_OWNER, IllegalMonitorStateException.class, null);
+        comesOut(Native.HOLDS_READ, IllegalMonitorStateException.class, "aqs: the thread also holds the lock to read");
+        comesOut(Native.BAD_AMOUNT, IllegalArgumentException.class, range);
+        comesOut(Native.OUT_OF_RANGE, IllegalArgumentException.class, range);
+        comesOut(Native.TOO_MANY_HOLDS, Error.class, "Maximum lock count exceeded");
+        comesOut(Native.TOO_MANY_PERMITS, Error.class, "Maximum permit count exceeded");
+        comesOut(Native.OUT_OF_MEMORY, OutOfMemoryError.class, "aqs");
+        comesOut(10, AqsException.class, "AQS_HISTORY_FULL");
+        comesOut(13, AqsException.class, "AQS_TOO_MANY_THREADS");
+        AqsObject.must(Native.OK);
+        check(AqsObject.tried(Native.OK) && !AqsObject.tried(Native.WOULD_BLOCK));
+        check(AqsObject.checked(0) == 0 && AqsObject.checked(Long.MAX_VALUE) == Long.MAX_VALUE);
+    }
+
+    private static void comesOut(int status, Class<?> kind, String words) {
+        for (Runnable way : Arrays.<Runnable>asList(
+                () -> AqsObject.must(status), () -> AqsObject.tried(status), () -> AqsObject.checked(-status))) {
+            Throwable found = null;
+            try {
+                way.run();
+            } catch (Throwable thrown) {
+                found = thrown;
+            }
+            check(found != null && found.getClass() == kind && Objects.equals(found.getMessage(), words));
+        }
+    }
+
+    /** A lock may have made more conditions than an int counts. */
+    static void conditionsWithoutEnd() throws Exception {
+        Field made = Conditions.class.getDeclaredField("made");
+        made.setAccessible(true);
+        try (AqsLock object = new AqsLock()) {
+            Exclusive lock = new Exclusive(object, false);
+            Conditions conditions = new Conditions(lock, 3);
+            ((AtomicInteger) made.get(conditions)).set(Integer.MAX_VALUE);
+            lock.lock();
+            for (int i = 0; i < 4; i++) {
+                AqsCondition condition = conditions.make();
+                check(!condition.await(0, TimeUnit.SECONDS));
+                condition.signal();
+            }
+            lock.unlock();
+        }
+    }
+
+    /** A native library that is nowhere, or that can't be copied, is said to be missing. */
+    static void missingLibrary() throws Exception {
+        URL[] classes = {Native.class.getProtectionDomain().getCodeSource().getLocation()};
+        try (URLClassLoader nowhere = new URLClassLoader(classes, null); URLClassLoader faulty = new Faulty(classes)) {
+            check(missing(nowhere).getSuppressed().length == 0);
+            check(missing(faulty).getSuppressed()[0].getMessage().equals("no such copy"));
+        }
+    }
+
+    private static UnsatisfiedLinkError missing(ClassLoader others) throws ClassNotFoundException {
+        try {
+            Class.forName("aqs.Native", true, others);
+        } catch (UnsatisfiedLinkError missing) {
+            return missing;
+        }
+        throw new AssertionError("a library is loaded twice");
+    }
+
+    /** Its classes have a native library that can't be read. */
+    private static final class Faulty extends URLClassLoader {
+        Faulty(URL[] classes) {
+            super(classes, null);
+        }
+
+        @Override
+        public InputStream getResourceAsStream(String name) {
+            return new InputStream() {
+                @Override
+                public int read() throws IOException {
+                    throw new IOException("no such copy");
+                }
+            };
+        }
+    }
+
     public static void main(String[] words) throws Exception {
+        statuses();
+        conditionsWithoutEnd();
+        missingLibrary();
         refusedThreads();
         lateInterrupts();
         racingInterrupts();

@@ -131,6 +131,56 @@ fn a_notify_never_waits_for_the_mutex() {
 }
 
 #[test]
+fn one_that_waits_is_not_the_owner() {
+    let (mutex, condvar) = (Mutex::new(()), Condvar::new());
+    thread::scope(|scope| {
+        let waiter = scope.spawn(|| condvar.wait_for(&mut mutex.lock(), LONG));
+        until(|| mutex.waiters() == 1);
+        // No thread locks later, so an owner would never make the signal that is due.
+        let begin = Instant::now();
+        assert!(condvar.notify_one());
+        assert!(!waiter.join().unwrap().timed_out() && begin.elapsed() < LONG / 2);
+    });
+}
+
+#[test]
+fn an_owner_makes_the_signals_of_each_condvar() {
+    let (mutex, condvars) = (Mutex::new(()), [Condvar::new(), Condvar::new(), Condvar::new()]);
+    thread::scope(|scope| {
+        let waiters = condvars.each_ref().map(|it| scope.spawn(|| it.wait_for(&mut mutex.lock(), LONG)));
+        until(|| mutex.waiters() == 3 && mutex.queue_length() == 0);
+        let guard = mutex.lock();
+        let notify = || condvars.iter().all(|it| it.notify_one());
+        let (were_there, begin) = (scope.spawn(notify).join().unwrap(), Instant::now());
+        drop(guard);
+        // No thread locks later, but those that are woken.
+        assert!(were_there && waiters.map(|it| it.join().unwrap().timed_out()) == [false; 3]);
+        assert!(begin.elapsed() < LONG / 2);
+    });
+}
+
+#[test]
+fn one_that_leaves_takes_no_place_of_another() {
+    let (mutex, condvar) = (Mutex::new(()), Condvar::new());
+    thread::scope(|scope| {
+        let first = scope.spawn(|| condvar.wait(&mut mutex.lock()));
+        until(|| mutex.waiters() == 1);
+        let (send, receive) = channel();
+        let (mutex, condvar) = (&mutex, &condvar);
+        let second = scope.spawn(move || {
+            send.send(Thread::current()).unwrap();
+            condvar.wait_interruptibly(&mut mutex.lock())
+        });
+        until(|| mutex.waiters() == 2);
+        assert!(condvar.wait_for(&mut mutex.lock(), SHORT).timed_out() && condvar.notify_one());
+        first.join().unwrap();
+        // The second is not notified, so an interrupt ends its wait.
+        receive.recv().unwrap().interrupt().unwrap();
+        assert_eq!((second.join().unwrap(), condvar.notify_all()), (Err(Error::Interrupted), 0));
+    });
+}
+
+#[test]
 fn each_notify_beside_an_owner_counts() {
     // The last of three means all who wait.
     for notifies in [2, 3] {

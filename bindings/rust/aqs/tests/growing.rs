@@ -1,5 +1,6 @@
 //! A history that three threads lengthen while it is read. The allocator of this process waits until they have
-//! lengthened it by half, so that happens between two tries. They make no more pairs, or it might be long.
+//! lengthened it by half, so that happens between two tries. They make no more pairs, or it might be long. At
+//! last they lengthen it to more than three times what it was.
 
 use aqs::{Mutex, Options};
 use std::alloc::{GlobalAlloc, Layout, System};
@@ -19,6 +20,7 @@ const OF_A_BASE: u32 = 300;
 static PAIRS: AtomicU32 = AtomicU32::new(0);
 static TRIMMED: AtomicU32 = AtomicU32::new(0);
 static MOST_PAIRS: AtomicU32 = AtomicU32::new(OF_A_BASE);
+static QUARTERS: AtomicU32 = AtomicU32::new(2);
 static IS_OVER: AtomicBool = AtomicBool::new(false);
 
 thread_local! {
@@ -26,13 +28,14 @@ thread_local! {
     static TRIES: Cell<u32> = const { Cell::new(0) };
 }
 
-fn grow_by_half() {
+/// Waits until the history has grown by so many quarters, unless there were enough tries.
+fn grow() {
     TRIES.set(TRIES.get() + 1);
     if TRIES.get() == MOST_TRIES {
         IS_OVER.store(true, SeqCst);
     }
     let found = PAIRS.load(SeqCst);
-    let awaited = found + (found - TRIMMED.load(SeqCst)) / 2 + OF_A_BASE;
+    let awaited = found + (found - TRIMMED.load(SeqCst)) / 4 * QUARTERS.load(SeqCst) + OF_A_BASE;
     MOST_PAIRS.store(awaited, SeqCst);
     while PAIRS.load(SeqCst) < awaited && !IS_OVER.load(SeqCst) {
         thread::yield_now();
@@ -45,7 +48,7 @@ struct Growing;
 unsafe impl GlobalAlloc for Growing {
     unsafe fn alloc(&self, layout: Layout) -> *mut u8 {
         if READS_NOW.get() && layout.size() > ROOM {
-            grow_by_half();
+            grow();
         }
         System.alloc(layout)
     }
@@ -71,6 +74,15 @@ fn entries_of(text: &str) -> Option<usize> {
     (is_whole && number_after("end ") == Some(end)).then_some(entries)
 }
 
+/// Ends the threads that lock, also if the test fails.
+struct Over;
+
+impl Drop for Over {
+    fn drop(&mut self) {
+        IS_OVER.store(true, SeqCst);
+    }
+}
+
 #[test]
 fn a_history_that_grows_is_read() {
     let mutex = Mutex::with((), Options::new().keep_history()).unwrap();
@@ -84,25 +96,34 @@ fn a_history_that_grows_is_read() {
             }
         }
     };
+    let read = || {
+        TRIMMED.store(PAIRS.load(SeqCst), SeqCst);
+        mutex.trim().unwrap();
+        TRIES.set(0);
+        READS_NOW.set(true);
+        let text = mutex.history();
+        READS_NOW.set(false);
+        text.ok().and_then(|it| entries_of(&it))
+    };
     let (mut found, mut most) = (Vec::new(), 0);
     thread::scope(|scope| {
+        let _over = Over;
         for _ in 0..3 {
             scope.spawn(lock_often);
         }
         let begin = Instant::now();
         while (found.len() < READS || begin.elapsed() < LEAST) && !IS_OVER.load(SeqCst) {
-            TRIMMED.store(PAIRS.load(SeqCst), SeqCst);
-            mutex.trim().unwrap();
-            TRIES.set(0);
-            READS_NOW.set(true);
-            let text = mutex.history();
-            READS_NOW.set(false);
+            found.push(read());
             most = most.max(TRIES.get());
-            found.push(text.ok().and_then(|it| entries_of(&it)));
         }
-        IS_OVER.store(true, SeqCst);
+        if most < MOST_TRIES {
+            // Twice the room is too little then, until it grows no more.
+            QUARTERS.store(10, SeqCst);
+            found.push(read());
+        }
     });
     assert!(most < MOST_TRIES, "a history is read in {most} tries");
     assert!(found.iter().all(Option::is_some) && most > 1);
     assert!(found.iter().flatten().sum::<usize>() > 0);
+    assert_eq!(TRIES.get(), MOST_TRIES);
 }

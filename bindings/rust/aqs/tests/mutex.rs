@@ -222,6 +222,19 @@ fn it_says_who_has_it() {
     assert!(mutex.is_mine());
     drop(two);
     assert!(!mutex.is_locked());
+    let ways: [fn(&Mutex<()>) -> Option<MutexGuard<'_, ()>>; 5] = [
+        |mutex| mutex.try_lock(),
+        |mutex| mutex.try_lock_for(LONG),
+        |mutex| mutex.try_lock_until(Instant::now() + LONG),
+        |mutex| mutex.lock_interruptibly().ok(),
+        |mutex| mutex.lock_interruptibly_for(LONG).ok(),
+    ];
+    for way in ways {
+        let guard = way(&mutex).unwrap();
+        assert!(mutex.is_locked() && mutex.is_mine());
+        drop(guard);
+        assert!(!mutex.is_locked() && !mutex.is_mine());
+    }
 }
 
 #[test]

@@ -7,6 +7,7 @@ use aqs::{
     MutexGuard, Options, Permits, Policy, ReadGuard, RwLock, Semaphore, Thread, WriteGuard,
 };
 use std::cell::Cell;
+use std::collections::HashSet;
 use std::marker::PhantomData;
 use std::rc::Rc;
 use std::sync::{mpsc::channel, Barrier};
@@ -192,6 +193,21 @@ fn interrupts_end_waits() {
 }
 
 #[test]
+fn each_of_300_threads_has_its_number() {
+    let all = Barrier::new(300);
+    let threads: HashSet<Thread> = thread::scope(|scope| {
+        let told = || {
+            let thread = Thread::current();
+            all.wait();
+            thread
+        };
+        let waiting: Vec<_> = (0..300).map(|_| scope.spawn(told)).collect();
+        waiting.into_iter().map(|it| it.join().unwrap()).collect()
+    });
+    assert_eq!(threads.len(), 300);
+}
+
+#[test]
 fn read_write_lock_keeps_writers_alone() {
     let lock = RwLock::with([0u64; 2], kept()).unwrap();
     thread::scope(|scope| {
@@ -289,7 +305,7 @@ fn permits_may_be_owed_but_never_too_many() {
     assert_eq!(permits.acquire_interruptibly(2_147_483_648), Err(Error::BadAmount));
     let said = refusal(|| assert!(permits.try_acquire(2_147_483_648)));
     assert_eq!(said, "aqs: more than 2147483647 permits in one call (AQS_BAD_AMOUNT)");
-    assert_eq!(permits.available(), 2_147_483_647);
+    assert_eq!((permits.available(), permits.drain()), (2_147_483_647, 2_147_483_647));
 }
 
 #[test]
@@ -710,6 +726,11 @@ fn questions_take_a_seat_and_record_nothing() {
     assert_eq!(refused, (Some(Error::TooManyThreads), Some(Error::TooManyThreads)));
     drop(guard);
     assert!(!mutex.is_locked());
+    let lock = RwLock::with(0, Options::new().threads(1)).unwrap();
+    let _reader = lock.read();
+    let ask = || refusal(|| assert!(lock.is_locked_exclusive()));
+    let said = thread::scope(|scope| scope.spawn(ask).join().unwrap());
+    assert!(said.ends_with("(AQS_TOO_MANY_THREADS)"), "{said}");
 }
 
 #[test]
@@ -765,4 +786,42 @@ fn times_are_never_cut_short() {
         assert!(!latch.wait_for(time));
         assert!(begin.elapsed() >= time);
     }
+}
+
+#[test]
+fn each_wait_with_a_time_or_a_moment_lasts_so_long() {
+    let (mutex, lock, permits, latch) = (Mutex::new(()), RwLock::new(()), Semaphore::new(0), Latch::new(1));
+    let (own, condvar) = (Mutex::new(()), Condvar::new());
+    // Each is given the same end, as a time and as a moment, and gets nothing.
+    let waits: [&(dyn Fn(Duration, Instant) -> bool + Sync); 20] = [
+        &|time, _| mutex.try_lock_for(time).is_none(),
+        &|_, moment| mutex.try_lock_until(moment).is_none(),
+        &|time, _| mutex.lock_interruptibly_for(time).is_err(),
+        &|time, _| lock.try_read_for(time).is_none(),
+        &|_, moment| lock.try_read_until(moment).is_none(),
+        &|time, _| lock.read_interruptibly_for(time).is_err(),
+        &|time, _| lock.try_write_for(time).is_none(),
+        &|_, moment| lock.try_write_until(moment).is_none(),
+        &|time, _| lock.write_interruptibly_for(time).is_err(),
+        &|_, moment| !permits.try_acquire_until(1, moment),
+        &|time, _| permits.acquire_interruptibly_for(1, time).is_err(),
+        &|time, _| permits.try_permits_for(1, time).is_none(),
+        &|_, moment| !latch.wait_until(moment),
+        &|time, _| latch.wait_interruptibly_for(time).is_err(),
+        &|time, _| condvar.wait_for(&mut own.lock(), time).timed_out(),
+        &|_, moment| condvar.wait_until(&mut own.lock(), moment).timed_out(),
+        &|time, _| condvar.wait_interruptibly_for(&mut own.lock(), time).is_err(),
+        &|time, _| condvar.wait_while_for(&mut own.lock(), |_| true, time).timed_out(),
+        &|_, moment| condvar.wait_while_until(&mut own.lock(), |_| true, moment).timed_out(),
+        &|_, moment| condvar.wait_while_until_internal(&mut own.lock(), |_| true, Some(moment)).timed_out(),
+    ];
+    let (_guard, _writer) = (mutex.lock(), lock.write());
+    thread::scope(|scope| {
+        scope.spawn(|| {
+            for (number, wait) in waits.iter().enumerate() {
+                let moment = Instant::now() + SHORT;
+                assert!(wait(SHORT, moment) && Instant::now() >= moment, "{number}");
+            }
+        });
+    });
 }

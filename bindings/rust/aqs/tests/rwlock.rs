@@ -112,6 +112,7 @@ fn a_read_beyond_the_most_is_told() {
     assert_eq!((refusal(|| drop(lock.read())), refusal(|| drop(lock.try_read()))), (said.into(), said.into()));
     drop(readers);
     assert_eq!((lock.read_holds(), lock.is_locked()), (0, false));
+    assert!(lock.trim().unwrap() >= 2 * 65_535);
 }
 
 #[test]
@@ -155,6 +156,42 @@ fn it_says_whether_it_is_locked() {
     assert!(lock.is_mine() && lock.is_locked());
     drop(tried);
     assert!(!lock.is_mine() && !lock.is_locked());
+}
+
+#[test]
+fn each_call_takes_its_side() {
+    let lock = RwLock::new(0);
+    let of_this = || (lock.read_holds(), lock.is_mine(), lock.is_locked_exclusive());
+    let reads: [fn(&RwLock<u32>) -> Option<RwLockReadGuard<'_, u32>>; 8] = [
+        |lock| Some(lock.read()),
+        |lock| Some(lock.read_recursive()),
+        |lock| lock.read_interruptibly().ok(),
+        |lock| lock.read_interruptibly_for(LONG).ok(),
+        |lock| lock.try_read(),
+        |lock| lock.try_read_recursive(),
+        |lock| lock.try_read_for(LONG),
+        |lock| lock.try_read_until(Instant::now() + LONG),
+    ];
+    for read in reads {
+        let reader = read(&lock).unwrap();
+        assert_eq!((of_this(), lock.is_locked()), ((1, false, false), true));
+        drop(reader);
+        assert!(!lock.is_locked());
+    }
+    let writes: [fn(&RwLock<u32>) -> Option<RwLockWriteGuard<'_, u32>>; 6] = [
+        |lock| Some(lock.write()),
+        |lock| lock.write_interruptibly().ok(),
+        |lock| lock.write_interruptibly_for(LONG).ok(),
+        |lock| lock.try_write(),
+        |lock| lock.try_write_for(LONG),
+        |lock| lock.try_write_until(Instant::now() + LONG),
+    ];
+    for write in writes {
+        let writer = write(&lock).unwrap();
+        assert_eq!((of_this(), lock.is_locked()), ((0, true, true), true));
+        drop(writer);
+        assert!(!lock.is_locked() && !lock.is_mine());
+    }
 }
 
 #[test]

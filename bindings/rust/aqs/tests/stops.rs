@@ -116,6 +116,7 @@ impl Both {
             let mut guard = self.mutex.lock();
             let begin = Instant::now();
             let _timeout = stopped(stop, || self.condvar.wait_for(&mut guard, LOST));
+            assert!(self.mutex.is_mine());
             begin.elapsed()
         })
     }

@@ -13,7 +13,7 @@ use super::Core;
 use crate::hooks::Hooks;
 use deciding::entries::{ended, plain};
 use history::arrival::Arrival;
-use history::entry::{End, Entry, Mode, Word};
+use history::entry::{End, Mode, Word};
 use history::fault::Fault;
 use history::step::{Answer, Step};
 

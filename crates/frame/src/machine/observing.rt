@@ -24,6 +24,7 @@ use history::entry::Mode;
 use history::header::{Header, Object};
 
 impl<H: Hooks + Drop> Core<H> {
+    /// What the object was opened with.
     pub fn header(&self) -> &Header
         ensures { result.now ≡ self.now.header }
     {

@@ -10,7 +10,6 @@ use super::Core;
 use crate::hooks::Hooks;
 use crate::seat::untell;
 use acquire_queue::queue::Queue;
-use history::entry::Word;
 use history::fault::Fault;
 use history::step::{Answer, Step};
 

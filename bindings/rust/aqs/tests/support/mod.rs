@@ -6,6 +6,7 @@ use std::{env, fs, path::PathBuf, thread};
 
 #[allow(dead_code)] // not each file waits
 pub const SHORT: Duration = Duration::from_millis(10);
+#[allow(dead_code)] // the same
 pub const LONG: Duration = Duration::from_secs(30);
 
 /// Puts a history into the folder that AQS_HISTORIES names, for `aqs audit`.
@@ -26,6 +27,7 @@ pub fn refusal(call: impl FnOnce()) -> String {
 }
 
 /// Waits until it is so.
+#[allow(dead_code)] // not each file waits for others
 pub fn until(is_so: impl Fn() -> bool) {
     let begin = Instant::now();
     while !is_so() {
