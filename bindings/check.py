@@ -58,6 +58,8 @@ PLAIN = {
     "or_abort": "calls that end the program",
     "over": "a mutex and a barrier",
     "durations": "durations of any length in C++",
+    "range": "what is out of range, NULL and closed objects, numbers of conditions",
+    "crowded": "300 threads at each object",
 }
 # Tests of what each call does, which take no words.
 CONTENT = {
@@ -72,6 +74,7 @@ CONTENT = {
     "seats": "who has which seat, objects without an opening, and conditions as objects",
     "stops": "a thread that is stopped at each instruction of a call",
     "eintr": "what a signal handler does to a call that waits",
+    "gates": "who goes through the gate of a lock",
 }
 # Those of them that the sanitizers run too: a sanitizer takes processor time, and the others stand in for the library.
 SANITIZED = ("wakes", "interrupts", "statuses", "histories", "limits", "seats")
@@ -168,6 +171,11 @@ def check_c(tests):
     tests.run("processes that fork while threads make calls", [OUT / "forks"], 120)
     tests.run("names that the library has inside", [OUT / "names"])
     tests.run("a library that is closed under its threads", [OUT / "unload", OUT / "libaqs.so"])
+    tests.run("names of seats", [OUT / "named", kept])
+    tests.run("bounded buffers of C", [OUT / "bounded", kept], 120)
+    tests.run("bounded buffers of C++", [OUT / "bounded_cpp", kept], 120)
+    tests.run("static objects of C++ at the exit", [OUT / "statics"])
+    tests.run("a condition of any lock, and stop tokens", [OUT / "any"], 90)
     tests.run("guards of C++", [OUT / "guards", kept])
     tests.run("C++11 without exceptions", [OUT / "plain"])
     tests.count("each status has to be looked at", *statuses_are_checked())
@@ -179,8 +187,29 @@ def check_c(tests):
     tests.audit("C and C++", kept)
     tests.draw("the cache", f"{kept}/lru-cache.history")
     tests.draw("the buffer", f"{kept}/buffer.history")
+    check_page(tests)
     check_small_files(tests)
     check_install(tests)
+
+
+# The whole programs of a page, by their language, and how each is compiled.
+PROGRAMS = {"c": ["cc", "-std=gnu11"], "cpp": ["c++", "-std=c++11"]}
+
+
+def check_page(tests):
+    """The whole programs of the page compile and run as they stand there."""
+    page = (HERE / "README.md").read_text()
+    for language, compiler in PROGRAMS.items():
+        blocks = [it for it in re.findall(rf"(?ms)^```{language}\n(.*?)^```$", page) if "int main(" in it]
+        if not tests.count(f"the page has a whole program in {language}", len(blocks) == 1):
+            continue
+        folder = pathlib.Path(tests.histories(f"page-{language}"))
+        source, program = folder / f"page.{language}", folder / "page"
+        source.write_text(blocks[0])
+        words = [*compiler, "-Wall", "-Wextra", "-Werror", "-I.", source, OUT / "libaqs.a", "-pthread"]
+        if tests.run(f"it compiles as it stands in the page: {language}", [*words, "-o", program]):
+            tests.run(f"it prints what the page says: {language}", [program], cwd=folder, says="5050\n")
+    tests.audit("the page", tests.histories("page-c"))
 
 
 # How many blocks of 512 bytes a file may have: less than the history of the example, or some whole buffers. Then the
@@ -323,13 +352,29 @@ def check_rust(tests):
     words = ["cargo", "run", "-q", "--offline", "--example", "thread_pool", file]
     if tests.run("the thread pool of Rust", words, 240, cwd=RUST, says=SUM_OF_FACTORIALS, **environment):
         tests.draw("the thread pool", file)
+    words = ["cargo", "run", "-q", "--offline", "--example", "pairs"]
+    tests.run("what a pair costs in Rust", words, 240, cwd=RUST, says="Mutex::lock ", **environment)
     tests.audit("Rust", kept)
+
+
+def page_program(tests, folder, language, mark):
+    """The whole program of a caller's page, which has this mark."""
+    page = (HERE / folder / "README.md").read_text()
+    blocks = [it for it in re.findall(rf"(?ms)^```{language}\n(.*?)^```$", page) if mark in it]
+    tests.count(f"the page has a whole program in {language}", len(blocks) == 1)
+    return "".join(blocks[:1])
 
 
 def check_python(tests):
     kept = tests.histories("python")
+    program = pathlib.Path(tests.histories("page-python")) / "page.py"
+    program.write_text(page_program(tests, "python", "python", "import aqs"))
+    environment = {"PYTHONPATH": str(HERE / "python")}
+    tests.run("it runs as it stands in the page: Python", [sys.executable, "-B", program], says="5050\n", **environment)
     words = [sys.executable, "-B", "-m", "unittest", "-q", *(["-f"] if tests.until_one_fails else [])]
     tests.run("Python", [*words, "test_aqs"], 120, cwd=HERE / "python", AQS_HISTORIES=kept)
+    words = [sys.executable, "-B", "bench.py"]
+    tests.run("what a pair costs in Python", words, 60, cwd=HERE / "python", says="RLock ")
     tests.audit("Python", kept)
     if importlib.util.find_spec("test") and importlib.util.find_spec("test.lock_tests"):
         tests.run("CPython's own tests of locks", [*words, "test_cpython"], 180, cwd=HERE / "python")
@@ -353,6 +398,12 @@ def check_java(tests):
     tests.run("Java: native memory", ["java", "-Xmx32m", *classes, "MemoryTest"], 120, cwd=folder)
     words = ["java", "-Djava.library.path=out/growing", *classes[1:], "GrowingTest"]
     tests.run("Java: a history that grows while it is read", words, 120, cwd=folder)
+    room = pathlib.Path(tests.histories("page-java"))
+    (room / "Example.java").write_text(page_program(tests, "java", "java", "public class Example"))
+    words = ["javac", "-Xlint:all", "-Werror", "-cp", folder / "out" / "aqs.jar", "Example.java"]
+    if tests.run("it compiles as it stands in the page: Java", words, cwd=room):
+        words = ["java", "-cp", f"{folder / 'out' / 'aqs.jar'}:.", "Example"]
+        tests.run("it prints what the page says: Java", words, cwd=room, says="5050\n")
     virtual = java_with_virtual_threads()
     if virtual:
         words = [virtual, "--enable-native-access=ALL-UNNAMED", *classes, "VirtualTest"]

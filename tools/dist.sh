@@ -2,17 +2,18 @@
 # Makes an archive for those who want to use the library and not to prove it: tools/dist.sh [FOLDER]
 #
 # It leaves tunicschist-VERSION-x86_64-linux.tar.gz and its checksum in FOLDER, bindings/out if none is named. The
-# archive has headers, libaqs.a and libaqs.so, the program aqs with its man page and completions, the Rust crate, a
-# wheel for Python, a jar, the sums of the proved sources, and an install script. What the machine has no tools for is
-# left out, and said. CORE names another proved library than crates/aqs_c/out/libaqs_c.a, as in bindings/c/Makefile,
-# and AQS another program aqs.
+# archive has headers, libaqs.a and libaqs.so, the program aqs with its man page and completions, the recorder
+# aqs-record, the Rust crate, a wheel for Python, a jar, the sums of the proved sources, and an install script. Its
+# file VERSION names the commit that the sources are of: the commit that adds an archive to release/ is a later one.
+# What the machine has no tools for is left out, and said. CORE names another proved library than
+# crates/aqs_c/out/libaqs_c.a, as in bindings/c/Makefile, and AQS another program aqs.
 set -euo pipefail
 export LC_ALL=C
 
 TOP=$(cd "$(dirname "$0")/.." && pwd -P)
 . "$TOP/tools/needed.sh"
 OUT=$(mkdir -p "${1:-$TOP/bindings/out}" && cd "${1:-$TOP/bindings/out}" && pwd -P)
-VERSION=$(sed -n 's/^VERSION = //p' "$TOP/bindings/c/Makefile")
+VERSION=$(cat "$TOP/VERSION")
 NAME=tunicschist-$VERSION
 ARCHIVE=$NAME-x86_64-linux.tar.gz
 AQS=${AQS:-$TOP/crates/aqs/out/aqs}
@@ -51,6 +52,7 @@ put_shell() {
 put_c() {
     make -s -C "$TOP/bindings/c" install PREFIX="$1" DESTDIR=
     sed -i 's|^prefix=.*|prefix=@PREFIX@|' "$1/lib/pkgconfig/aqs.pc"
+    make -s -C "$TOP/bindings/pthread" install PREFIX="$1" DESTDIR=
     if [[ -x $AQS ]]; then
         install -D -m 755 "$AQS" "$1/bin/aqs"
         put_shell "$1/share"

@@ -1,7 +1,7 @@
 #!/usr/bin/env python3
 """Makes the man page of `aqs`, and what completes its words in bash, zsh and fish: tools/shell.py [--write]
 
-All is made from the pages of `aqs manual`, which stand in crates/manual/src/texts.rt: the commands and what they do
+All is made from the pages of `aqs manual`, which stand in crates/aqs/src/texts.rt: the commands and what they do
 from the overview, the options of a command and what they do from its page. --write writes the files of tools/shell/.
 Without it the files must be what is made. The last line is 'N files, M not as made', and the status is 1 if M is not 0.
 """
@@ -11,7 +11,7 @@ import re
 import sys
 
 TOP = pathlib.Path(__file__).resolve().parent.parent
-TEXTS = TOP / "crates" / "manual" / "src" / "texts.rt"
+TEXTS = TOP / "crates" / "aqs" / "src" / "texts.rt"
 FOLDER = TOP / "tools" / "shell"
 
 NAME, FILE, DIRECTORY = "N", "F", "D"  # what a page writes where an option takes no number

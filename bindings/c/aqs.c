@@ -18,7 +18,9 @@
 #include "aqs_core.h"
 
 #include <errno.h>
+#include <fcntl.h>
 #include <limits.h>
+#include <link.h>
 #include <linux/futex.h>
 #include <linux/membarrier.h>
 #include <pthread.h>
@@ -28,6 +30,7 @@
 #include <stdlib.h>
 #include <string.h>
 #include <sys/mman.h>
+#include <sys/prctl.h>
 #include <sys/syscall.h>
 #include <time.h>
 #include <unistd.h>
@@ -94,6 +97,7 @@ typedef struct {
     _Atomic uint64_t holds; /* of all objects together. Only the thread of the place counts them */
     atomic_bool has_turn;   /* whether the thread is about to make a turn, or makes one */
     pid_t process, thread;  /* whose it is, by the system's ids. thread 0: nobody's. Under `numbering` */
+    char name[16];          /* of the thread that gave its number back last. Under `numbering` */
 } place_t;
 
 /* What the clock shows, rounded up to a millisecond: a time that is counted from here on is never up too
@@ -198,6 +202,39 @@ static void let_others_go_on(void) {
     for (int i = 0; i < PAUSES; i++) relax();
 }
 
+/* What is out of range ----------------------------------------------------------------------------------- */
+
+/* What the last such status of the thread was about. Signal handlers may get it, so that it is made by hand.
+   */
+static _Thread_local __attribute__((tls_model("initial-exec"))) char said[128];
+
+const char *aqs_last_error(void) { return said; }
+
+static char *put_text(char *at, const char *text) {
+    while (*text && at < said + sizeof said - 1) *at++ = *text++;
+    *at = 0;
+    return at;
+}
+
+static char *put_number(char *at, int64_t number) {
+    char digits[24], *first = digits + sizeof digits - 1;
+    uint64_t left = number < 0 ? -(uint64_t)number : (uint64_t)number;
+    *first = 0;
+    do *--first = (char)('0' + left % 10);
+    while ((left /= 10) > 0);
+    if (number < 0) *--first = '-';
+    return put_text(at, first);
+}
+
+COLD aqs_status_t aqs_out_of_range(const char *name, int64_t least, int64_t most, int64_t number) {
+    char *at = put_text(put_text(said, name), " must be ");
+    at = put_number(at, least);
+    if (most == INT64_MAX) at = put_text(at, " or more");
+    else if (most > least) at = put_number(put_text(at, " to "), most);
+    (void)put_number(put_text(at, ", not "), number);
+    return AQS_OUT_OF_RANGE;
+}
+
 /* Numbers ------------------------------------------------------------------------------------------------ */
 
 /* The place of each number. The first are there from the beginning, and each later block has as many as all
@@ -213,9 +250,9 @@ static pthread_key_t at_end;
 static bool has_key;
 static pthread_once_t once = PTHREAD_ONCE_INIT;
 
-/* Which seat a thread had last at an object. */
+/* Which seat a thread had last at an object. A tag of 0 is of none. */
 typedef struct {
-    const aqs_object_t *object;
+    uintptr_t tag;
     uint32_t seat;
 } memory_t;
 enum { MEMORIES = 16 };
@@ -291,6 +328,7 @@ static void give_number_back(void *number) {
     self.place = NULL;
     memset(self.memories, 0, sizeof self.memories);
     pthread_mutex_lock(&numbering);
+    (void)prctl(PR_GET_NAME, place_of((aqs_thread_t)((uintptr_t)number - 1))->name);
     free_number((aqs_thread_t)((uintptr_t)number - 1));
     pthread_mutex_unlock(&numbering);
     leave();
@@ -323,6 +361,9 @@ static void before_fork(void) {
     }
 }
 
+/* What a taken gate says. It is another in each process, so that in the child of a fork no gate is taken. */
+static unsigned this_process = 1;
+
 static void let_turns_begin(void) {
     self.forks = false;
     atomic_store(&is_forking, false);
@@ -338,6 +379,7 @@ static void after_fork(void) {
 static void after_fork_in_child(void) {
     for (aqs_thread_t thread = 0; thread < count_of_places; thread++)
         atomic_store(&place_of(thread)->has_turn, false);
+    this_process++;
     let_turns_begin();
     if (self.place) {
         self.place->process = getpid();
@@ -430,7 +472,7 @@ aqs_thread_t aqs_thread_self(void) { return has_number() ? self.number : AQS_NO_
 aqs_status_t aqs_thread_interrupt(aqs_thread_t thread) {
     place_t *place = place_of(thread);
     int before = errno; /* what a handler interrupts may be about to read it */
-    if (!place) return AQS_OUT_OF_RANGE;
+    if (!place) return aqs_out_of_range("thread", 0, count_of_places - 1, thread);
     send(place, INTERRUPT);
     errno = before;
     return AQS_OK;
@@ -449,7 +491,14 @@ typedef struct aqs_seat {
     place_t *_Atomic place; /* of the thread that had it last */
     uint64_t stays;         /* why its thread keeps it, in the units below. Only that thread looks */
     bool waits;             /* whether a call of its thread waits in it. Only that thread looks */
+    atomic_bool is_on_condition; /* whether that call waits on a condition */
 } seat_t;
+
+/* The gate of an object, in a line of the cache of its own, before its seats (see Gates). */
+typedef struct {
+    _Alignas(128) atomic_uint taken;  /* a value of `this_process` while a thread has it */
+    _Atomic uint32_t heat;            /* how many acquires yet go through it */
+} gate_t;
 
 enum { INSIDE = 1 };
 #define ONE_EXCLUSIVE INT64_C(1)
@@ -473,6 +522,8 @@ static void back_off(unsigned *looks) {
 static uint16_t count_of_seats(const aqs_object_t *object) {
     return __atomic_load_n(&object->count_, __ATOMIC_ACQUIRE);
 }
+
+SHORT uintptr_t tag_of(const aqs_object_t *object) { return (uintptr_t)object + 1; }
 
 SHORT memory_t *memory_of(const aqs_object_t *object) {
     uintptr_t at = (uintptr_t)object;
@@ -530,7 +581,7 @@ SHORT void come_back(seat_t *seat) {
 
 /* The seat of a thread that doesn't remember one here. A thread that holds nothing anywhere has none. */
 static COLD seat_t *look_for_own_seat(const aqs_object_t *object) {
-    bool has_some = self.place && !holds_nothing(self.place);
+    bool has_some = self.place && !holds_nothing(self.place) && object;
     uint32_t count = has_some ? count_of_seats(object) : 0;
     for (uint32_t i = 0; i < count; i++) {
         if (is_own(&object->seats_[i])) return &object->seats_[i];
@@ -541,20 +592,28 @@ static COLD seat_t *look_for_own_seat(const aqs_object_t *object) {
 /* The seat that the calling thread has, or NULL. One that remembers a seat here has no other. */
 SHORT seat_t *own_seat(const aqs_object_t *object) {
     const memory_t *memory = memory_of(object);
-    if (memory->object != object) return look_for_own_seat(object);
+    if (memory->tag != tag_of(object)) return look_for_own_seat(object);
     if (memory->seat >= count_of_seats(object)) return NULL;
     seat_t *seat = &object->seats_[memory->seat];
     return is_own(seat) ? seat : NULL;
 }
 
+/* The last seat of a semaphore or a latch is for calls that don't wait: those that wait need another that
+   releases. */
+static bool is_kept_back(const aqs_object_t *object, uint32_t seat) {
+    return seat > 0 && seat + 1 == count_of_seats(object) && !has_owner(object->kind_);
+}
+
 /* A seat that nobody had: the one of the thread's number, if that is free. Threads that are inside may leave
    soon. NULL: each seat is kept. */
-static seat_t *free_seat(const aqs_object_t *object) {
+static seat_t *free_seat(const aqs_object_t *object, bool may_wait) {
     uint32_t count = count_of_seats(object), first = self.number % count;
     for (unsigned looks = 0;;) {
         bool is_kept = true;
         for (uint32_t i = 0; i < count; i++) {
-            seat_t *seat = &object->seats_[(first + i) % count];
+            uint32_t number = (first + i) % count;
+            if (may_wait && is_kept_back(object, number)) continue;
+            seat_t *seat = &object->seats_[number];
             uint64_t taken = atomic_load_explicit(&seat->taken, memory_order_relaxed);
             if (taken == 0 && claims(seat)) return seat;
             if (taken == 0 || taken & INSIDE) is_kept = false;
@@ -566,43 +625,125 @@ static seat_t *free_seat(const aqs_object_t *object) {
 
 static aqs_status_t open_at_first_call(aqs_object_t *object);
 
-/* The thread doesn't remember a seat here, or another thread has it. */
-static COLD seat_t *come_slowly(aqs_object_t *object, aqs_status_t *status) {
-    *status = AQS_OUT_OF_MEMORY;
-    if (!self.place && !take_number()) return NULL;
-    if (count_of_seats(object) == 0 && (*status = open_at_first_call(object)) != AQS_OK) return NULL;
+/* Whether an object may be used: it is open, or opens at its first call. */
+static bool is_usable(const aqs_object_t *object) {
+    uint32_t mark = object ? __atomic_load_n(&object->mark_, __ATOMIC_RELAXED) : AQS_IS_CLOSED_;
+    if (mark == AQS_IS_NEW_) return object->kind_ <= AQS_KIND_LATCH;
+    return mark == AQS_IS_OPEN_ || mark == AQS_OPENED_AT_FIRST_CALL_;
+}
+
+/* Whether the threads of all seats wait on conditions. */
+static bool all_are_on_conditions(const aqs_object_t *object) {
+    for (uint32_t i = 0; i < count_of_seats(object); i++)
+        if (!atomic_load_explicit(&object->seats_[i].is_on_condition, memory_order_relaxed)) return false;
+    return true;
+}
+
+/* A wait for a seat, outside. A thread that gives one back wakes one that seeks. That may be missed, as
+   nothing orders the two, so each sleep has an end. A thread that was signalled may be on its way from its
+   condition: so all wait there only if several looks in a row say so. */
+enum { SHORTEST_SLEEP = 1, LONGEST_SLEEP = 16, LOOKS_AT_CONDITIONS = 10 };
+typedef struct {
+    uint32_t freed;
+    unsigned milliseconds;
+    int on_conditions;
+} search_t;
+
+/* Sleeps until a seat is given back, or a while. Returns whether a signal handler ended that. */
+static bool sleep_until_freed(aqs_object_t *object, uint32_t freed, uint64_t milliseconds) {
+    struct timespec time = moment_of(milliseconds);
+    long ended = syscall(SYS_futex, &object->freed_, FUTEX_WAIT_PRIVATE, freed, &time, NULL, 0);
+    return ended != 0 && errno == EINTR;
+}
+
+/* Waits a while for a seat, outside. Returns AQS_OK if the thread is to look again. */
+static aqs_status_t wait_for_seat(aqs_object_t *object, const aqs_call_t *call, search_t *search) {
+    uint64_t now = moment_in_milliseconds(), end = call->moment + call->time;
+    search->on_conditions = all_are_on_conditions(object) ? search->on_conditions + 1 : 0;
+    if (search->on_conditions > LOOKS_AT_CONDITIONS) return AQS_TOO_MANY_THREADS;
+    if (call->how != AQS_HOW_PLAIN && take(self.place, INTERRUPT)) return AQS_INTERRUPTED;
+    if (call->how == AQS_HOW_TIMED && now > end) return AQS_TIMED_OUT;
+    uint64_t time = search->milliseconds;
+    if (call->how == AQS_HOW_TIMED && time > end - now + 1) time = end - now + 1;
+    if (search->milliseconds < LONGEST_SLEEP) search->milliseconds *= 2;
+    leave();
+    bool handler_ran = sleep_until_freed(object, search->freed, time);
+    enter();
+    return handler_ran && call->how != AQS_HOW_PLAIN && object->heeds_handlers_ ? AQS_HANDLER_RAN : AQS_OK;
+}
+
+/* Tells those who seek a seat that the thread is about to give one back. */
+static COLD void tell_seekers(aqs_object_t *object) {
+    __atomic_fetch_add(&object->freed_, 1, __ATOMIC_SEQ_CST);
+}
+
+/* The seat of the thread, or one that is free. It has begun a turn then. */
+static seat_t *look_for_seat(aqs_object_t *object, bool may_wait) {
     begin_turn();
     seat_t *seat = own_seat(object);
     if (seat && !needs_another(object, seat)) come_back(seat);
-    else seat = free_seat(object);
-    *status = seat ? AQS_OK : AQS_TOO_MANY_THREADS;
-    if (!seat) {
-        end_turn();
-        return NULL;
-    }
+    else seat = free_seat(object, may_wait);
+    if (!seat) end_turn();
+    return seat;
+}
+
+/* The address alone is used: the object may be closed by now. */
+static COLD void wake_seeker(const uint32_t *freed) {
+    int was = errno;
+    syscall(SYS_futex, freed, FUTEX_WAKE_PRIVATE, 1, NULL, NULL, 0);
+    errno = was;
+}
+
+/* Looks for a seat until there is one, or the call ends without. */
+static COLD seat_t *seek_seat(aqs_object_t *object, const aqs_call_t *call, aqs_status_t *status) {
+    search_t search = {.milliseconds = SHORTEST_SLEEP};
+    seat_t *seat = NULL;
+    __atomic_fetch_add(&object->seekers_, 1, __ATOMIC_SEQ_CST);
+    do {
+        search.freed = __atomic_load_n(&object->freed_, __ATOMIC_SEQ_CST);
+        if ((seat = look_for_seat(object, true))) break;
+    } while ((*status = wait_for_seat(object, call, &search)) == AQS_OK);
+    __atomic_fetch_sub(&object->seekers_, 1, __ATOMIC_SEQ_CST);
+    return seat;
+}
+
+/* The thread doesn't remember a seat here, or another thread has it. */
+static COLD seat_t *come_slowly(aqs_object_t *object, const aqs_call_t *call, aqs_status_t *status) {
+    bool may_wait = call && !(call->how == AQS_HOW_TIMED && call->time == 0);
+    *status = is_usable(object) ? AQS_OUT_OF_MEMORY : AQS_MISUSE;
+    if (*status == AQS_MISUSE || (!self.place && !take_number())) return NULL;
+    if (count_of_seats(object) == 0 && (*status = open_at_first_call(object)) != AQS_OK) return NULL;
+    seat_t *seat = look_for_seat(object, may_wait);
+    *status = AQS_TOO_MANY_THREADS;
+    if (!seat && may_wait) seat = seek_seat(object, call, status);
+    if (!seat) return NULL;
+    *status = AQS_OK;
     atomic_store_explicit(&seat->place, self.place, memory_order_relaxed);
-    *memory_of(object) = (memory_t){object, (uint32_t)(seat - object->seats_)};
+    *memory_of(object) = (memory_t){tag_of(object), (uint32_t)(seat - object->seats_)};
     return seat;
 }
 
 /* The seat of the calling thread, which is inside until it departs: the one that it has, or one that was
-   free. NULL: the status says why it has none.
+   free. NULL: the status says why it has none. A call that may wait, which isn't NULL then, waits for a seat.
+   If `is_ownerless`, it is one of a semaphore or a latch.
 
    All that a thread does with an object lies between this and `depart`. A turn puts its pass back after it
    has freed the object, when others may own it already and close it. So a close waits until nobody is
    inside, and a thread that has left touches nothing of the object until its next turn. Whoever sees what the
    turn did also sees that the thread is inside, since a turn is made by an exchange. */
-SHORT seat_t *come(aqs_object_t *object, aqs_status_t *status) {
+SHORT seat_t *
+come(aqs_object_t *object, const aqs_call_t *call, bool is_ownerless, aqs_status_t *status) {
     const memory_t *memory = memory_of(object);
     seat_t *seat = NULL;
     enter();
-    if (memory->object == object && memory->seat < count_of_seats(object)) {
+    if (memory->tag == tag_of(object) && memory->seat < count_of_seats(object)
+        && !(is_ownerless && is_kept_back(object, memory->seat))) {
         seat = &object->seats_[memory->seat];
         begin_turn();
         if (is_own(seat) && !needs_another(object, seat)) come_back(seat);
         else if (!claims(seat)) seat = NULL;
     }
-    if (!seat) seat = come_slowly(object, status);
+    if (!seat) seat = come_slowly(object, call, status);
     if (seat) tell_before(object);
     else leave();
     return seat;
@@ -611,8 +752,11 @@ SHORT seat_t *come(aqs_object_t *object, aqs_status_t *status) {
 /* Leaves, and gives the seat back unless something keeps it. */
 SHORT void depart(aqs_object_t *object, seat_t *seat) {
     uint64_t taken = seat->stays ? self.mine : 0;
+    bool wakes_seeker = !taken && __atomic_load_n(&object->seekers_, __ATOMIC_RELAXED) != 0;
     tell_after(object);
+    if (wakes_seeker) tell_seekers(object);
     atomic_store_explicit(&seat->taken, taken, memory_order_release);
+    if (wakes_seeker) wake_seeker(&object->freed_);
     end_turn();
     leave();
 }
@@ -623,6 +767,80 @@ SHORT void keep(seat_t *seat, int64_t more) {
     uint64_t holds = atomic_load_explicit(&self.place->holds, memory_order_relaxed);
     seat->stays += (uint64_t)more;
     atomic_store_explicit(&self.place->holds, holds + (uint64_t)more, memory_order_relaxed);
+}
+
+/* Gates -------------------------------------------------------------------------------------------------- */
+
+/* A thread that finds a lock held is recorded as queued, and then waits for its wake. That takes far longer
+   than what most programs do under a lock. So before its first turn at a lock that isn't fair a thread tries
+   to get the lock's gate, for some 15 microseconds at the longest: who has the gate goes first, and opens it
+   as it unlocks. The gate decides nothing. A thread that doesn't get it makes its turn all the same, and
+   whoever unlocks opens it, whether he took it or not. A lock at which nobody met anybody for a while is
+   cold: there nobody takes the gate. */
+enum { HOT = 2000, GATE_PAUSES = 3000, MOST_PAUSES = 64 };
+
+SHORT gate_t *gate_of(const aqs_object_t *object) { return (gate_t *)object->seats_ - 1; }
+
+static bool has_gate(const aqs_object_t *object) {
+    return object->kind_ == AQS_KIND_LOCK && object->policy_ == AQS_NONFAIR;
+}
+
+SHORT bool is_hot(const aqs_object_t *object) {
+    return atomic_load_explicit(&gate_of(object)->heat, memory_order_relaxed) != 0;
+}
+
+static void heat(const aqs_object_t *object) {
+    if (has_gate(object)) atomic_store_explicit(&gate_of(object)->heat, HOT, memory_order_relaxed);
+}
+
+static bool takes_gate(gate_t *gate) {
+    unsigned taken = atomic_load_explicit(&gate->taken, memory_order_relaxed);
+    return taken != this_process
+           && atomic_compare_exchange_strong_explicit(
+               &gate->taken, &taken, this_process, memory_order_acquire, memory_order_relaxed);
+}
+
+SHORT void open_gate(const aqs_object_t *object) {
+    gate_t *gate = gate_of(object);
+    if (atomic_load_explicit(&gate->taken, memory_order_relaxed) == 0) return;
+    atomic_store_explicit(&gate->taken, 0, memory_order_release);
+}
+
+/* Whether an interrupt ends the call at its next turn. A thread without a place has none. */
+static bool is_interrupted(const aqs_call_t *call) {
+    return call->how != AQS_HOW_PLAIN && self.place && atomic_load(&self.place->word) & INTERRUPT;
+}
+
+/* Returns whether the thread has the gate of a hot object. It looks for it after a longer pause each time. */
+static COLD bool goes_through_gate(const aqs_object_t *object, const aqs_call_t *call) {
+    gate_t *gate = gate_of(object);
+    uint32_t warm = atomic_load_explicit(&gate->heat, memory_order_relaxed);
+    if (takes_gate(gate)) {
+        if (warm > 0) atomic_store_explicit(&gate->heat, warm - 1, memory_order_relaxed);
+        return true;
+    }
+    if (warm < HOT / 2) heat(object);
+    for (int left = GATE_PAUSES, pauses = 1; left > 0 && !is_interrupted(call); left -= pauses) {
+        for (int i = 0; i < pauses; i++) relax();
+        if (takes_gate(gate)) return true;
+        if (pauses < MOST_PAUSES) pauses *= 2;
+    }
+    return false;
+}
+
+/* Counts the holds that a step or a call gave or took. With its last one a thread opens the gate. */
+SHORT void keep_all(const aqs_object_t *object, seat_t *seat, int64_t owned) {
+    keep(seat, owned);
+    if (owned < 0 && (uint32_t)seat->stays == 0) open_gate(object);
+}
+
+/* Whether a call is to go through the gate before its first turn: a thread that remembers a seat of a hot
+   object, and doesn't own it, if the call may wait. */
+SHORT bool meets_gate(const aqs_object_t *object, const aqs_call_t *call) {
+    const memory_t *memory = memory_of(object);
+    if (call->kind != AQS_CALL_ACQUIRE || (call->how == AQS_HOW_TIMED && call->time == 0)) return false;
+    if (memory->tag != tag_of(object) || memory->seat >= count_of_seats(object)) return false;
+    return is_hot(object) && !is_own(&object->seats_[memory->seat]);
 }
 
 /* Turns -------------------------------------------------------------------------------------------------- */
@@ -678,39 +896,55 @@ static void settle(place_t *woken, const aqs_answer_t *answer) {
     if (answer->again) send(self.place, INTERRUPT);
 }
 
-/* A wait of a call, until its next turn. Returns how it ended. */
-static uint8_t wait_for_turn(const aqs_object_t *object, const aqs_call_t *call, const aqs_answer_t *answer) {
+/* A call on its way: whether it took the gate, and whether a signal handler ended its wait. */
+typedef struct {
+    bool took_gate, handler_ran;
+} way_t;
+
+/* The thread has got nothing, or has given the lock up to wait. */
+static void let_others_through(const aqs_object_t *object, way_t *way) {
+    if (way->took_gate) open_gate(object);
+    way->took_gate = false;
+}
+
+/* A wait of a call, until its next turn. Returns how it ended. One that was woken goes through the gate. */
+static uint8_t
+wait_for_turn(const aqs_object_t *object, const aqs_call_t *call, const aqs_answer_t *answer, way_t *way) {
     bool is_fair = object->policy_ != AQS_NONFAIR, has_slept = false;
     if (!answer->parks) return AQS_WOKE_PERMIT;
     uint8_t woke = park(self.place, answer, is_fair, object->heeds_handlers_, &has_slept);
-    bool is_late = has_slept || is_fair || woke != AQS_WOKE_PERMIT;
-    if (has_owner(object->kind_) && call->kind == AQS_CALL_ACQUIRE && !is_late) let_others_go_on();
+    if (is_fair || woke != AQS_WOKE_PERMIT) return woke;
+    if (has_gate(object)) way->took_gate = goes_through_gate(object, call);
+    else if (has_owner(object->kind_) && call->kind == AQS_CALL_ACQUIRE && !has_slept) let_others_go_on();
     return woke;
 }
 
 /* The call waits: its park, and its next turn. The thread is inside, before and after. The proved library is
    told of a signal handler as of an interrupt. But no interrupt was taken then, so none is set again. */
 static void next_turn(
-    aqs_object_t *object, seat_t *seat, const aqs_call_t *call, aqs_answer_t *answer, bool *handler_ran) {
+    aqs_object_t *object, seat_t *seat, const aqs_call_t *call, aqs_answer_t *answer, way_t *way) {
     place_t *woken = woken_by(object, answer);
     keep(seat, ONE_WAIT);
     seat->waits = true;
+    atomic_store_explicit(&seat->is_on_condition, call->kind == AQS_CALL_AWAIT, memory_order_relaxed);
     depart(object, seat);
     settle(woken, answer);
-    uint8_t woke = wait_for_turn(object, call, answer);
+    uint8_t woke = wait_for_turn(object, call, answer, way);
     unsigned looks = 0;
-    if (woke == WOKE_HANDLER) *handler_ran = true, woke = AQS_WOKE_INTERRUPT;
+    if (woke == WOKE_HANDLER) way->handler_ran = true, woke = AQS_WOKE_INTERRUPT;
     enter();
     begin_turn();
     come_back(seat);
     tell_before(object);
     seat->waits = false;
+    atomic_store_explicit(&seat->is_on_condition, false, memory_order_relaxed);
     keep(seat, -ONE_WAIT);
     for (;; back_off(&looks)) {
         aqs_go_on(&seat->pass, woke, answer);
         if (answer->kind != AQS_IS_BUSY) break;
     }
-    if (*handler_ran) answer->again = false;
+    if (way->handler_ran) answer->again = false;
+    if (answer->kind == AQS_IS_WAITING) let_others_through(object, way);
 }
 
 /* Answers as statuses ------------------------------------------------------------------------------------ */
@@ -776,7 +1010,7 @@ static aqs_status_t
 end_turns(aqs_object_t *object, seat_t *seat, const aqs_answer_t *answer, int64_t owned) {
     place_t *woken = woken_by(object, answer);
     aqs_status_t status = status_of(answer);
-    if (status == AQS_OK) keep(seat, owned);
+    if (status == AQS_OK) keep_all(object, seat, owned);
     depart(object, seat);
     settle(woken, answer);
     return status;
@@ -791,26 +1025,30 @@ end_step(aqs_object_t *object, seat_t *seat, aqs_step_t step, aqs_answer_t *answ
 }
 
 /* The rest of a call, from its first answer on. */
-static COLD aqs_status_t
-end_call(aqs_object_t *object, seat_t *seat, const aqs_call_t *call, aqs_answer_t *answer, int64_t owned) {
+static COLD aqs_status_t end_call(aqs_object_t *object, seat_t *seat, const aqs_call_t *call,
+                                  aqs_answer_t *answer, int64_t owned, bool took_gate) {
     tries_t tries = {0, 0};
-    bool handler_ran = false;
+    way_t way = {.took_gate = took_gate || call->kind == AQS_CALL_AWAIT};
+    bool met_another = answer->kind == AQS_IS_BUSY || answer->kind == AQS_IS_WAITING;
+    if (call->kind == AQS_CALL_ACQUIRE && met_another) heat(object);
     while (is_made_again(object, seat, answer, &tries)) aqs_begin(&seat->pass, call, answer);
-    while (answer->kind == AQS_IS_WAITING) next_turn(object, seat, call, answer, &handler_ran);
+    if (answer->kind == AQS_IS_WAITING) let_others_through(object, &way);
+    while (answer->kind == AQS_IS_WAITING) next_turn(object, seat, call, answer, &way);
+    if (call->kind == AQS_CALL_ACQUIRE && status_of(answer) != AQS_OK) let_others_through(object, &way);
     aqs_status_t status = end_turns(object, seat, answer, owned);
-    if (status == AQS_INTERRUPTED && handler_ran) return AQS_HANDLER_RAN;
+    if (status == AQS_INTERRUPTED && way.handler_ran) return AQS_HANDLER_RAN;
     return status == AQS_WOULD_BLOCK ? AQS_TIMED_OUT : status;
 }
 
 SHORT aqs_status_t do_step(aqs_object_t *object, aqs_step_t step, int64_t owned, uint32_t *n) {
     aqs_status_t status = AQS_OK;
-    seat_t *seat = come(object, &status);
+    seat_t *seat = come(object, NULL, false, &status);
     if (!seat) return status;
     aqs_answer_t answer;
     blank(&answer);
     aqs_step_now(&seat->pass, step, &answer);
     if (is_plain_end(&answer)) {
-        keep(seat, owned);
+        keep_all(object, seat, owned);
         depart(object, seat);
     } else {
         status = end_step(object, seat, step, &answer, owned);
@@ -821,28 +1059,48 @@ SHORT aqs_status_t do_step(aqs_object_t *object, aqs_step_t step, int64_t owned,
 
 SHORT aqs_status_t do_call(aqs_object_t *object, aqs_call_t call, int64_t owned) {
     aqs_status_t status = AQS_OK;
-    seat_t *seat = come(object, &status);
+    call.moment = call.how == AQS_HOW_TIMED ? moment_in_milliseconds() : 0;
+    bool took_gate = meets_gate(object, &call) && goes_through_gate(object, &call);
+    bool waits = call.kind == AQS_CALL_ACQUIRE;
+    seat_t *seat = come(object, waits ? &call : NULL, waits && owned == 0, &status);
     if (!seat) return status;
     aqs_answer_t answer;
     blank(&answer);
     call.interrupted = call.how != AQS_HOW_PLAIN && take(self.place, INTERRUPT);
-    call.moment = call.how == AQS_HOW_TIMED ? moment_in_milliseconds() : 0;
     aqs_begin(&seat->pass, &call, &answer);
-    if (!is_plain_end(&answer)) return end_call(object, seat, &call, &answer, owned);
+    if (!is_plain_end(&answer)) return end_call(object, seat, &call, &answer, owned, took_gate);
     keep(seat, owned);
     depart(object, seat);
     return AQS_OK;
 }
 
-SHORT aqs_status_t acquire(
-    aqs_object_t *object, uint8_t mode, uint32_t n, uint8_t how, uint32_t time, int64_t owned) {
-    aqs_call_t call = {.kind = AQS_CALL_ACQUIRE, .mode = mode, .n = n, .how = how, .time = time};
+/* A call with a time that the proved library doesn't take. One that is too long is waited for in pieces. */
+static COLD aqs_status_t do_long_call(aqs_object_t *object, aqs_call_t call, int64_t time, int64_t owned) {
+    if (time < 0) return aqs_out_of_range("milliseconds", 0, INT64_MAX, time);
+    for (;;) {
+        call.time = time < UINT32_MAX ? (uint32_t)time : UINT32_MAX;
+        aqs_status_t status = do_call(object, call, owned);
+        time -= call.time;
+        if (status != AQS_TIMED_OUT || time == 0) return status;
+    }
+}
+
+SHORT aqs_status_t do_timed_call(aqs_object_t *object, aqs_call_t call, int64_t time, int64_t owned) {
+    bool is_long = call.how == AQS_HOW_TIMED && (uint64_t)time > UINT32_MAX;
+    if (is_long) return do_long_call(object, call, time, owned);
+    call.time = (uint32_t)time;
     return do_call(object, call, owned);
 }
 
-SHORT aqs_status_t await(aqs_object_t *object, uint8_t condition, uint8_t how, uint32_t time) {
-    aqs_call_t call = {.kind = AQS_CALL_AWAIT, .mode = condition, .how = how, .time = time};
-    return do_call(object, call, 0);
+SHORT aqs_status_t acquire(
+    aqs_object_t *object, uint8_t mode, uint32_t n, uint8_t how, int64_t time, int64_t owned) {
+    aqs_call_t call = {.kind = AQS_CALL_ACQUIRE, .mode = mode, .n = n, .how = how};
+    return do_timed_call(object, call, time, owned);
+}
+
+SHORT aqs_status_t await(aqs_object_t *object, uint8_t condition, uint8_t how, int64_t time) {
+    aqs_call_t call = {.kind = AQS_CALL_AWAIT, .mode = condition, .how = how};
+    return do_timed_call(object, call, time, 0);
 }
 
 SHORT aqs_status_t step(aqs_object_t *object, uint8_t code, uint8_t mode, uint32_t n, int64_t owned) {
@@ -910,7 +1168,7 @@ static COLD void make_posts(void) {
 
 /* Opening and closing ------------------------------------------------------------------------------------ */
 
-enum { THREADS = AQS_THREADS, ENTRIES = 1024 };
+enum { THREADS = AQS_THREADS, ENTRIES = 1024, LEAST_ENTRIES = 16 };
 
 static const uint8_t core_policies[] = {AQS_CORE_NONFAIR, AQS_CORE_FAIR, AQS_CORE_STRICT};
 
@@ -923,23 +1181,28 @@ static aqs_header_t header_of(uint8_t kind, int32_t number, const aqs_options_t 
         .number = number,
         .policy = is_known ? core_policies[options->policy] : UINT8_MAX,
         .seats = options->threads ? options->threads : THREADS,
-        .conditions = options->conditions ? options->conditions : has_owner(kind),
+        .conditions = options->conditions ? options->conditions : has_owner(kind) ? AQS_CONDITIONS : 0,
         .cap = options->history ? options->history : refuses ? UINT32_MAX : ENTRIES,
     };
 }
 
+/* A gate, and then the seats. */
+static size_t memory_of_seats(size_t count) {
+    size_t size = sizeof(gate_t) + count * sizeof(seat_t);
+    return (size + _Alignof(gate_t) - 1) / _Alignof(gate_t) * _Alignof(gate_t);
+}
+
 static aqs_status_t open_seats(aqs_object_t *object, aqs_header_t header) {
     aqs_pass_t *passes = calloc(header.seats, sizeof(aqs_pass_t));
-    seat_t *seats = aligned_alloc(64, header.seats * sizeof(seat_t));
+    gate_t *gate = aligned_alloc(_Alignof(gate_t), memory_of_seats(header.seats));
+    seat_t *seats = (seat_t *)(gate + 1);
     uint8_t answer = AQS_FAULT_OUT_OF_MEMORY;
-    if (passes && seats) answer = aqs_open(header, passes, header.seats);
-    for (size_t i = 0; answer == 0 && i < header.seats; i++) {
-        memset(&seats[i], 0, sizeof seats[i]);
-        seats[i].pass = passes[i];
-    }
+    if (passes && gate) answer = aqs_open(header, passes, header.seats);
+    if (answer == 0) memset(gate, 0, memory_of_seats(header.seats));
+    for (size_t i = 0; answer == 0 && i < header.seats; i++) seats[i].pass = passes[i];
     free(passes);
     if (answer != 0) {
-        free(seats);
+        free(gate);
         return answer == AQS_FAULT_OUT_OF_MEMORY ? AQS_OUT_OF_MEMORY : AQS_OUT_OF_RANGE;
     }
     object->conditions_ = header.conditions;
@@ -948,30 +1211,48 @@ static aqs_status_t open_seats(aqs_object_t *object, aqs_header_t header) {
     return AQS_OK;
 }
 
+/* Says which number of an opening is out of range. The proved library has said that one is. */
+static COLD aqs_status_t unopened(uint8_t kind, const aqs_options_t *options) {
+    int64_t policy = options->policy, when_full = options->when_full;
+    if (policy < 0 || policy > AQS_STRICT) return aqs_out_of_range("policy", 0, AQS_STRICT, policy);
+    if (when_full < 0 || when_full > AQS_REFUSE)
+        return aqs_out_of_range("when_full", 0, AQS_REFUSE, when_full);
+    if (options->threads > THREADS) return aqs_out_of_range("threads", 1, THREADS, options->threads);
+    if (options->history && options->history < LEAST_ENTRIES)
+        return aqs_out_of_range("history", LEAST_ENTRIES, UINT32_MAX, options->history);
+    if (has_owner(kind)) return aqs_out_of_range("conditions", 1, AQS_CONDITIONS, options->conditions);
+    return aqs_out_of_range("conditions", 0, 0, options->conditions);
+}
+
 /* Opens an object in memory that nobody uses. */
 static aqs_status_t init_object(
     aqs_object_t *object, uint8_t kind, int32_t number, const aqs_options_t *options) {
     static const aqs_options_t defaults;
     pthread_once(&once, prepare);
+    if (!object) return AQS_MISUSE;
     if (!options) options = &defaults;
     *object = (aqs_object_t){.number_ = number, .kind_ = kind, .policy_ = (uint8_t)options->policy};
     object->keeps_ = options->when_full == AQS_REFUSE;
     object->heeds_handlers_ = options->heeds_handlers;
-    return open_seats(object, header_of(kind, number, options));
+    aqs_status_t status = open_seats(object, header_of(kind, number, options));
+    object->mark_ = status == AQS_OK ? AQS_IS_OPEN_ : AQS_IS_CLOSED_;
+    return status == AQS_OUT_OF_RANGE ? unopened(kind, options) : status;
 }
 
-/* Opens a static object, unless another thread just did. It has all conditions that there may be. */
+/* Opens a static object, unless another thread just did. */
 static aqs_status_t open_at_first_call(aqs_object_t *object) {
-    aqs_options_t options = {.conditions = has_owner(object->kind_) ? AQS_CONDITIONS : 0};
+    static const aqs_options_t defaults;
     aqs_status_t status = AQS_OK;
     pthread_mutex_lock(&numbering);
     if (count_of_seats(object) == 0)
-        status = open_seats(object, header_of(object->kind_, object->number_, &options));
+        status = open_seats(object, header_of(object->kind_, object->number_, &defaults));
+    if (status == AQS_OK) __atomic_store_n(&object->mark_, AQS_OPENED_AT_FIRST_CALL_, __ATOMIC_RELAXED);
     pthread_mutex_unlock(&numbering);
     return status;
 }
 
-/* Afterwards the object is as it was before it was opened. */
+/* Afterwards the object is as it was before it was opened, if it opened at its first call. Else it stays
+   closed. */
 static void close_object(aqs_object_t *object) {
     for (size_t i = 0; i < object->count_; i++) {
         unsigned looks = 0;
@@ -980,17 +1261,19 @@ static void close_object(aqs_object_t *object) {
         aqs_drop(&seat->pass);
     }
     tell_after(object);
-    free(object->seats_);
+    if (object->seats_) free(gate_of(object));
     object->seats_ = NULL;
     object->count_ = 0;
     memset(object->users_, 0, sizeof object->users_);
+    object->mark_ = object->mark_ == AQS_IS_OPEN_ ? AQS_IS_CLOSED_ : AQS_IS_NEW_;
 }
 
 /* Opens an object of a type in memory of its own, and closes one. */
 #define OPEN(place, kind, number, options)                                                          \
     do {                                                                                            \
+        if (!(place)) return AQS_MISUSE;                                                            \
         if (!(*(place) = malloc(sizeof **(place)))) return AQS_OUT_OF_MEMORY;                       \
-        aqs_status_t status_ = init_object(&(*(place))->object_, (kind), (number), (options));       \
+        aqs_status_t status_ = init_object(&(*(place))->object_, (kind), (number), (options));      \
         if (status_ != AQS_OK) {                                                                    \
             free(*(place));                                                                         \
             *(place) = NULL;                                                                        \
@@ -1001,11 +1284,14 @@ static void close_object(aqs_object_t *object) {
     } while (0)
 #define CLOSE(it)                               \
     do {                                        \
-        if (!(it)) return;                      \
+        if (!(it) || !is_usable(&(it)->object_)) return; \
         bool is_ours_ = (it)->object_.is_ours_; \
         close_object(&(it)->object_);           \
         if (is_ours_) free(it);                 \
     } while (0)
+
+/* The object of one of the types, or NULL of NULL: it is the first and only field. */
+#define OF(it) ((aqs_object_t *)(it))
 
 /* The calls of aqs.h ------------------------------------------------------------------------------------- */
 
@@ -1016,124 +1302,130 @@ aqs_status_t aqs_lock_open(aqs_lock_t **lock, const aqs_options_t *options) {
     OPEN(lock, AQS_KIND_LOCK, 0, options);
 }
 aqs_status_t aqs_lock_init(aqs_lock_t *lock, const aqs_options_t *options) {
-    return init_object(&lock->object_, AQS_KIND_LOCK, 0, options);
+    return init_object(OF(lock), AQS_KIND_LOCK, 0, options);
 }
 void aqs_lock_close(aqs_lock_t *lock) { CLOSE(lock); }
-aqs_status_t aqs_lock_lock(aqs_lock_t *lock) { return acquire(&lock->object_, X, 1, PLAIN, 0, 1); }
+aqs_status_t aqs_lock_lock(aqs_lock_t *lock) { return acquire(OF(lock), X, 1, PLAIN, 0, 1); }
 aqs_status_t aqs_lock_lock_interruptibly(aqs_lock_t *lock) {
-    return acquire(&lock->object_, X, 1, INTERRUPTIBLE, 0, 1);
+    return acquire(OF(lock), X, 1, INTERRUPTIBLE, 0, 1);
 }
-aqs_status_t aqs_lock_timedlock(aqs_lock_t *lock, uint32_t ms) {
-    return acquire(&lock->object_, X, 1, TIMED, ms, 1);
+aqs_status_t aqs_lock_timedlock(aqs_lock_t *lock, int64_t ms) {
+    return acquire(OF(lock), X, 1, TIMED, ms, 1);
 }
-aqs_status_t aqs_lock_trylock(aqs_lock_t *lock) { return step(&lock->object_, AQS_STEP_TRY, X, 1, 1); }
-aqs_status_t aqs_lock_unlock(aqs_lock_t *lock) { return step(&lock->object_, AQS_STEP_GIVE, X, 1, -1); }
+aqs_status_t aqs_lock_trylock(aqs_lock_t *lock) { return step(OF(lock), AQS_STEP_TRY, X, 1, 1); }
+aqs_status_t aqs_lock_unlock(aqs_lock_t *lock) { return step(OF(lock), AQS_STEP_GIVE, X, 1, -1); }
 aqs_status_t aqs_lock_wait(aqs_lock_t *lock, uint8_t condition) {
-    return await(&lock->object_, condition, PLAIN, 0);
+    return await(OF(lock), condition, PLAIN, 0);
 }
 aqs_status_t aqs_lock_wait_interruptibly(aqs_lock_t *lock, uint8_t condition) {
-    return await(&lock->object_, condition, INTERRUPTIBLE, 0);
+    return await(OF(lock), condition, INTERRUPTIBLE, 0);
 }
-aqs_status_t aqs_lock_timedwait(aqs_lock_t *lock, uint8_t condition, uint32_t ms) {
-    return await(&lock->object_, condition, TIMED, ms);
+aqs_status_t aqs_lock_timedwait(aqs_lock_t *lock, uint8_t condition, int64_t ms) {
+    return await(OF(lock), condition, TIMED, ms);
 }
 aqs_status_t aqs_lock_signal(aqs_lock_t *lock, uint8_t condition) {
-    return step(&lock->object_, AQS_STEP_SIGNAL, condition, 0, 0);
+    return step(OF(lock), AQS_STEP_SIGNAL, condition, 0, 0);
 }
 aqs_status_t aqs_lock_signal_all(aqs_lock_t *lock, uint8_t condition) {
-    return step(&lock->object_, AQS_STEP_SIGNAL_ALL, condition, 0, 0);
+    return step(OF(lock), AQS_STEP_SIGNAL_ALL, condition, 0, 0);
 }
 
 aqs_status_t aqs_rwlock_open(aqs_rwlock_t **lock, const aqs_options_t *options) {
     OPEN(lock, AQS_KIND_READ_WRITE, 0, options);
 }
 aqs_status_t aqs_rwlock_init(aqs_rwlock_t *lock, const aqs_options_t *options) {
-    return init_object(&lock->object_, AQS_KIND_READ_WRITE, 0, options);
+    return init_object(OF(lock), AQS_KIND_READ_WRITE, 0, options);
 }
 void aqs_rwlock_close(aqs_rwlock_t *lock) { CLOSE(lock); }
 aqs_status_t aqs_rwlock_rdlock(aqs_rwlock_t *lock) {
-    return acquire(&lock->object_, S, 1, PLAIN, 0, ONE_SHARED);
+    return acquire(OF(lock), S, 1, PLAIN, 0, ONE_SHARED);
 }
 aqs_status_t aqs_rwlock_rdlock_interruptibly(aqs_rwlock_t *lock) {
-    return acquire(&lock->object_, S, 1, INTERRUPTIBLE, 0, ONE_SHARED);
+    return acquire(OF(lock), S, 1, INTERRUPTIBLE, 0, ONE_SHARED);
 }
-aqs_status_t aqs_rwlock_timedrdlock(aqs_rwlock_t *lock, uint32_t ms) {
-    return acquire(&lock->object_, S, 1, TIMED, ms, ONE_SHARED);
+aqs_status_t aqs_rwlock_timedrdlock(aqs_rwlock_t *lock, int64_t ms) {
+    return acquire(OF(lock), S, 1, TIMED, ms, ONE_SHARED);
 }
 aqs_status_t aqs_rwlock_tryrdlock(aqs_rwlock_t *lock) {
-    return step(&lock->object_, AQS_STEP_TRY, S, 1, ONE_SHARED);
+    return step(OF(lock), AQS_STEP_TRY, S, 1, ONE_SHARED);
 }
 aqs_status_t aqs_rwlock_rdunlock(aqs_rwlock_t *lock) {
-    return step(&lock->object_, AQS_STEP_GIVE, S, 1, -ONE_SHARED);
+    return step(OF(lock), AQS_STEP_GIVE, S, 1, -ONE_SHARED);
 }
-aqs_status_t aqs_rwlock_wrlock(aqs_rwlock_t *lock) { return acquire(&lock->object_, X, 1, PLAIN, 0, 1); }
+aqs_status_t aqs_rwlock_wrlock(aqs_rwlock_t *lock) { return acquire(OF(lock), X, 1, PLAIN, 0, 1); }
 aqs_status_t aqs_rwlock_wrlock_interruptibly(aqs_rwlock_t *lock) {
-    return acquire(&lock->object_, X, 1, INTERRUPTIBLE, 0, 1);
+    return acquire(OF(lock), X, 1, INTERRUPTIBLE, 0, 1);
 }
-aqs_status_t aqs_rwlock_timedwrlock(aqs_rwlock_t *lock, uint32_t ms) {
-    return acquire(&lock->object_, X, 1, TIMED, ms, 1);
+aqs_status_t aqs_rwlock_timedwrlock(aqs_rwlock_t *lock, int64_t ms) {
+    return acquire(OF(lock), X, 1, TIMED, ms, 1);
 }
-aqs_status_t aqs_rwlock_trywrlock(aqs_rwlock_t *lock) { return step(&lock->object_, AQS_STEP_TRY, X, 1, 1); }
-aqs_status_t aqs_rwlock_wrunlock(aqs_rwlock_t *lock) { return step(&lock->object_, AQS_STEP_GIVE, X, 1, -1); }
+aqs_status_t aqs_rwlock_trywrlock(aqs_rwlock_t *lock) { return step(OF(lock), AQS_STEP_TRY, X, 1, 1); }
+aqs_status_t aqs_rwlock_wrunlock(aqs_rwlock_t *lock) { return step(OF(lock), AQS_STEP_GIVE, X, 1, -1); }
 aqs_status_t aqs_rwlock_wait(aqs_rwlock_t *lock, uint8_t condition) {
-    return await(&lock->object_, condition, PLAIN, 0);
+    return await(OF(lock), condition, PLAIN, 0);
 }
 aqs_status_t aqs_rwlock_wait_interruptibly(aqs_rwlock_t *lock, uint8_t condition) {
-    return await(&lock->object_, condition, INTERRUPTIBLE, 0);
+    return await(OF(lock), condition, INTERRUPTIBLE, 0);
 }
-aqs_status_t aqs_rwlock_timedwait(aqs_rwlock_t *lock, uint8_t condition, uint32_t ms) {
-    return await(&lock->object_, condition, TIMED, ms);
+aqs_status_t aqs_rwlock_timedwait(aqs_rwlock_t *lock, uint8_t condition, int64_t ms) {
+    return await(OF(lock), condition, TIMED, ms);
 }
 aqs_status_t aqs_rwlock_signal(aqs_rwlock_t *lock, uint8_t condition) {
-    return step(&lock->object_, AQS_STEP_SIGNAL, condition, 0, 0);
+    return step(OF(lock), AQS_STEP_SIGNAL, condition, 0, 0);
 }
 aqs_status_t aqs_rwlock_signal_all(aqs_rwlock_t *lock, uint8_t condition) {
-    return step(&lock->object_, AQS_STEP_SIGNAL_ALL, condition, 0, 0);
+    return step(OF(lock), AQS_STEP_SIGNAL_ALL, condition, 0, 0);
 }
 
 aqs_status_t aqs_sem_open(aqs_sem_t **semaphore, int32_t permits, const aqs_options_t *options) {
     OPEN(semaphore, AQS_KIND_SEMAPHORE, permits, options);
 }
 aqs_status_t aqs_sem_init(aqs_sem_t *semaphore, int32_t permits, const aqs_options_t *options) {
-    return init_object(&semaphore->object_, AQS_KIND_SEMAPHORE, permits, options);
+    return init_object(OF(semaphore), AQS_KIND_SEMAPHORE, permits, options);
 }
 void aqs_sem_close(aqs_sem_t *semaphore) { CLOSE(semaphore); }
 aqs_status_t aqs_sem_acquire(aqs_sem_t *semaphore, uint32_t n) {
-    return acquire(&semaphore->object_, S, n, PLAIN, 0, 0);
+    return acquire(OF(semaphore), S, n, PLAIN, 0, 0);
 }
 aqs_status_t aqs_sem_acquire_interruptibly(aqs_sem_t *semaphore, uint32_t n) {
-    return acquire(&semaphore->object_, S, n, INTERRUPTIBLE, 0, 0);
+    return acquire(OF(semaphore), S, n, INTERRUPTIBLE, 0, 0);
 }
-aqs_status_t aqs_sem_timedacquire(aqs_sem_t *semaphore, uint32_t n, uint32_t ms) {
-    return acquire(&semaphore->object_, S, n, TIMED, ms, 0);
+aqs_status_t aqs_sem_timedacquire(aqs_sem_t *semaphore, uint32_t n, int64_t ms) {
+    return acquire(OF(semaphore), S, n, TIMED, ms, 0);
 }
 aqs_status_t aqs_sem_tryacquire(aqs_sem_t *semaphore, uint32_t n) {
-    return step(&semaphore->object_, AQS_STEP_TRY, S, n, 0);
+    return step(OF(semaphore), AQS_STEP_TRY, S, n, 0);
 }
 aqs_status_t aqs_sem_release(aqs_sem_t *semaphore, uint32_t n) {
-    return give(&semaphore->object_, n);
+    return give(OF(semaphore), n);
 }
 aqs_status_t aqs_sem_drain(aqs_sem_t *semaphore, uint32_t *n) {
-    return do_step(&semaphore->object_, (aqs_step_t){.code = AQS_STEP_DRAIN}, 0, n);
+    return do_step(OF(semaphore), (aqs_step_t){.code = AQS_STEP_DRAIN}, 0, n);
 }
 
-/* The number of a latch's header: -1, which none has, if the count is too great. */
-static int32_t number_of(uint32_t count) { return count <= INT32_MAX ? (int32_t)count : -1; }
+/* Whether a latch may have this count. */
+static bool is_count(uint32_t count) {
+    return count <= INT32_MAX || aqs_out_of_range("count", 0, INT32_MAX, count) == AQS_OK;
+}
 
 aqs_status_t aqs_latch_open(aqs_latch_t **latch, uint32_t count, const aqs_options_t *options) {
-    OPEN(latch, AQS_KIND_LATCH, number_of(count), options);
+    if (latch) *latch = NULL;
+    if (!is_count(count)) return AQS_OUT_OF_RANGE;
+    OPEN(latch, AQS_KIND_LATCH, (int32_t)count, options);
 }
 aqs_status_t aqs_latch_init(aqs_latch_t *latch, uint32_t count, const aqs_options_t *options) {
-    return init_object(&latch->object_, AQS_KIND_LATCH, number_of(count), options);
+    if (latch) OF(latch)->mark_ = AQS_IS_CLOSED_;
+    if (!is_count(count)) return AQS_OUT_OF_RANGE;
+    return init_object(OF(latch), AQS_KIND_LATCH, (int32_t)count, options);
 }
 void aqs_latch_close(aqs_latch_t *latch) { CLOSE(latch); }
-aqs_status_t aqs_latch_count_down(aqs_latch_t *latch) { return give(&latch->object_, 1); }
-aqs_status_t aqs_latch_await(aqs_latch_t *latch) { return acquire(&latch->object_, S, 1, PLAIN, 0, 0); }
+aqs_status_t aqs_latch_count_down(aqs_latch_t *latch) { return give(OF(latch), 1); }
+aqs_status_t aqs_latch_await(aqs_latch_t *latch) { return acquire(OF(latch), S, 1, PLAIN, 0, 0); }
 aqs_status_t aqs_latch_await_interruptibly(aqs_latch_t *latch) {
-    return acquire(&latch->object_, S, 1, INTERRUPTIBLE, 0, 0);
+    return acquire(OF(latch), S, 1, INTERRUPTIBLE, 0, 0);
 }
-aqs_status_t aqs_latch_timedawait(aqs_latch_t *latch, uint32_t ms) {
-    return acquire(&latch->object_, S, 1, TIMED, ms, 0);
+aqs_status_t aqs_latch_timedawait(aqs_latch_t *latch, int64_t ms) {
+    return acquire(OF(latch), S, 1, TIMED, ms, 0);
 }
 
 /* Without statuses --------------------------------------------------------------------------------------- */
@@ -1179,9 +1471,9 @@ static aqs_status_t status_of_kind(uint8_t kind) {
 }
 
 aqs_status_t aqs_sem_getvalue(aqs_sem_t *semaphore, int64_t *permits) {
-    aqs_object_t *object = &semaphore->object_;
+    aqs_object_t *object = OF(semaphore);
     aqs_status_t status = AQS_OK;
-    seat_t *seat = come(object, &status);
+    seat_t *seat = come(object, NULL, false, &status);
     if (!seat) return status;
     uint8_t kind;
     unsigned looks = 0;
@@ -1191,9 +1483,9 @@ aqs_status_t aqs_sem_getvalue(aqs_sem_t *semaphore, int64_t *permits) {
 }
 
 aqs_status_t aqs_latch_getcount(aqs_latch_t *latch, uint32_t *count) {
-    aqs_object_t *object = &latch->object_;
+    aqs_object_t *object = OF(latch);
     aqs_status_t status = AQS_OK;
-    seat_t *seat = come(object, &status);
+    seat_t *seat = come(object, NULL, false, &status);
     if (!seat) return status;
     uint8_t kind;
     unsigned looks = 0;
@@ -1205,7 +1497,7 @@ aqs_status_t aqs_latch_getcount(aqs_latch_t *latch, uint32_t *count) {
 /* Who has the object, and how many wait for it. */
 static aqs_status_t look_at(aqs_object_t *object, aqs_contention_t *contention) {
     aqs_status_t status = AQS_OK;
-    seat_t *seat = come(object, &status);
+    seat_t *seat = come(object, NULL, false, &status);
     if (!seat) return status;
     uint8_t kind;
     unsigned looks = 0;
@@ -1222,10 +1514,10 @@ static aqs_status_t is_held(aqs_object_t *object, aqs_bool_t *held) {
 }
 
 aqs_status_t aqs_lock_is_locked(aqs_lock_t *lock, aqs_bool_t *is_locked) {
-    return is_held(&lock->object_, is_locked);
+    return is_held(OF(lock), is_locked);
 }
 aqs_status_t aqs_rwlock_is_write_locked(aqs_rwlock_t *lock, aqs_bool_t *is_locked) {
-    return is_held(&lock->object_, is_locked);
+    return is_held(OF(lock), is_locked);
 }
 
 aqs_status_t aqs_object_queue_length(aqs_object_t *object, uint32_t *count) {
@@ -1249,26 +1541,71 @@ static uint64_t stays_of_self(const aqs_object_t *object) {
     return seat ? seat->stays : 0;
 }
 
-uint32_t aqs_lock_holds(aqs_lock_t *lock) { return (uint32_t)stays_of_self(&lock->object_); }
+uint32_t aqs_lock_holds(aqs_lock_t *lock) { return (uint32_t)stays_of_self(OF(lock)); }
 aqs_bool_t aqs_lock_is_mine(aqs_lock_t *lock) { return aqs_lock_holds(lock) > 0; }
-uint32_t aqs_rwlock_write_holds(aqs_rwlock_t *lock) { return (uint32_t)stays_of_self(&lock->object_); }
+uint32_t aqs_rwlock_write_holds(aqs_rwlock_t *lock) { return (uint32_t)stays_of_self(OF(lock)); }
 uint32_t aqs_rwlock_read_holds(aqs_rwlock_t *lock) {
-    return (uint32_t)(stays_of_self(&lock->object_) % ONE_WAIT / ONE_SHARED);
+    return (uint32_t)(stays_of_self(OF(lock)) % ONE_WAIT / ONE_SHARED);
 }
 aqs_bool_t aqs_rwlock_is_mine(aqs_rwlock_t *lock) { return aqs_rwlock_write_holds(lock) > 0; }
 
-aqs_policy_t aqs_object_policy(const aqs_object_t *object) { return (aqs_policy_t)object->policy_; }
+aqs_policy_t aqs_object_policy(const aqs_object_t *object) {
+    return object ? (aqs_policy_t)object->policy_ : AQS_NONFAIR;
+}
+
+/* Numbers of conditions: `users_` says how many conditions as objects have each, or that the number was
+   taken. */
+enum { IS_TAKEN = UINT16_MAX };
+
+aqs_status_t aqs_object_take_condition(aqs_object_t *object, uint8_t *number) {
+    if (!is_usable(object)) return AQS_MISUSE;
+    if (!has_owner(object->kind_)) return AQS_NO_SUCH_CONDITION;
+    uint8_t count = count_of_seats(object) ? object->conditions_ : AQS_CONDITIONS;
+    for (uint8_t i = 0; i < count; i++) {
+        uint16_t nobody = 0;
+        if (__atomic_compare_exchange_n(
+                &object->users_[i], &nobody, IS_TAKEN, false, __ATOMIC_ACQUIRE, __ATOMIC_RELAXED)) {
+            *number = i;
+            return AQS_OK;
+        }
+    }
+    return AQS_NO_SUCH_CONDITION;
+}
+
+void aqs_object_give_condition(aqs_object_t *object, uint8_t number) {
+    uint16_t taken = IS_TAKEN;
+    if (!is_usable(object) || number >= AQS_CONDITIONS) return;
+    (void)__atomic_compare_exchange_n(
+        &object->users_[number], &taken, 0, false, __ATOMIC_RELEASE, __ATOMIC_RELAXED);
+}
+
+/* Whether an address lies in a module that is loaded. */
+static int is_in_module(struct dl_phdr_info *module, size_t size, void *given) {
+    uintptr_t at = *(const uintptr_t *)given;
+    (void)size;
+    for (int i = 0; i < module->dlpi_phnum; i++) {
+        const ElfW(Phdr) *part = &module->dlpi_phdr[i];
+        uintptr_t begin = module->dlpi_addr + part->p_vaddr;
+        if (part->p_type == PT_LOAD && at - begin < part->p_memsz) return 1;
+    }
+    return 0;
+}
+
+aqs_bool_t aqs_is_static(const void *it) {
+    uintptr_t at = (uintptr_t)it;
+    return dl_iterate_phdr(is_in_module, &at) != 0;
+}
 
 /* Histories ---------------------------------------------------------------------------------------------- */
 
-aqs_object_t *aqs_lock_object(aqs_lock_t *lock) { return &lock->object_; }
-aqs_object_t *aqs_rwlock_object(aqs_rwlock_t *lock) { return &lock->object_; }
-aqs_object_t *aqs_sem_object(aqs_sem_t *semaphore) { return &semaphore->object_; }
-aqs_object_t *aqs_latch_object(aqs_latch_t *latch) { return &latch->object_; }
+aqs_object_t *aqs_lock_object(aqs_lock_t *lock) { return OF(lock); }
+aqs_object_t *aqs_rwlock_object(aqs_rwlock_t *lock) { return OF(lock); }
+aqs_object_t *aqs_sem_object(aqs_sem_t *semaphore) { return OF(semaphore); }
+aqs_object_t *aqs_latch_object(aqs_latch_t *latch) { return OF(latch); }
 
 aqs_status_t aqs_history_text(aqs_object_t *object, char *buffer, size_t size, size_t *length) {
     aqs_status_t status = AQS_OK;
-    seat_t *seat = come(object, &status);
+    seat_t *seat = come(object, NULL, false, &status);
     if (!seat) return status;
     uint8_t nothing[1] = {0}, kind;
     uint8_t *out = size ? (uint8_t *)buffer : nothing;
@@ -1297,9 +1634,81 @@ aqs_status_t aqs_history_write(aqs_object_t *object, FILE *file) {
     }
 }
 
+/* The name that the system has of the thread of a place, or had as the last one ended. "" if nobody had it.
+   */
+static void put_name(const place_t *place, char name[16]) {
+    char path[64];
+    pthread_mutex_lock(&numbering);
+    memcpy(name, place->name, 16);
+    pid_t thread = place->thread;
+    pthread_mutex_unlock(&numbering);
+    if (thread == 0) return;
+    snprintf(path, sizeof path, "/proc/self/task/%d/comm", (int)thread);
+    int file = open(path, O_RDONLY | O_CLOEXEC);
+    ssize_t length = file < 0 ? 0 : read(file, name, 15);
+    name[length > 0 ? length : 0] = 0;
+    if (file >= 0) (void)close(file);
+    name[strcspn(name, "\n")] = 0;
+}
+
+/* A line of a seat: its number and a name, in which there is nothing but letters, digits and signs. */
+static size_t put_line(char line[32], uint32_t seat, const place_t *place) {
+    char name[16];
+    put_name(place, name);
+    if (!name[0]) return 0;
+    for (char *at = name; *at; at++)
+        if (*at <= ' ' || *at > '~') *at = '_';
+    return (size_t)snprintf(line, 32, "%u %s\n", seat, name);
+}
+
+aqs_status_t aqs_history_names(aqs_object_t *object, char *buffer, size_t size, size_t *length) {
+    char lines[THREADS][32];
+    size_t lengths[THREADS], all = 0, count = 0;
+    aqs_status_t status = AQS_OK;
+    seat_t *seat = come(object, NULL, false, &status);
+    if (!seat) return status;
+    for (; count < count_of_seats(object); count++) {
+        const place_t *place = atomic_load_explicit(&object->seats_[count].place, memory_order_relaxed);
+        lengths[count] = place ? put_line(lines[count], (uint32_t)count, place) : 0;
+        all += lengths[count];
+    }
+    depart(object, seat);
+    *length = all;
+    if (all > size) return AQS_NO_SPACE;
+    for (size_t i = 0; i < count; i++) buffer = mempcpy(buffer, lines[i], lengths[i]);
+    return AQS_OK;
+}
+
+static aqs_status_t write_names(aqs_object_t *object, FILE *file) {
+    char text[THREADS * 32];
+    size_t length;
+    aqs_status_t status = aqs_history_names(object, text, sizeof text, &length);
+    return status == AQS_OK && fwrite(text, 1, length, file) != length ? AQS_IO_ERROR : status;
+}
+
+static aqs_status_t
+save(aqs_object_t *object, const char *path, aqs_status_t (*writes)(aqs_object_t *, FILE *)) {
+    FILE *file = fopen(path, "w");
+    if (!file) return AQS_IO_ERROR;
+    aqs_status_t status = writes(object, file);
+    return fclose(file) != 0 && status == AQS_OK ? AQS_IO_ERROR : status;
+}
+
+aqs_status_t aqs_history_save(aqs_object_t *object, const char *path) {
+    if (!is_usable(object) || !path) return AQS_MISUSE;
+    size_t size = strlen(path) + sizeof ".names";
+    char *names = malloc(size);
+    if (!names) return AQS_OUT_OF_MEMORY;
+    snprintf(names, size, "%s.names", path);
+    aqs_status_t status = save(object, path, aqs_history_write);
+    if (status == AQS_OK) status = save(object, names, write_names);
+    free(names);
+    return status;
+}
+
 aqs_status_t aqs_history_trim(aqs_object_t *object, uint64_t *count) {
     aqs_status_t status = AQS_OK;
-    seat_t *seat = come(object, &status);
+    seat_t *seat = come(object, NULL, false, &status);
     if (!seat) return status;
     uint64_t folded = 0;
     uint8_t kind = trim(seat, &folded);

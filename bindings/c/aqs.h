@@ -7,6 +7,7 @@
    Every call. Any thread may call any object, at the same time as others. A function returns AQS_OK, or a
    status that its comment names. Besides those, each may return
    - AQS_TOO_MANY_THREADS: all seats of the object are taken (see below);
+   - AQS_MISUSE: the object is NULL, or closed, as long as its memory is there;
    - AQS_OUT_OF_MEMORY, or AQS_HISTORY_FULL if the history is full (see below). An unlock never returns
      either: its room is set aside when the lock is acquired.
    After a status other than AQS_OK nothing has changed, unless the comment says otherwise. So a thread that
@@ -19,25 +20,27 @@
    Threads. A thread needs no preparation, and a process may have any number of them. An object has a number
    of seats, AQS_THREADS by default. A thread has a seat of it during each call, and from its first hold of a
    lock to its last unlock. So as many threads as there are seats can hold the object or wait for it at a
-   time. One more gets AQS_TOO_MANY_THREADS, also if it only comes to release or to signal: so open an object
-   for more threads than wait. A thread takes the seat that it had last, if that is free. In a history the
-   number of a line is that of a seat: another thread may have it later.
-   Destructors of thread-specific keys may make calls. A thread that ends while it owns a lock keeps its seat
-   and its number for good, so that no later thread is taken for the owner. The lock stays owned, and has one
-   seat less.
+   time. One more that asks to acquire waits for a seat first, and isn't in the history yet. It gets
+   AQS_TOO_MANY_THREADS only if the threads of all seats wait on conditions. A call that never waits gets that
+   at once: so open a lock for more threads than hold it to read or wait. The last seat of a semaphore or a
+   latch that has two or more is kept for calls that don't wait, such as a release. A thread takes the seat
+   that it had last, if that is free. In a history the number of a line is that of a seat: another thread may
+   have it later. Destructors of thread-specific keys may make calls. A thread that ends while it owns a lock
+   keeps its seat and its number for good, so that no later thread is taken for the owner. The lock stays
+   owned, and has one seat less.
 
    What the caller owes, since nothing checks it:
-   - A pointer to an object is one that its open call gave, or points to an object that was initialised (see
-     below), and stays where it is. No thread calls an object that is closed, or waits in a call of it. A call
-     whose effect another thread has seen may still be on its way out: a close waits for that. So a thread may
-     close a lock as soon as it was the last to unlock it, a latch as soon as it has passed it, and a
-     semaphore as soon as it has the last permit.
+   - A pointer to an object is NULL, or one that its open call gave, or points to an object that was
+     initialised (see below), and stays where it is. No thread calls an object that is closed, or waits in a
+     call of it. A call whose effect another thread has seen may still be on its way out: a close waits for
+     that. So a thread may close a lock as soon as it was the last to unlock it, a latch as soon as it has
+     passed it, and a semaphore as soon as it has the last permit.
    - No call is made from a signal handler, but for four (see below).
    - No thread is cancelled or killed in a call: the object would be busy for good.
 
    Times are in milliseconds from the call on, by CLOCK_MONOTONIC. A call may return later than that, but not
-   earlier, not even by a part of a millisecond. With 0 it doesn't wait. There is no number for "without end":
-   use the call without a time.
+   earlier, not even by a part of a millisecond. With 0 it doesn't wait. A time below 0 is AQS_OUT_OF_RANGE.
+   There is no number for "without end": use the call without a time.
 
    Forks. While a process forks, no thread changes an object. In the child the thread that forked is alone:
    what others held stays held, and those that waited stay in line. So there it may use what it held at the
@@ -111,18 +114,27 @@ typedef enum {
     AQS_HISTORY_FULL,      /* the history is full and kept, or too small for all holds and waiters: each of
                               them keeps room for the entry that ends it */
     AQS_OUT_OF_MEMORY,
-    AQS_OUT_OF_RANGE,      /* a number that the object can't be opened with, or that no thread has had */
+    AQS_OUT_OF_RANGE,      /* a number that the object can't be opened with, a time below 0, or a number that
+                              no thread has had. aqs_last_error says which it was */
     AQS_TOO_MANY_THREADS,  /* as many threads as the object has seats hold it or wait for it */
     AQS_NO_SPACE,          /* the buffer is too small */
     AQS_IO_ERROR,          /* the file couldn't be written */
-    AQS_MISUSE,            /* the thread is already in a call of the object, a condition is used with two
-                              locks, or memory was damaged */
+    AQS_MISUSE,            /* the object is NULL or closed, the thread is already in a call of it, a condition
+                              is used with two locks, or memory was damaged */
     AQS_HANDLER_RAN        /* a signal handler ran while the thread waited. Each call that may return
                               AQS_INTERRUPTED may return this, if its object heeds handlers */
 } aqs_status_t;
 
 /* Returns the name of a status, as "AQS_OK", or "no status". It is never NULL and lasts for good. */
 const char *aqs_status_name(aqs_status_t status);
+
+/* Says of the last AQS_OUT_OF_RANGE of the calling thread which number it was, as "threads must be 1 to 256,
+   not 257". It is "" if there was none, never NULL, and changes with the thread's next such status. */
+const char *aqs_last_error(void);
+
+/* Returns AQS_OUT_OF_RANGE, and has aqs_last_error say "NAME must be LEAST to MOST, not NUMBER". For a
+   synchroniser of your own. */
+AQS_CHECKED aqs_status_t aqs_out_of_range(const char *name, int64_t least, int64_t most, int64_t number);
 
 /* Which new calls queue up while others wait. A call by the owner never does.
    - AQS_NONFAIR: none; a new call may take what is free before the waiters do. The fastest.
@@ -143,7 +155,8 @@ typedef struct {
                                   entries that end it */
     uint16_t threads;          /* its seats: how many threads can hold it or wait for it at a time, 1 to
                                   AQS_THREADS. Default AQS_THREADS. Each takes memory */
-    uint8_t conditions;        /* of a lock or a read-write lock, 1 to 16. Default 1. Else 0 */
+    uint8_t conditions;        /* of a lock or a read-write lock, 1 to AQS_CONDITIONS. Default AQS_CONDITIONS.
+                                  Else 0 */
     aqs_bool_t heeds_handlers; /* whether a signal handler ends waits (see above). By default it doesn't */
 } aqs_options_t;
 
@@ -156,7 +169,14 @@ typedef struct aqs_object {
     uint8_t kind_, conditions_, policy_;
     aqs_bool_t keeps_, heeds_handlers_, is_ours_;
     uint16_t users_[AQS_CONDITIONS];
+    uint32_t mark_, seekers_, freed_;
 } aqs_object_t;
+
+/* What an object is, by its mark: bytes 0 before it is opened, if it opens at its first call. */
+#define AQS_IS_NEW_ 0u
+#define AQS_IS_OPEN_ 0x6e65706fu
+#define AQS_OPENED_AT_FIRST_CALL_ 0x74617473u
+#define AQS_IS_CLOSED_ 0x736f6c63u
 
 typedef struct aqs_lock {
     aqs_object_t object_;
@@ -182,10 +202,10 @@ typedef struct aqs_cond {
 typedef struct aqs_barrier aqs_barrier_t;
 
 /* Static objects: aqs_lock_t lock = AQS_LOCK_INIT; Each opens at its first call, which returns
-   AQS_OUT_OF_MEMORY if it can't, and the next call tries again. It has the default options, and
-   AQS_CONDITIONS conditions if it has any. A lock and a mutex may also be set to bytes 0. A close frees what
-   the object took, and it opens again at the next call. */
-#define AQS_OBJECT_INIT_(kind, number) {NULL, number, 0, kind, 0, 0, 0, 0, 0, {0}}
+   AQS_OUT_OF_MEMORY if it can't, and the next call tries again. It has the default options. A lock and a
+   mutex may also be set to bytes 0. A close frees what the object took, and it opens again at the next call.
+   */
+#define AQS_OBJECT_INIT_(kind, number) {NULL, number, 0, kind, 0, 0, 0, 0, 0, {0}, AQS_IS_NEW_, 0, 0}
 #define AQS_LOCK_INIT {AQS_OBJECT_INIT_(0, 0)}
 #define AQS_RWLOCK_INIT {AQS_OBJECT_INIT_(1, 0)}
 #define AQS_SEM_INIT(permits) {AQS_OBJECT_INIT_(2, permits)}
@@ -222,7 +242,8 @@ AQS_CHECKED aqs_status_t aqs_lock_open(aqs_lock_t **lock, const aqs_options_t *o
    not be closed. AQS_OUT_OF_RANGE. */
 AQS_CHECKED aqs_status_t aqs_lock_init(aqs_lock_t *lock, const aqs_options_t *options);
 /* Closes a lock and frees its memory, but for memory of the caller. Nobody should own it: a thread that does
-   keeps its number for good. NULL does nothing. */
+   keeps its number for good. NULL does nothing, nor does a lock that is closed, as long as its memory is
+   there. */
 void aqs_lock_close(aqs_lock_t *lock);
 
 /* Acquires the lock, and waits while another thread owns it. The owner acquires it once more at once, and has
@@ -232,7 +253,7 @@ AQS_CHECKED aqs_status_t aqs_lock_lock(aqs_lock_t *lock);
 AQS_CHECKED aqs_status_t aqs_lock_lock_interruptibly(aqs_lock_t *lock);
 /* The same, for at most this time. With 0 it doesn't wait, but minds the queue of a fair lock, as trylock
    doesn't. AQS_TIMED_OUT, AQS_INTERRUPTED, AQS_TOO_MANY_HOLDS. */
-AQS_CHECKED aqs_status_t aqs_lock_timedlock(aqs_lock_t *lock, uint32_t milliseconds);
+AQS_CHECKED aqs_status_t aqs_lock_timedlock(aqs_lock_t *lock, int64_t milliseconds);
 /* Acquires the lock if no other thread owns it, before those who wait, unless the policy is AQS_STRICT.
    AQS_WOULD_BLOCK, AQS_TOO_MANY_HOLDS. */
 AQS_CHECKED aqs_status_t aqs_lock_trylock(aqs_lock_t *lock);
@@ -256,7 +277,7 @@ AQS_CHECKED aqs_status_t aqs_lock_wait(aqs_lock_t *lock, uint8_t condition);
 AQS_CHECKED aqs_status_t aqs_lock_wait_interruptibly(aqs_lock_t *lock, uint8_t condition);
 /* The same, for at most this time, to which the wait to have the lock again is added. After any status the
    thread owns the lock as before. AQS_TIMED_OUT, AQS_INTERRUPTED, AQS_NOT_OWNER, AQS_NO_SUCH_CONDITION. */
-AQS_CHECKED aqs_status_t aqs_lock_timedwait(aqs_lock_t *lock, uint8_t condition, uint32_t milliseconds);
+AQS_CHECKED aqs_status_t aqs_lock_timedwait(aqs_lock_t *lock, uint8_t condition, int64_t milliseconds);
 /* Moves the thread that has waited longest on the condition to the queue for the lock. If nobody waits there,
    nothing happens, and the signal isn't kept. AQS_NOT_OWNER, AQS_NO_SUCH_CONDITION. */
 AQS_CHECKED aqs_status_t aqs_lock_signal(aqs_lock_t *lock, uint8_t condition);
@@ -278,7 +299,7 @@ void aqs_rwlock_close(aqs_rwlock_t *lock);
    new reader waits if the first waiter wants to write, unless it reads already or only tries. */
 AQS_CHECKED aqs_status_t aqs_rwlock_rdlock(aqs_rwlock_t *lock);
 AQS_CHECKED aqs_status_t aqs_rwlock_rdlock_interruptibly(aqs_rwlock_t *lock);
-AQS_CHECKED aqs_status_t aqs_rwlock_timedrdlock(aqs_rwlock_t *lock, uint32_t milliseconds);
+AQS_CHECKED aqs_status_t aqs_rwlock_timedrdlock(aqs_rwlock_t *lock, int64_t milliseconds);
 AQS_CHECKED aqs_status_t aqs_rwlock_tryrdlock(aqs_rwlock_t *lock);
 /* Gives one read hold of the calling thread back. AQS_NOT_OWNER. There is no call that unlocks either side.
    */
@@ -287,7 +308,7 @@ AQS_CHECKED aqs_status_t aqs_rwlock_rdunlock(aqs_rwlock_t *lock);
 /* The write side: each call does and returns what that of a lock does. */
 AQS_CHECKED aqs_status_t aqs_rwlock_wrlock(aqs_rwlock_t *lock);
 AQS_CHECKED aqs_status_t aqs_rwlock_wrlock_interruptibly(aqs_rwlock_t *lock);
-AQS_CHECKED aqs_status_t aqs_rwlock_timedwrlock(aqs_rwlock_t *lock, uint32_t milliseconds);
+AQS_CHECKED aqs_status_t aqs_rwlock_timedwrlock(aqs_rwlock_t *lock, int64_t milliseconds);
 AQS_CHECKED aqs_status_t aqs_rwlock_trywrlock(aqs_rwlock_t *lock);
 AQS_CHECKED aqs_status_t aqs_rwlock_wrunlock(aqs_rwlock_t *lock);
 /* Return how often the calling thread holds each side, and whether it has the write side. They record
@@ -302,7 +323,7 @@ AQS_CHECKED aqs_status_t aqs_rwlock_is_write_locked(aqs_rwlock_t *lock, aqs_bool
    writes also reads. */
 AQS_CHECKED aqs_status_t aqs_rwlock_wait(aqs_rwlock_t *lock, uint8_t condition);
 AQS_CHECKED aqs_status_t aqs_rwlock_wait_interruptibly(aqs_rwlock_t *lock, uint8_t condition);
-AQS_CHECKED aqs_status_t aqs_rwlock_timedwait(aqs_rwlock_t *lock, uint8_t condition, uint32_t milliseconds);
+AQS_CHECKED aqs_status_t aqs_rwlock_timedwait(aqs_rwlock_t *lock, uint8_t condition, int64_t milliseconds);
 AQS_CHECKED aqs_status_t aqs_rwlock_signal(aqs_rwlock_t *lock, uint8_t condition);
 AQS_CHECKED aqs_status_t aqs_rwlock_signal_all(aqs_rwlock_t *lock, uint8_t condition);
 
@@ -321,7 +342,7 @@ AQS_CHECKED aqs_status_t aqs_sem_acquire(aqs_sem_t *semaphore, uint32_t n);
 /* The same, but an interrupt ends the wait. AQS_INTERRUPTED, AQS_BAD_AMOUNT. */
 AQS_CHECKED aqs_status_t aqs_sem_acquire_interruptibly(aqs_sem_t *semaphore, uint32_t n);
 /* The same, for at most this time. AQS_TIMED_OUT, AQS_INTERRUPTED, AQS_BAD_AMOUNT. */
-AQS_CHECKED aqs_status_t aqs_sem_timedacquire(aqs_sem_t *semaphore, uint32_t n, uint32_t milliseconds);
+AQS_CHECKED aqs_status_t aqs_sem_timedacquire(aqs_sem_t *semaphore, uint32_t n, int64_t milliseconds);
 /* Takes n permits if so many are free. AQS_WOULD_BLOCK, AQS_BAD_AMOUNT. */
 AQS_CHECKED aqs_status_t aqs_sem_tryacquire(aqs_sem_t *semaphore, uint32_t n);
 /* Adds n permits. Any thread may release, whether it acquired or not. A release needs room in the history
@@ -350,7 +371,7 @@ AQS_CHECKED aqs_status_t aqs_latch_await(aqs_latch_t *latch);
 /* The same, but an interrupt ends the wait. AQS_INTERRUPTED. */
 AQS_CHECKED aqs_status_t aqs_latch_await_interruptibly(aqs_latch_t *latch);
 /* The same, for at most this time. With 0 it only looks. AQS_TIMED_OUT, AQS_INTERRUPTED. */
-AQS_CHECKED aqs_status_t aqs_latch_timedawait(aqs_latch_t *latch, uint32_t milliseconds);
+AQS_CHECKED aqs_status_t aqs_latch_timedawait(aqs_latch_t *latch, int64_t milliseconds);
 /* Puts the count into *count. Another thread may lower it before the caller reads it; 0 stays. */
 AQS_CHECKED aqs_status_t aqs_latch_getcount(aqs_latch_t *latch, uint32_t *count);
 
@@ -364,12 +385,12 @@ AQS_CHECKED aqs_status_t aqs_mutex_init(aqs_mutex_t *mutex, const aqs_options_t 
 void aqs_mutex_close(aqs_mutex_t *mutex);
 AQS_CHECKED aqs_status_t aqs_mutex_lock(aqs_mutex_t *mutex);
 AQS_CHECKED aqs_status_t aqs_mutex_lock_interruptibly(aqs_mutex_t *mutex);
-AQS_CHECKED aqs_status_t aqs_mutex_timedlock(aqs_mutex_t *mutex, uint32_t milliseconds);
+AQS_CHECKED aqs_status_t aqs_mutex_timedlock(aqs_mutex_t *mutex, int64_t milliseconds);
 AQS_CHECKED aqs_status_t aqs_mutex_trylock(aqs_mutex_t *mutex);
 AQS_CHECKED aqs_status_t aqs_mutex_unlock(aqs_mutex_t *mutex);
 AQS_CHECKED aqs_status_t aqs_mutex_wait(aqs_mutex_t *mutex, uint8_t condition);
 AQS_CHECKED aqs_status_t aqs_mutex_wait_interruptibly(aqs_mutex_t *mutex, uint8_t condition);
-AQS_CHECKED aqs_status_t aqs_mutex_timedwait(aqs_mutex_t *mutex, uint8_t condition, uint32_t milliseconds);
+AQS_CHECKED aqs_status_t aqs_mutex_timedwait(aqs_mutex_t *mutex, uint8_t condition, int64_t milliseconds);
 AQS_CHECKED aqs_status_t aqs_mutex_signal(aqs_mutex_t *mutex, uint8_t condition);
 AQS_CHECKED aqs_status_t aqs_mutex_signal_all(aqs_mutex_t *mutex, uint8_t condition);
 /* Return whether the calling thread owns the mutex, and whether any thread does. They record nothing. */
@@ -397,7 +418,7 @@ aqs_lock_t *aqs_mutex_as_lock(aqs_mutex_t *mutex);
    nothing stays. */
 AQS_CHECKED aqs_status_t aqs_cond_wait(aqs_cond_t *condition, aqs_lock_t *lock);
 AQS_CHECKED aqs_status_t aqs_cond_wait_interruptibly(aqs_cond_t *condition, aqs_lock_t *lock);
-AQS_CHECKED aqs_status_t aqs_cond_timedwait(aqs_cond_t *condition, aqs_lock_t *lock, uint32_t milliseconds);
+AQS_CHECKED aqs_status_t aqs_cond_timedwait(aqs_cond_t *condition, aqs_lock_t *lock, int64_t milliseconds);
 /* Signal the condition, as those of a lock do. If nobody waits there, nothing happens, and nothing is
    recorded. Any thread may signal: one that doesn't own the lock acquires it for the signal. */
 AQS_CHECKED aqs_status_t aqs_cond_signal(aqs_cond_t *condition);
@@ -431,6 +452,16 @@ aqs_object_t *aqs_barrier_object(aqs_barrier_t *barrier);
 /* Returns the policy that the object was opened with. */
 aqs_policy_t aqs_object_policy(const aqs_object_t *object);
 
+/* Puts the least number of a condition that nobody has taken into *number, and takes it.
+   AQS_NO_SUCH_CONDITION: all are taken, or conditions as objects have them. Who gives his conditions their
+   numbers himself doesn't use it with the same object. It records nothing. */
+AQS_CHECKED aqs_status_t aqs_object_take_condition(aqs_object_t *object, uint8_t *number);
+/* Gives a number back that was taken. Nobody waits on that condition any more. */
+void aqs_object_give_condition(aqs_object_t *object, uint8_t number);
+
+/* Returns whether something lies in static memory of the program or of a library that is loaded. */
+aqs_bool_t aqs_is_static(const void *it);
+
 /* Put into *count how many threads are in the object's queue: those that wait for the lock, for permits or for
    the latch; and how many wait in all: those in the queue, and those that wait on conditions. Others may come
    or leave before the caller reads it. They record nothing. */
@@ -445,6 +476,13 @@ AQS_CHECKED aqs_status_t aqs_object_waiters(aqs_object_t *object, uint32_t *coun
 AQS_CHECKED aqs_status_t aqs_history_text(aqs_object_t *object, char *buffer, size_t size, size_t *length);
 /* Writes that text to a file, which the caller opened and closes. AQS_IO_ERROR: some of it may be written. */
 AQS_CHECKED aqs_status_t aqs_history_write(aqs_object_t *object, FILE *file);
+/* Puts the names of the seats into a buffer, as aqs_history_text does: for each seat a line with its number
+   and the name that the system has of the thread which had it last. `aqs draw --names` reads them. A name of
+   no thread is left out. */
+AQS_CHECKED aqs_status_t aqs_history_names(aqs_object_t *object, char *buffer, size_t size, size_t *length);
+/* Writes the history to a file of this path, and the names of its seats to a file PATH.names. AQS_IO_ERROR.
+   */
+AQS_CHECKED aqs_status_t aqs_history_save(aqs_object_t *object, const char *path);
 /* Forgets the entries, and puts their number into *count unless that is NULL. Nothing else changes: who owns
    and who waits stays recorded as the state from which the history goes on. */
 AQS_CHECKED aqs_status_t aqs_history_trim(aqs_object_t *object, uint64_t *count);

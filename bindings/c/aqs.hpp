@@ -1,24 +1,26 @@
 // aqs.hpp: the synchronisers of aqs.h for C++11 and later. A header alone; link with aqs.
 //
-//   aqs::mutex mutex;                        // reentrant; std::lock_guard and std::unique_lock take it
-//   aqs::condition not_empty = mutex.condition();
+//   aqs::recursive_mutex mutex;              // reentrant, as is aqs::mutex, which is the same
+//   aqs::condition not_empty = mutex.condition(), not_full = mutex.condition();  // two conditions of it
 //   { std::unique_lock guard(mutex); not_empty.wait(guard, [&] { return !queue.empty(); }); }
 //
+//   aqs::plain_mutex plain;                  // not reentrant, as std::mutex; std::lock_guard takes each
 //   aqs::shared_mutex table_mutex;           // std::shared_lock too
-//   aqs::plain_mutex plain;                  // not reentrant
-//   aqs::semaphore permits(3);
+//   aqs::semaphore permits(3);               // and aqs::counting_semaphore<3>, aqs::binary_semaphore
 //   aqs::latch ready(4);
 //   aqs::barrier all_came(4);
 //   aqs::condition_variable changed;         // of any lock of these, bound to it while threads wait
+//   aqs::condition_variable_any any;         // of any lock at all, with stop tokens in C++20
 //
 // Locks, semaphores and latches without options may be static: they open at their first call, by constant
-// initialisation. One in use can't be moved, and so has no move.
+// initialisation. One in use can't be moved, and so has no move. One that is static isn't closed as the
+// program exits, so threads that still run may go on with it.
 //
 // What can't be done throws aqs::error, which has the status. Timeouts, interrupts and tries return false. So
 // do waits that a signal handler ended, of an object that was opened with handlers_end_waits().
 // With AQS_NO_EXCEPTIONS, or if the compiler makes no exceptions, what can't be done ends the program.
 //
-// A time may be of any length: one that is longer than a call of aqs.h takes is waited for in pieces.
+// A time may be of any length.
 #ifndef AQS_HPP
 #define AQS_HPP
 
@@ -26,12 +28,20 @@
 
 #include <chrono>
 #include <cmath>
+#include <condition_variable>
 #include <cstddef>
 #include <cstdint>
+#include <memory>
 #include <mutex>
 #include <ratio>
 #include <string>
 #include <system_error>
+#include <utility>
+#if __cplusplus >= 202002L && defined(__has_include)
+#if __has_include(<stop_token>)
+#include <stop_token>
+#endif
+#endif
 
 #if !defined(AQS_NO_EXCEPTIONS) && defined(__GNUC__) && !defined(__EXCEPTIONS)
 #define AQS_NO_EXCEPTIONS
@@ -69,6 +79,12 @@ public:
             default: return std::error_condition(status, *this);
         }
     }
+
+    // A second lock by the owner of a mutex that isn't reentrant is this one too.
+    bool equivalent(int status, const std::error_condition &condition) const noexcept override {
+        return default_error_condition(status) == condition
+               || (status == AQS_TOO_MANY_HOLDS && condition == std::errc::resource_deadlock_would_occur);
+    }
 };
 
 }  // namespace detail
@@ -91,12 +107,37 @@ struct options : aqs_options_t {
     options() : aqs_options_t{} {}
     options &fair() { policy = AQS_FAIR; return *this; }
     options &strict() { policy = AQS_STRICT; return *this; }
-    options &keeps_history() { when_full = AQS_REFUSE; return *this; }
+    options &keep_history() { when_full = AQS_REFUSE; return *this; }
     options &most_entries(std::uint32_t entries) { history = entries; return *this; }
-    options &most_threads(std::uint16_t number) { threads = number; return *this; }
-    options &has_conditions(std::uint8_t number) { conditions = number; return *this; }
+    options &threads(std::uint16_t number) { aqs_options_t::threads = number; return *this; }
+    options &conditions(std::uint8_t number) { aqs_options_t::conditions = number; return *this; }
     options &handlers_end_waits() { heeds_handlers = true; return *this; }
 };
+
+using std::cv_status;
+
+// How a wait with a time ended: true if it has what it waited for. It is a cv_status too, which is timeout
+// only if the time was up.
+class wait_result {
+public:
+    constexpr explicit wait_result(aqs_status_t status) noexcept : status_(status) {}
+    constexpr operator bool() const noexcept { return status_ == AQS_OK; }
+    constexpr operator cv_status() const noexcept {
+        return status_ == AQS_TIMED_OUT ? cv_status::timeout : cv_status::no_timeout;
+    }
+    // AQS_OK, AQS_TIMED_OUT, AQS_INTERRUPTED or AQS_HANDLER_RAN.
+    constexpr aqs_status_t status() const noexcept { return status_; }
+
+private:
+    aqs_status_t status_;
+};
+
+constexpr bool operator==(wait_result result, cv_status status) noexcept {
+    return static_cast<cv_status>(result) == status;
+}
+constexpr bool operator!=(wait_result result, cv_status status) noexcept { return !(result == status); }
+constexpr bool operator==(cv_status status, wait_result result) noexcept { return result == status; }
+constexpr bool operator!=(cv_status status, wait_result result) noexcept { return !(result == status); }
 
 namespace detail {
 
@@ -116,24 +157,32 @@ inline bool check_taken(aqs_status_t status) {
     return true;
 }
 
+// How a wait ended that may end without.
+inline wait_result result_of(aqs_status_t status) {
+    (void)check_taken(status);
+    return wait_result(status);
+}
+
+// Closes an object, unless it is static: other threads may go on with it while the program exits.
+template <class Object>
+void close_unless_static(void (*close)(Object *), Object *object) {
+    if (!aqs_is_static(object)) close(object);
+}
+
 // Times in milliseconds. No duration is too long for this type.
 typedef std::chrono::duration<long double, std::milli> milliseconds;
 
-// What one call of aqs.h may wait of a time: rounded up, from 0 to some 49 days.
-inline std::uint32_t piece_of(milliseconds time) {
+// A time for a call of aqs.h: rounded up, from 0 to some 292 million years.
+inline std::int64_t whole(milliseconds time) {
+    constexpr std::int64_t longest = INT64_MAX - 807;
     if (!(time.count() > 0)) return 0;
-    return time.count() < UINT32_MAX ? static_cast<std::uint32_t>(std::ceil(time.count())) : UINT32_MAX;
+    return time.count() < longest ? static_cast<std::int64_t>(std::ceil(time.count())) : longest;
 }
 
-// Makes a call with a time, and again with what is left of it.
+// Makes a call with a time.
 template <class Call>
 aqs_status_t for_time(milliseconds time, Call call) {
-    for (;;) {
-        const std::uint32_t piece = piece_of(time);
-        const aqs_status_t status = call(piece);
-        time -= milliseconds(piece);
-        if (status != AQS_TIMED_OUT || !(time.count() > 0)) return status;
-    }
+    return call(whole(time));
 }
 
 // Makes a call with the time that a moment is away, and again until the clock shows the moment.
@@ -143,19 +192,20 @@ aqs_status_t until_moment(const std::chrono::time_point<Clock, Duration> &moment
     const milliseconds awaited = moment.time_since_epoch();
     for (;;) {
         const milliseconds shown = Clock::now().time_since_epoch();
-        const aqs_status_t status = call(piece_of(awaited - shown));
+        const aqs_status_t status = call(whole(awaited - shown));
         const milliseconds reached = Clock::now().time_since_epoch();
         if (status != AQS_TIMED_OUT || !(reached < awaited)) return status;
     }
 }
 
-// The text of an object's history since its last trim. Other threads may lengthen it between two tries. So
-// each try has twice the spare room, until the room is twice the text.
-inline std::string history(aqs_object_t *object) {
+// A text of an object. Other threads may lengthen it between two tries. So each try has twice the spare room,
+// until the room is twice the text.
+inline std::string text_by(
+    aqs_status_t (*puts)(aqs_object_t *, char *, std::size_t, std::size_t *), aqs_object_t *object) {
     std::string text;
     std::size_t length = 0, share = 8;
     aqs_status_t status;
-    while ((status = aqs_history_text(object, &text[0], text.size(), &length)) == AQS_NO_SPACE) {
+    while ((status = puts(object, &text[0], text.size(), &length)) == AQS_NO_SPACE) {
         text.resize(length + length / share);
         if (share > 1) share /= 2;
     }
@@ -163,6 +213,10 @@ inline std::string history(aqs_object_t *object) {
     text.resize(length);
     return text;
 }
+
+// The text of an object's history since its last trim, and the names of its seats.
+inline std::string history(aqs_object_t *object) { return text_by(aqs_history_text, object); }
+inline std::string history_names(aqs_object_t *object) { return text_by(aqs_history_names, object); }
 
 // How many threads are in the object's queue, and how many wait in all: those there, and those on conditions.
 // Others may come or leave before the caller reads it. They record nothing.
@@ -186,11 +240,29 @@ inline std::uint64_t trim(aqs_object_t *object) {
 
 }  // namespace detail
 
-// A condition of a lock or of the write side of a read-write lock, by its number. It lasts as long as that.
+// A condition of a lock or of the write side of a read-write lock. It ends before that. One that was made
+// without a number has one of its own, which it gives back at its end: nobody waits then.
 template <class Lock>
 class basic_condition {
 public:
-    basic_condition(Lock &lock, std::uint8_t number) : lock_(&lock), number_(number) {}
+    // Throws AQS_NO_SUCH_CONDITION if the lock has none left.
+    explicit basic_condition(Lock &lock) : lock_(&lock), is_own_(true) {
+        detail::check(aqs_object_take_condition(lock.as_object(), &number_));
+    }
+    // The condition of a number, for who gives each its number himself. Don't mix the two ways at one lock.
+    basic_condition(Lock &lock, std::uint8_t number) : lock_(&lock), number_(number), is_own_(false) {}
+    ~basic_condition() { give_back(); }
+    basic_condition(const basic_condition &) = delete;
+    basic_condition &operator=(const basic_condition &) = delete;
+    basic_condition(basic_condition &&other) noexcept
+        : lock_(other.lock_), number_(other.number_), is_own_(taken(other.is_own_)) {}
+    basic_condition &operator=(basic_condition &&other) noexcept {
+        if (this != &other) {
+            give_back();
+            lock_ = other.lock_, number_ = other.number_, is_own_ = taken(other.is_own_);
+        }
+        return *this;
+    }
 
     // Sleeps until it is signalled. The caller owns the lock, as `guard` says.
     void wait(std::unique_lock<Lock> &guard) { owned(guard).wait(number_); }
@@ -202,12 +274,13 @@ public:
 
     // False if the time was up, or the thread was interrupted. It owns the lock again.
     template <class Rep, class Period>
-    bool wait_for(std::unique_lock<Lock> &guard, const std::chrono::duration<Rep, Period> &time) {
+    wait_result wait_for(std::unique_lock<Lock> &guard, const std::chrono::duration<Rep, Period> &time) {
         return owned(guard).timed_wait(number_, time);
     }
 
     template <class Clock, class Duration>
-    bool wait_until(std::unique_lock<Lock> &guard, const std::chrono::time_point<Clock, Duration> &moment) {
+    wait_result
+    wait_until(std::unique_lock<Lock> &guard, const std::chrono::time_point<Clock, Duration> &moment) {
         return owned(guard).timed_wait_until(number_, moment);
     }
 
@@ -246,8 +319,19 @@ private:
         return *lock_;
     }
 
+    void give_back() noexcept {
+        if (is_own_) aqs_object_give_condition(lock_->as_object(), number_);
+    }
+
+    static bool taken(bool &is_own) noexcept {
+        const bool was_own = is_own;
+        is_own = false;
+        return was_own;
+    }
+
     Lock *lock_;
-    std::uint8_t number_;
+    std::uint8_t number_ = 0;
+    bool is_own_;
 };
 
 // A reentrant lock, which std::lock_guard, std::unique_lock and std::scoped_lock take.
@@ -259,7 +343,7 @@ public:
     explicit mutex(const options &how) : lock_ AQS_LOCK_INIT {
         detail::check(aqs_lock_init(&lock_, &how));
     }
-    ~mutex() { aqs_lock_close(&lock_); }
+    ~mutex() { detail::close_unless_static(aqs_lock_close, &lock_); }
     mutex(const mutex &) = delete;
     mutex &operator=(const mutex &) = delete;
 
@@ -278,8 +362,16 @@ public:
         return detail::check_taken(detail::until_moment(moment, timed_lock{&lock_}));
     }
 
-    basic_condition<mutex> condition(std::uint8_t number = 0) { return {*this, number}; }
+    // A condition that nobody else has. With a number it is that of this number, for who gives the numbers
+    // himself.
+    basic_condition<mutex> condition() { return basic_condition<mutex>(*this); }
+    basic_condition<mutex> condition(std::uint8_t number) { return basic_condition<mutex>(*this, number); }
     std::string history() const { return detail::history(aqs_lock_object(&lock_)); }
+    // Writes the history to a file of this path, and the names of its threads to PATH.names.
+    void save_history(const std::string &path) const {
+        detail::check(aqs_history_save(aqs_lock_object(&lock_), path.c_str()));
+    }
+    std::string history_names() const { return detail::history_names(aqs_lock_object(&lock_)); }
     std::uint64_t trim() { return detail::trim(aqs_lock_object(&lock_)); }
     // Whether the calling thread owns it, and how often. They record nothing.
     bool is_mine() const noexcept { return aqs_lock_is_mine(&lock_); }
@@ -299,27 +391,28 @@ private:
     friend class basic_condition<mutex>;
     friend class condition_variable;
     aqs_lock_t *as_lock() noexcept { return &lock_; }
+    aqs_object_t *as_object() noexcept { return aqs_lock_object(&lock_); }
 
     struct timed_lock {
         aqs_lock_t *lock;
-        aqs_status_t operator()(std::uint32_t time) { return aqs_lock_timedlock(lock, time); }
+        aqs_status_t operator()(std::int64_t time) { return aqs_lock_timedlock(lock, time); }
     };
     struct timed_await {
         aqs_lock_t *lock;
         std::uint8_t condition;
-        aqs_status_t operator()(std::uint32_t time) { return aqs_lock_timedwait(lock, condition, time); }
+        aqs_status_t operator()(std::int64_t time) { return aqs_lock_timedwait(lock, condition, time); }
     };
 
     void wait(std::uint8_t number) { detail::check(aqs_lock_wait(&lock_, number)); }
     bool wait_interruptibly(std::uint8_t number) {
         return detail::check_taken(aqs_lock_wait_interruptibly(&lock_, number));
     }
-    bool timed_wait(std::uint8_t number, detail::milliseconds time) {
-        return detail::check_taken(detail::for_time(time, timed_await{&lock_, number}));
+    wait_result timed_wait(std::uint8_t number, detail::milliseconds time) {
+        return detail::result_of(detail::for_time(time, timed_await{&lock_, number}));
     }
     template <class Moment>
-    bool timed_wait_until(std::uint8_t number, const Moment &moment) {
-        return detail::check_taken(detail::until_moment(moment, timed_await{&lock_, number}));
+    wait_result timed_wait_until(std::uint8_t number, const Moment &moment) {
+        return detail::result_of(detail::until_moment(moment, timed_await{&lock_, number}));
     }
     void signal(std::uint8_t number) { detail::check(aqs_lock_signal(&lock_, number)); }
     void signal_all(std::uint8_t number) { detail::check(aqs_lock_signal_all(&lock_, number)); }
@@ -336,7 +429,7 @@ public:
     explicit plain_mutex(const options &how) : mutex_ AQS_MUTEX_INIT {
         detail::check(aqs_mutex_init(&mutex_, &how));
     }
-    ~plain_mutex() { aqs_mutex_close(&mutex_); }
+    ~plain_mutex() { detail::close_unless_static(aqs_mutex_close, &mutex_); }
     plain_mutex(const plain_mutex &) = delete;
     plain_mutex &operator=(const plain_mutex &) = delete;
 
@@ -355,8 +448,18 @@ public:
         return detail::check_taken(detail::until_moment(moment, timed_lock{&mutex_}));
     }
 
-    basic_condition<plain_mutex> condition(std::uint8_t number = 0) { return {*this, number}; }
+    // A condition that nobody else has. With a number it is that of this number, for who gives the numbers
+    // himself.
+    basic_condition<plain_mutex> condition() { return basic_condition<plain_mutex>(*this); }
+    basic_condition<plain_mutex> condition(std::uint8_t number) {
+        return basic_condition<plain_mutex>(*this, number);
+    }
     std::string history() const { return detail::history(aqs_mutex_object(&mutex_)); }
+    // Writes the history to a file of this path, and the names of its threads to PATH.names.
+    void save_history(const std::string &path) const {
+        detail::check(aqs_history_save(aqs_mutex_object(&mutex_), path.c_str()));
+    }
+    std::string history_names() const { return detail::history_names(aqs_mutex_object(&mutex_)); }
     std::uint64_t trim() { return detail::trim(aqs_mutex_object(&mutex_)); }
     // Whether the calling thread owns it. It records nothing.
     bool is_mine() const noexcept { return aqs_mutex_is_mine(&mutex_); }
@@ -375,27 +478,28 @@ private:
     friend class basic_condition<plain_mutex>;
     friend class condition_variable;
     aqs_lock_t *as_lock() noexcept { return aqs_mutex_as_lock(&mutex_); }
+    aqs_object_t *as_object() noexcept { return aqs_mutex_object(&mutex_); }
 
     struct timed_lock {
         aqs_mutex_t *lock;
-        aqs_status_t operator()(std::uint32_t time) { return aqs_mutex_timedlock(lock, time); }
+        aqs_status_t operator()(std::int64_t time) { return aqs_mutex_timedlock(lock, time); }
     };
     struct timed_await {
         aqs_mutex_t *lock;
         std::uint8_t condition;
-        aqs_status_t operator()(std::uint32_t time) { return aqs_mutex_timedwait(lock, condition, time); }
+        aqs_status_t operator()(std::int64_t time) { return aqs_mutex_timedwait(lock, condition, time); }
     };
 
     void wait(std::uint8_t number) { detail::check(aqs_mutex_wait(&mutex_, number)); }
     bool wait_interruptibly(std::uint8_t number) {
         return detail::check_taken(aqs_mutex_wait_interruptibly(&mutex_, number));
     }
-    bool timed_wait(std::uint8_t number, detail::milliseconds time) {
-        return detail::check_taken(detail::for_time(time, timed_await{&mutex_, number}));
+    wait_result timed_wait(std::uint8_t number, detail::milliseconds time) {
+        return detail::result_of(detail::for_time(time, timed_await{&mutex_, number}));
     }
     template <class Moment>
-    bool timed_wait_until(std::uint8_t number, const Moment &moment) {
-        return detail::check_taken(detail::until_moment(moment, timed_await{&mutex_, number}));
+    wait_result timed_wait_until(std::uint8_t number, const Moment &moment) {
+        return detail::result_of(detail::until_moment(moment, timed_await{&mutex_, number}));
     }
     void signal(std::uint8_t number) { detail::check(aqs_mutex_signal(&mutex_, number)); }
     void signal_all(std::uint8_t number) { detail::check(aqs_mutex_signal_all(&mutex_, number)); }
@@ -412,7 +516,7 @@ public:
     explicit shared_mutex(const options &how) : lock_ AQS_RWLOCK_INIT {
         detail::check(aqs_rwlock_init(&lock_, &how));
     }
-    ~shared_mutex() { aqs_rwlock_close(&lock_); }
+    ~shared_mutex() { detail::close_unless_static(aqs_rwlock_close, &lock_); }
     shared_mutex(const shared_mutex &) = delete;
     shared_mutex &operator=(const shared_mutex &) = delete;
 
@@ -446,8 +550,18 @@ public:
         return detail::check_taken(detail::until_moment(moment, timed_read{&lock_}));
     }
 
-    basic_condition<shared_mutex> condition(std::uint8_t number = 0) { return {*this, number}; }
+    // A condition that nobody else has. With a number it is that of this number, for who gives the numbers
+    // himself.
+    basic_condition<shared_mutex> condition() { return basic_condition<shared_mutex>(*this); }
+    basic_condition<shared_mutex> condition(std::uint8_t number) {
+        return basic_condition<shared_mutex>(*this, number);
+    }
     std::string history() const { return detail::history(aqs_rwlock_object(&lock_)); }
+    // Writes the history to a file of this path, and the names of its threads to PATH.names.
+    void save_history(const std::string &path) const {
+        detail::check(aqs_history_save(aqs_rwlock_object(&lock_), path.c_str()));
+    }
+    std::string history_names() const { return detail::history_names(aqs_rwlock_object(&lock_)); }
     std::uint64_t trim() { return detail::trim(aqs_rwlock_object(&lock_)); }
     // Whether the calling thread has the write side, and how often it has each side. They record nothing.
     bool is_mine() const noexcept { return aqs_rwlock_is_mine(&lock_); }
@@ -467,31 +581,32 @@ public:
 
 private:
     friend class basic_condition<shared_mutex>;
+    aqs_object_t *as_object() noexcept { return aqs_rwlock_object(&lock_); }
 
     struct timed_write {
         aqs_rwlock_t *lock;
-        aqs_status_t operator()(std::uint32_t time) { return aqs_rwlock_timedwrlock(lock, time); }
+        aqs_status_t operator()(std::int64_t time) { return aqs_rwlock_timedwrlock(lock, time); }
     };
     struct timed_read {
         aqs_rwlock_t *lock;
-        aqs_status_t operator()(std::uint32_t time) { return aqs_rwlock_timedrdlock(lock, time); }
+        aqs_status_t operator()(std::int64_t time) { return aqs_rwlock_timedrdlock(lock, time); }
     };
     struct timed_await {
         aqs_rwlock_t *lock;
         std::uint8_t condition;
-        aqs_status_t operator()(std::uint32_t time) { return aqs_rwlock_timedwait(lock, condition, time); }
+        aqs_status_t operator()(std::int64_t time) { return aqs_rwlock_timedwait(lock, condition, time); }
     };
 
     void wait(std::uint8_t number) { detail::check(aqs_rwlock_wait(&lock_, number)); }
     bool wait_interruptibly(std::uint8_t number) {
         return detail::check_taken(aqs_rwlock_wait_interruptibly(&lock_, number));
     }
-    bool timed_wait(std::uint8_t number, detail::milliseconds time) {
-        return detail::check_taken(detail::for_time(time, timed_await{&lock_, number}));
+    wait_result timed_wait(std::uint8_t number, detail::milliseconds time) {
+        return detail::result_of(detail::for_time(time, timed_await{&lock_, number}));
     }
     template <class Moment>
-    bool timed_wait_until(std::uint8_t number, const Moment &moment) {
-        return detail::check_taken(detail::until_moment(moment, timed_await{&lock_, number}));
+    wait_result timed_wait_until(std::uint8_t number, const Moment &moment) {
+        return detail::result_of(detail::until_moment(moment, timed_await{&lock_, number}));
     }
     void signal(std::uint8_t number) { detail::check(aqs_rwlock_signal(&lock_, number)); }
     void signal_all(std::uint8_t number) { detail::check(aqs_rwlock_signal_all(&lock_, number)); }
@@ -522,13 +637,14 @@ public:
 
     // False if the time was up, or the thread was interrupted. It owns the lock again.
     template <class Lock, class Rep, class Period>
-    bool wait_for(std::unique_lock<Lock> &guard, const std::chrono::duration<Rep, Period> &time) {
-        return detail::check_taken(detail::for_time(time, timed_wait{&condition_, owned(guard)}));
+    wait_result wait_for(std::unique_lock<Lock> &guard, const std::chrono::duration<Rep, Period> &time) {
+        return detail::result_of(detail::for_time(time, timed_wait{&condition_, owned(guard)}));
     }
 
     template <class Lock, class Clock, class Duration>
-    bool wait_until(std::unique_lock<Lock> &guard, const std::chrono::time_point<Clock, Duration> &moment) {
-        return detail::check_taken(detail::until_moment(moment, timed_wait{&condition_, owned(guard)}));
+    wait_result wait_until(
+        std::unique_lock<Lock> &guard, const std::chrono::time_point<Clock, Duration> &moment) {
+        return detail::result_of(detail::until_moment(moment, timed_wait{&condition_, owned(guard)}));
     }
 
     // What the predicate says, at the end of the time at the latest.
@@ -566,7 +682,7 @@ private:
     struct timed_wait {
         aqs_cond_t *condition;
         aqs_lock_t *lock;
-        aqs_status_t operator()(std::uint32_t time) { return aqs_cond_timedwait(condition, lock, time); }
+        aqs_status_t operator()(std::int64_t time) { return aqs_cond_timedwait(condition, lock, time); }
     };
 
     template <class Lock>
@@ -578,6 +694,140 @@ private:
     aqs_cond_t condition_;
 };
 
+// A condition of any lock that has lock() and unlock(), as std::condition_variable_any. It has a mutex of its
+// own, which guards who waits, and lasts as long as a thread is in a wait.
+class condition_variable_any {
+public:
+    condition_variable_any() : own_(std::make_shared<plain_mutex>()) {}
+    condition_variable_any(const condition_variable_any &) = delete;
+    condition_variable_any &operator=(const condition_variable_any &) = delete;
+
+    template <class Lock>
+    void wait(Lock &lock) {
+        away<Lock> left(own_, lock);
+        changed_.wait(left.guard());
+    }
+
+    template <class Lock, class Predicate>
+    void wait(Lock &lock, Predicate holds) {
+        while (!holds()) wait(lock);
+    }
+
+    // False if the time was up, or the thread was interrupted. It has the lock again.
+    template <class Lock, class Rep, class Period>
+    wait_result wait_for(Lock &lock, const std::chrono::duration<Rep, Period> &time) {
+        away<Lock> left(own_, lock);
+        return changed_.wait_for(left.guard(), time);
+    }
+
+    template <class Lock, class Clock, class Duration>
+    wait_result wait_until(Lock &lock, const std::chrono::time_point<Clock, Duration> &moment) {
+        away<Lock> left(own_, lock);
+        return changed_.wait_until(left.guard(), moment);
+    }
+
+    // What the predicate says, at the end of the time at the latest.
+    template <class Lock, class Rep, class Period, class Predicate>
+    bool wait_for(Lock &lock, const std::chrono::duration<Rep, Period> &time, Predicate holds) {
+        const auto begin = std::chrono::steady_clock::now();
+        while (!holds()) {
+            const detail::milliseconds past = std::chrono::steady_clock::now() - begin;
+            if (!wait_for(lock, detail::milliseconds(time) - past)) return holds();
+        }
+        return true;
+    }
+
+    template <class Lock, class Clock, class Duration, class Predicate>
+    bool wait_until(
+        Lock &lock, const std::chrono::time_point<Clock, Duration> &moment, Predicate holds) {
+        while (!holds()) {
+            if (!wait_until(lock, moment)) return holds();
+        }
+        return true;
+    }
+
+#ifdef __cpp_lib_jthread
+    // What the predicate says, as soon as it holds or a stop is requested.
+    template <class Lock, class Predicate>
+    bool wait(Lock &lock, std::stop_token stop, Predicate holds) {
+        std::stop_callback notifies(stop, [this] { notify_all(); });
+        while (!holds()) {
+            away<Lock> left(own_, lock);
+            if (stop.stop_requested()) return left.come_back(), holds();
+            changed_.wait(left.guard());
+        }
+        return true;
+    }
+
+    template <class Lock, class Rep, class Period, class Predicate>
+    bool wait_for(
+        Lock &lock, std::stop_token stop, const std::chrono::duration<Rep, Period> &time, Predicate holds) {
+        const auto begin = std::chrono::steady_clock::now();
+        std::stop_callback notifies(stop, [this] { notify_all(); });
+        while (!holds()) {
+            const detail::milliseconds past = std::chrono::steady_clock::now() - begin;
+            away<Lock> left(own_, lock);
+            if (stop.stop_requested() || !changed_.wait_for(left.guard(), detail::milliseconds(time) - past))
+                return left.come_back(), holds();
+        }
+        return true;
+    }
+
+    template <class Lock, class Clock, class Duration, class Predicate>
+    bool wait_until(Lock &lock, std::stop_token stop,
+                    const std::chrono::time_point<Clock, Duration> &moment, Predicate holds) {
+        std::stop_callback notifies(stop, [this] { notify_all(); });
+        while (!holds()) {
+            away<Lock> left(own_, lock);
+            if (stop.stop_requested() || !changed_.wait_until(left.guard(), moment))
+                return left.come_back(), holds();
+        }
+        return true;
+    }
+#endif
+
+    void notify_one() {
+        std::lock_guard<plain_mutex> guard(*own_);
+        changed_.notify_one();
+    }
+    void notify_all() {
+        std::lock_guard<plain_mutex> guard(*own_);
+        changed_.notify_all();
+    }
+
+private:
+    // A thread that has given the caller's lock up, and has the condition's own mutex. At the end it has the
+    // lock again, which it asks for without the mutex. The mutex may outlive the condition.
+    template <class Lock>
+    class away {
+    public:
+        away(std::shared_ptr<plain_mutex> own, Lock &lock)
+            : own_(std::move(own)), guard_(*own_), lock_(lock) {
+            lock_.unlock();
+        }
+        // Without the lock nothing may go on, so that it ends the program if it can't be had.
+        ~away() noexcept { come_back(); }
+        away(const away &) = delete;
+        away &operator=(const away &) = delete;
+        std::unique_lock<plain_mutex> &guard() noexcept { return guard_; }
+        void come_back() {
+            if (is_back_) return;
+            is_back_ = true;
+            if (guard_.owns_lock()) guard_.unlock();
+            lock_.lock();
+        }
+
+    private:
+        std::shared_ptr<plain_mutex> own_;
+        std::unique_lock<plain_mutex> guard_;
+        Lock &lock_;
+        bool is_back_ = false;
+    };
+
+    std::shared_ptr<plain_mutex> own_;
+    condition_variable changed_;
+};
+
 class semaphore {
 public:
     typedef aqs_sem_t *native_handle_type;
@@ -586,7 +836,7 @@ public:
     semaphore(std::int32_t permits, const options &how) : semaphore_ AQS_SEM_INIT(permits) {
         detail::check(aqs_sem_init(&semaphore_, permits, &how));
     }
-    ~semaphore() { aqs_sem_close(&semaphore_); }
+    ~semaphore() { detail::close_unless_static(aqs_sem_close, &semaphore_); }
     semaphore(const semaphore &) = delete;
     semaphore &operator=(const semaphore &) = delete;
 
@@ -625,6 +875,11 @@ public:
     }
 
     std::string history() const { return detail::history(aqs_sem_object(&semaphore_)); }
+    // Writes the history to a file of this path, and the names of its threads to PATH.names.
+    void save_history(const std::string &path) const {
+        detail::check(aqs_history_save(aqs_sem_object(&semaphore_), path.c_str()));
+    }
+    std::string history_names() const { return detail::history_names(aqs_sem_object(&semaphore_)); }
     std::uint64_t trim() { return detail::trim(aqs_sem_object(&semaphore_)); }
     // How many threads wait for permits: all of them are in the queue. It records nothing.
     std::uint32_t queue_length() const { return detail::queue_length(aqs_sem_object(&semaphore_)); }
@@ -636,11 +891,23 @@ private:
     struct timed_acquire {
         aqs_sem_t *semaphore;
         std::uint32_t n;
-        aqs_status_t operator()(std::uint32_t time) { return aqs_sem_timedacquire(semaphore, n, time); }
+        aqs_status_t operator()(std::int64_t time) { return aqs_sem_timedacquire(semaphore, n, time); }
     };
 
     mutable aqs_sem_t semaphore_;
 };
+
+// A semaphore that says how many permits it has at the most, as std::counting_semaphore.
+template <std::ptrdiff_t Most = INT32_MAX>
+class counting_semaphore : public semaphore {
+    static_assert(0 <= Most && Most <= INT32_MAX, "a semaphore has at most 2147483647 permits");
+
+public:
+    using semaphore::semaphore;
+    static constexpr std::ptrdiff_t max() noexcept { return Most; }
+};
+
+using binary_semaphore = counting_semaphore<1>;
 
 class latch {
 public:
@@ -650,7 +917,7 @@ public:
     latch(std::uint32_t count, const options &how) : latch_ AQS_LATCH_INIT(number_of(count)) {
         detail::check(aqs_latch_init(&latch_, count, &how));
     }
-    ~latch() { aqs_latch_close(&latch_); }
+    ~latch() { detail::close_unless_static(aqs_latch_close, &latch_); }
     latch(const latch &) = delete;
     latch &operator=(const latch &) = delete;
 
@@ -687,6 +954,11 @@ public:
     }
 
     std::string history() const { return detail::history(aqs_latch_object(&latch_)); }
+    // Writes the history to a file of this path, and the names of its threads to PATH.names.
+    void save_history(const std::string &path) const {
+        detail::check(aqs_history_save(aqs_latch_object(&latch_), path.c_str()));
+    }
+    std::string history_names() const { return detail::history_names(aqs_latch_object(&latch_)); }
     std::uint64_t trim() { return detail::trim(aqs_latch_object(&latch_)); }
     // How many threads wait until the count is 0: all of them are in the queue. It records nothing.
     std::uint32_t queue_length() const { return detail::queue_length(aqs_latch_object(&latch_)); }
@@ -702,7 +974,7 @@ private:
 
     struct timed_await {
         aqs_latch_t *latch;
-        aqs_status_t operator()(std::uint32_t time) { return aqs_latch_timedawait(latch, time); }
+        aqs_status_t operator()(std::int64_t time) { return aqs_latch_timedawait(latch, time); }
     };
 
     mutable aqs_latch_t latch_;
@@ -731,6 +1003,11 @@ public:
     }
 
     std::string history() const { return detail::history(aqs_barrier_object(barrier_)); }
+    // Writes the history to a file of this path, and the names of its threads to PATH.names.
+    void save_history(const std::string &path) const {
+        detail::check(aqs_history_save(aqs_barrier_object(barrier_), path.c_str()));
+    }
+    std::string history_names() const { return detail::history_names(aqs_barrier_object(barrier_)); }
     std::uint64_t trim() { return detail::trim(aqs_barrier_object(barrier_)); }
     native_handle_type native_handle() noexcept { return barrier_; }
 
@@ -738,6 +1015,7 @@ private:
     aqs_barrier_t *barrier_ = nullptr;
 };
 
+using recursive_mutex = mutex;
 using condition = basic_condition<mutex>;
 
 }  // namespace aqs

@@ -15,72 +15,80 @@
 /* Both begin at one address, and are freed by the lock's close. */
 _Static_assert(sizeof(aqs_mutex_t) == sizeof(aqs_lock_t), "a mutex is a lock");
 
+static aqs_lock_t *as_lock(aqs_mutex_t *mutex) { return (aqs_lock_t *)mutex; }
+
+/* Why a thread that doesn't own a lock can't use it. */
+static aqs_status_t not_owned(const aqs_lock_t *lock) {
+    return lock && lock->object_.mark_ != AQS_IS_CLOSED_ ? AQS_NOT_OWNER : AQS_MISUSE;
+}
+
 aqs_status_t aqs_mutex_open(aqs_mutex_t **mutex, const aqs_options_t *options) {
     aqs_lock_t *lock;
+    if (!mutex) return AQS_MISUSE;
     aqs_status_t status = aqs_lock_open(&lock, options);
     *mutex = (aqs_mutex_t *)lock;
     return status;
 }
 
 aqs_status_t aqs_mutex_init(aqs_mutex_t *mutex, const aqs_options_t *options) {
-    return aqs_lock_init(&mutex->lock_, options);
+    return aqs_lock_init(as_lock(mutex), options);
 }
 
 void aqs_mutex_close(aqs_mutex_t *mutex) { aqs_lock_close((aqs_lock_t *)mutex); }
 
-aqs_object_t *aqs_mutex_object(aqs_mutex_t *mutex) { return aqs_lock_object(&mutex->lock_); }
+aqs_object_t *aqs_mutex_object(aqs_mutex_t *mutex) { return aqs_lock_object(as_lock(mutex)); }
 
-aqs_bool_t aqs_mutex_is_mine(aqs_mutex_t *mutex) { return aqs_lock_is_mine(&mutex->lock_); }
+aqs_bool_t aqs_mutex_is_mine(aqs_mutex_t *mutex) { return aqs_lock_is_mine(as_lock(mutex)); }
 
 aqs_status_t aqs_mutex_is_locked(aqs_mutex_t *mutex, aqs_bool_t *is_locked) {
-    return aqs_lock_is_locked(&mutex->lock_, is_locked);
+    return aqs_lock_is_locked(as_lock(mutex), is_locked);
 }
 
 aqs_status_t aqs_mutex_lock(aqs_mutex_t *mutex) {
-    return aqs_mutex_is_mine(mutex) ? AQS_TOO_MANY_HOLDS : aqs_lock_lock(&mutex->lock_);
+    return aqs_mutex_is_mine(mutex) ? AQS_TOO_MANY_HOLDS : aqs_lock_lock(as_lock(mutex));
 }
 
 aqs_status_t aqs_mutex_lock_interruptibly(aqs_mutex_t *mutex) {
     if (aqs_mutex_is_mine(mutex)) return AQS_TOO_MANY_HOLDS;
-    return aqs_lock_lock_interruptibly(&mutex->lock_);
+    return aqs_lock_lock_interruptibly(as_lock(mutex));
 }
 
-aqs_status_t aqs_mutex_timedlock(aqs_mutex_t *mutex, uint32_t milliseconds) {
+aqs_status_t aqs_mutex_timedlock(aqs_mutex_t *mutex, int64_t milliseconds) {
     if (aqs_mutex_is_mine(mutex)) return AQS_TOO_MANY_HOLDS;
-    return aqs_lock_timedlock(&mutex->lock_, milliseconds);
+    return aqs_lock_timedlock(as_lock(mutex), milliseconds);
 }
 
 aqs_status_t aqs_mutex_trylock(aqs_mutex_t *mutex) {
-    return aqs_mutex_is_mine(mutex) ? AQS_WOULD_BLOCK : aqs_lock_trylock(&mutex->lock_);
+    return aqs_mutex_is_mine(mutex) ? AQS_WOULD_BLOCK : aqs_lock_trylock(as_lock(mutex));
 }
 
 aqs_status_t aqs_mutex_unlock(aqs_mutex_t *mutex) {
-    return aqs_mutex_is_mine(mutex) ? aqs_lock_unlock(&mutex->lock_) : AQS_NOT_OWNER;
+    return aqs_mutex_is_mine(mutex) ? aqs_lock_unlock(as_lock(mutex)) : not_owned(as_lock(mutex));
 }
 
 aqs_status_t aqs_mutex_wait(aqs_mutex_t *mutex, uint8_t condition) {
-    return aqs_mutex_is_mine(mutex) ? aqs_lock_wait(&mutex->lock_, condition) : AQS_NOT_OWNER;
+    return aqs_mutex_is_mine(mutex) ? aqs_lock_wait(as_lock(mutex), condition) : not_owned(as_lock(mutex));
 }
 
 aqs_status_t aqs_mutex_wait_interruptibly(aqs_mutex_t *mutex, uint8_t condition) {
-    if (!aqs_mutex_is_mine(mutex)) return AQS_NOT_OWNER;
-    return aqs_lock_wait_interruptibly(&mutex->lock_, condition);
+    if (!aqs_mutex_is_mine(mutex)) return not_owned(as_lock(mutex));
+    return aqs_lock_wait_interruptibly(as_lock(mutex), condition);
 }
 
-aqs_status_t aqs_mutex_timedwait(aqs_mutex_t *mutex, uint8_t condition, uint32_t milliseconds) {
-    if (!aqs_mutex_is_mine(mutex)) return AQS_NOT_OWNER;
-    return aqs_lock_timedwait(&mutex->lock_, condition, milliseconds);
+aqs_status_t aqs_mutex_timedwait(aqs_mutex_t *mutex, uint8_t condition, int64_t milliseconds) {
+    if (!aqs_mutex_is_mine(mutex)) return not_owned(as_lock(mutex));
+    return aqs_lock_timedwait(as_lock(mutex), condition, milliseconds);
 }
 
 aqs_status_t aqs_mutex_signal(aqs_mutex_t *mutex, uint8_t condition) {
-    return aqs_lock_signal(&mutex->lock_, condition);
+    return aqs_lock_signal(as_lock(mutex), condition);
 }
 
 aqs_status_t aqs_mutex_signal_all(aqs_mutex_t *mutex, uint8_t condition) {
-    return aqs_lock_signal_all(&mutex->lock_, condition);
+    return aqs_lock_signal_all(as_lock(mutex), condition);
 }
 
-aqs_lock_t *aqs_mutex_as_lock(aqs_mutex_t *mutex) { return &mutex->lock_; }
+aqs_lock_t *aqs_mutex_as_lock(aqs_mutex_t *mutex) { return as_lock(mutex); }
 
 /* A condition as an object ------------------------------------------------------------------------------- */
 
@@ -119,13 +127,25 @@ static void move_to_the_end(aqs_cond_t *condition, ticket_t *ticket) {
     append(condition, ticket);
 }
 
-/* The number that the fewest conditions have, the highest of those. */
-static uint8_t number_for_one_more(const aqs_object_t *object) {
-    uint8_t best = (uint8_t)(object->conditions_ - 1);
-    for (uint8_t number = best; number-- > 0;) {
-        if (object->users_[number] < object->users_[best]) best = number;
+static uint16_t users_of(const aqs_object_t *object, uint8_t number) {
+    return __atomic_load_n(&object->users_[number], __ATOMIC_RELAXED);
+}
+
+/* Takes the number that the fewest conditions have, the highest of those, for one more. False: all were taken
+   for good. Another thread may take a number meanwhile that nobody has. */
+static bool takes_number(aqs_object_t *object, uint8_t *number) {
+    for (;;) {
+        uint8_t best = (uint8_t)(object->conditions_ - 1);
+        for (uint8_t other = best; other-- > 0;) {
+            if (users_of(object, other) < users_of(object, best)) best = other;
+        }
+        uint16_t users = users_of(object, best);
+        if (users >= UINT16_MAX - 1) return false;
+        *number = best;
+        if (__atomic_compare_exchange_n(
+                &object->users_[best], &users, users + 1, false, __ATOMIC_RELAXED, __ATOMIC_RELAXED))
+            return true;
     }
-    return best;
 }
 
 /* The owner of the lock is about to wait. */
@@ -135,14 +155,14 @@ static aqs_status_t bind_to(aqs_cond_t *condition, aqs_lock_t *lock) {
     if (!__atomic_compare_exchange_n(
             &condition->lock_, &other, lock, false, __ATOMIC_ACQUIRE, __ATOMIC_RELAXED))
         return AQS_MISUSE;
-    condition->number_ = number_for_one_more(&lock->object_);
-    lock->object_.users_[condition->number_]++;
-    return AQS_OK;
+    if (takes_number(&lock->object_, &condition->number_)) return AQS_OK;
+    __atomic_store_n(&condition->lock_, NULL, __ATOMIC_RELEASE);
+    return AQS_NO_SUCH_CONDITION;
 }
 
 /* The owner of the lock was the last that waited. */
 static void unbind(aqs_cond_t *condition, aqs_lock_t *lock) {
-    lock->object_.users_[condition->number_]--;
+    __atomic_fetch_sub(&lock->object_.users_[condition->number_], 1, __ATOMIC_RELAXED);
     __atomic_store_n(&condition->lock_, NULL, __ATOMIC_RELEASE);
 }
 
@@ -152,7 +172,7 @@ typedef struct {
     struct timespec until;
 } limits_t;
 
-static limits_t limits_of_time(uint32_t milliseconds) {
+static limits_t limits_of_time(int64_t milliseconds) {
     limits_t limits = {.how = TIMED};
     clock_gettime(CLOCK_MONOTONIC, &limits.until);
     limits.until.tv_sec += (time_t)(milliseconds / 1000);
@@ -162,11 +182,13 @@ static limits_t limits_of_time(uint32_t milliseconds) {
 }
 
 /* What is left of a time, rounded up. */
-static uint32_t milliseconds_until(const struct timespec *until) {
+static int64_t milliseconds_until(const struct timespec *until) {
     struct timespec now;
     clock_gettime(CLOCK_MONOTONIC, &now);
-    int64_t left = (int64_t)(until->tv_sec - now.tv_sec) * 1000000000 + (until->tv_nsec - now.tv_nsec);
-    return left <= 0 ? 0 : (uint32_t)((left + 999999) / 1000000);
+    int64_t seconds = (int64_t)(until->tv_sec - now.tv_sec), nanoseconds = until->tv_nsec - now.tv_nsec;
+    if (seconds > INT64_MAX / 1000 - 2) return INT64_MAX;
+    int64_t left = seconds * 1000 + (nanoseconds + 999999 + 1000000000) / 1000000 - 1000;
+    return left <= 0 ? 0 : left;
 }
 
 static aqs_status_t wait_by_number(aqs_lock_t *lock, uint8_t number, const limits_t *limits) {
@@ -194,7 +216,8 @@ static aqs_status_t wait_for_mark(aqs_cond_t *condition, aqs_lock_t *lock, const
 }
 
 static aqs_status_t wait_on(aqs_cond_t *condition, aqs_lock_t *lock, limits_t limits) {
-    if (!aqs_lock_is_mine(lock)) return AQS_NOT_OWNER;
+    if (!condition) return AQS_MISUSE;
+    if (!aqs_lock_is_mine(lock)) return not_owned(lock);
     aqs_status_t status = bind_to(condition, lock);
     if (status != AQS_OK) return status;
     condition->waiters_++;
@@ -211,7 +234,8 @@ aqs_status_t aqs_cond_wait_interruptibly(aqs_cond_t *condition, aqs_lock_t *lock
     return wait_on(condition, lock, (limits_t){.how = INTERRUPTIBLE});
 }
 
-aqs_status_t aqs_cond_timedwait(aqs_cond_t *condition, aqs_lock_t *lock, uint32_t milliseconds) {
+aqs_status_t aqs_cond_timedwait(aqs_cond_t *condition, aqs_lock_t *lock, int64_t milliseconds) {
+    if (milliseconds < 0) return aqs_out_of_range("milliseconds", 0, INT64_MAX, milliseconds);
     return wait_on(condition, lock, limits_of_time(milliseconds));
 }
 
@@ -231,6 +255,7 @@ static aqs_status_t signal_marked(aqs_cond_t *condition, aqs_lock_t *lock, bool 
 
 /* The thread owns the lock, or acquires it. Until it has it, the last waiter may have left. */
 static aqs_status_t signal_by(aqs_cond_t *condition, bool is_for_all) {
+    if (!condition) return AQS_MISUSE;
     aqs_lock_t *lock = lock_of(condition);
     if (!lock) return AQS_OK;
     if (aqs_lock_is_mine(lock)) return signal_marked(condition, lock, is_for_all);
@@ -257,9 +282,10 @@ struct aqs_barrier {
 };
 
 aqs_status_t aqs_barrier_open(aqs_barrier_t **barrier, uint32_t parties, const aqs_options_t *options) {
+    if (!barrier) return AQS_MISUSE;
     *barrier = NULL;
     uint32_t most = options && options->threads ? options->threads : AQS_THREADS;
-    if (parties == 0 || parties > most) return AQS_OUT_OF_RANGE;
+    if (parties == 0 || parties > most) return aqs_out_of_range("parties", 1, most, parties);
     aqs_barrier_t *made = calloc(1, sizeof *made);
     if (!made) return AQS_OUT_OF_MEMORY;
     made->parties = parties;
@@ -276,7 +302,9 @@ void aqs_barrier_close(aqs_barrier_t *barrier) {
     free(barrier);
 }
 
-aqs_object_t *aqs_barrier_object(aqs_barrier_t *barrier) { return aqs_lock_object(barrier->lock); }
+aqs_object_t *aqs_barrier_object(aqs_barrier_t *barrier) {
+    return barrier ? aqs_lock_object(barrier->lock) : NULL;
+}
 
 /* The owner of the lock comes. If that can't be recorded, it didn't. */
 static aqs_status_t come(aqs_barrier_t *barrier, bool *is_last) {
@@ -298,6 +326,7 @@ static aqs_status_t come(aqs_barrier_t *barrier, bool *is_last) {
 
 aqs_status_t aqs_barrier_wait(aqs_barrier_t *barrier, aqs_bool_t *is_last) {
     bool was_last = false;
+    if (!barrier) return AQS_MISUSE;
     atomic_fetch_add_explicit(&barrier->inside, 1, memory_order_relaxed);
     aqs_status_t status = aqs_lock_lock(barrier->lock);
     if (status == AQS_OK) {

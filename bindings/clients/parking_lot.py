@@ -1,5 +1,5 @@
-"""parking_lot's own tests of its mutex, condvar, queues and read-write lock, over this library's crate: `use` alone
-changes, and the lines on upgradable reads are left out."""
+"""parking_lot's own tests of its mutexes, condvar, queues, read-write lock and Once, over this library's crate: `use`
+alone changes."""
 import pathlib
 import re
 import shutil
@@ -11,7 +11,7 @@ HERE = pathlib.Path(__file__).resolve().parent
 CRATE = HERE.parent / "rust" / "aqs"
 # Stands in for the crate of that name.
 RAND = HERE / "parking_lot_rand"
-FILES = ("mutex", "condvar", "rwlock")
+FILES = ("mutex", "condvar", "rwlock", "remutex", "once")
 SECONDS = 600
 MANIFEST = """[package]
 name = "parking_lot_tests"
@@ -47,39 +47,9 @@ def modules_of_tests(text):
     return found
 
 
-def functions_of_tests(text):
-    """The places of the functions that are tests, with their attributes."""
-    for match in re.finditer(r"(?m)^    #\[test\]\n(?:    #\[[^\n]*\n)*    fn (\w+)", text):
-        yield match[1], match.start(), end_of_block(text, match.end())
-
-
-def without_blocks(text, word):
-    """The body of a test without the innermost blocks, and then the lines, that name a word."""
-    while True:
-        at = text.find(word)
-        if at < 0:
-            return text
-        begin = re.compile(r"(?m)^        \{\n")
-        blocks = [(it.start(), end_of_block(text, it.start())) for it in begin.finditer(text)]
-        around = [it for it in blocks if it[0] <= at < it[1]]
-        if around:
-            text = text[:around[-1][0]] + text[around[-1][1]:].lstrip("\n")
-        else:
-            line = text.rfind("\n", 0, at) + 1
-            text = text[:line] + text[text.index("\n", at) + 1:]
-
-
 def adapted(text):
     """The tests of a module over this library."""
-    text = text.replace("use crate::", "use aqs::").replace("RwLockUpgradableReadGuard, ", "")
-    # A test that upgrades in a loop is all about that.
-    for name, begin, end in sorted(functions_of_tests(text), key=lambda it: -it[1]):
-        body = text[begin:end]
-        if "upgradable" not in body and "Upgradable" not in body:
-            continue
-        whole = "RwLockUpgradableReadGuard::" in body or "upgrade" in name
-        text = text[:begin] + ("" if whole else without_blocks(body, "upgradable")) + text[end:]
-    return text
+    return text.replace("use crate::", "use aqs::")
 
 
 def count_in(told):

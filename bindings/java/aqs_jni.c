@@ -127,7 +127,7 @@ NATIVE(jint, timed)(JNIEnv *env, jclass class, jobject keep, jlong at, jint call
                     jint milliseconds) {
     (void)env, (void)class, (void)keep;
     void *it = pointer(at);
-    uint32_t time = (uint32_t)milliseconds;
+    int64_t time = milliseconds;
     switch (call) {
         case WAITS_TO_LOCK: return aqs_lock_timedlock(it, time);
         case WAITS_ON_CONDITION: return aqs_lock_timedwait(it, (uint8_t)number, time);
@@ -172,6 +172,13 @@ NATIVE(jlong, queueLength)(JNIEnv *env, jclass class, jobject keep, jint kind, j
     return status == AQS_OK ? (jlong)count : -(jlong)status;
 }
 
+NATIVE(jlong, waiters)(JNIEnv *env, jclass class, jobject keep, jint kind, jlong at) {
+    (void)env, (void)class, (void)keep;
+    uint32_t count = 0;
+    aqs_status_t status = aqs_object_waiters(object_of(kind, at), &count);
+    return status == AQS_OK ? (jlong)count : -(jlong)status;
+}
+
 /* Where an array can't be made, an OutOfMemoryError is pending. */
 static void put_text(JNIEnv *env, jobjectArray into, const char *text, size_t length) {
     jbyteArray array = (*env)->NewByteArray(env, (jsize)length);
@@ -180,21 +187,32 @@ static void put_text(JNIEnv *env, jobjectArray into, const char *text, size_t le
     (*env)->SetObjectArrayElement(env, into, 0, array);
 }
 
+typedef aqs_status_t text_of(aqs_object_t *object, char *buffer, size_t size, size_t *length);
+
 /* Other threads may lengthen the text between two tries. So each try has twice the spare room, until the room is
    twice the text. */
-NATIVE(jint, history)(JNIEnv *env, jclass class, jobject keep, jint kind, jlong at, jobjectArray into) {
-    (void)class, (void)keep;
+static jint read_text(JNIEnv *env, text_of *of, aqs_object_t *object, jobjectArray into) {
     size_t size = 4096, length = 0;
     for (size_t share = 8;; share = share > 1 ? share / 2 : 1) {
         char *text = length <= INT32_MAX ? malloc(size) : NULL;
         if (!text) return AQS_OUT_OF_MEMORY;
-        aqs_status_t status = aqs_history_text(object_of(kind, at), text, size, &length);
+        aqs_status_t status = of(object, text, size, &length);
         if (status == AQS_OK) put_text(env, into, text, length);
         free(text);
         if (status != AQS_NO_SPACE) return (jint)status;
         size = length + length / share;
         if (size > INT32_MAX) size = INT32_MAX;
     }
+}
+
+NATIVE(jint, history)(JNIEnv *env, jclass class, jobject keep, jint kind, jlong at, jobjectArray into) {
+    (void)class, (void)keep;
+    return read_text(env, aqs_history_text, object_of(kind, at), into);
+}
+
+NATIVE(jint, names)(JNIEnv *env, jclass class, jobject keep, jint kind, jlong at, jobjectArray into) {
+    (void)class, (void)keep;
+    return read_text(env, aqs_history_names, object_of(kind, at), into);
 }
 
 NATIVE(jlong, trim)(JNIEnv *env, jclass class, jobject keep, jint kind, jlong at) {

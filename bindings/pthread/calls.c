@@ -27,22 +27,20 @@ static int error_number(int error) {
 /* Waits -------------------------------------------------------------------------------------------------- */
 
 /* The rest of a call that waits, from the answer of its first turn on. */
-static COLD void wait_turns(
-    object_t *object, thread_t *me, uint16_t seat, deadline_t deadline, unsigned ends, aqs_answer_t *answer) {
-    uint64_t from = nanoseconds();
+static COLD void
+wait_turns(object_t *object, thread_t *me, uint16_t seat, request_t *request, aqs_answer_t *answer) {
+    if (!request->waits) begin_wait(me, object, request);
     object->core->seats[seat].state = QUEUED;
     while (answer->kind == AQS_IS_WAITING) {
         uint8_t woke = WOKE;
         if (answer->parks) {
             leave(me);
-            woke = park_as(me, answer, deadline, ends);
+            woke = park_as(me, answer, request->deadline, request->ends);
             enter(me, object);
         }
         next_turn(object, seat, woke, answer);
     }
     object->core->seats[seat].state = IDLE;
-    object->waits++;
-    object->waited += nanoseconds() - from;
 }
 
 /* 0, or why a call that may wait failed. */
@@ -61,10 +59,9 @@ static int error_of(const aqs_answer_t *answer) {
 }
 
 /* Acquires by a seat, whose index it keeps. */
-static inline int acquire(
-    object_t *object, thread_t *me, seat_t *seat, uint8_t mode, deadline_t deadline, unsigned ends) {
-    aqs_call_t call = {.n = 1, .time = 1, .kind = AQS_CALL_ACQUIRE, .mode = mode};
-    call.how = deadline.at ? AQS_HOW_TIMED : ends ? AQS_HOW_INTERRUPTIBLE : AQS_HOW_PLAIN;
+static inline int acquire(object_t *object, thread_t *me, seat_t *seat, request_t *request) {
+    aqs_call_t call = {.n = 1, .time = 1, .kind = AQS_CALL_ACQUIRE, .mode = request->mode};
+    call.how = request->deadline.at ? AQS_HOW_TIMED : request->ends ? AQS_HOW_INTERRUPTIBLE : AQS_HOW_PLAIN;
     aqs_answer_t answer;
     uint16_t index = index_of(object, seat);
     aqs_begin(&seat->pass, &call, &answer);
@@ -72,12 +69,12 @@ static inline int acquire(
         object->core->entries++;
         return 0;
     }
-    end_begin(object, me, index, &call, &answer);
-    if (answer.kind == AQS_IS_WAITING) wait_turns(object, me, index, deadline, ends, &answer);
+    end_begin(object, index, &call, &answer);
+    if (answer.kind == AQS_IS_WAITING) wait_turns(object, me, index, request, &answer);
     return error_of(&answer);
 }
 
-static inline int one_step(object_t *object, thread_t *me, seat_t *seat, uint8_t code, uint8_t mode) {
+static inline int one_step(object_t *object, seat_t *seat, uint8_t code, uint8_t mode) {
     aqs_step_t step = {.n = 1, .code = code, .mode = mode};
     aqs_answer_t answer;
     uint16_t index = index_of(object, seat);
@@ -86,11 +83,16 @@ static inline int one_step(object_t *object, thread_t *me, seat_t *seat, uint8_t
         object->core->entries++;
         return 0;
     }
-    end_step(object, me, index, step, &answer);
+    end_step(object, index, step, &answer);
     return error_of(&answer);
 }
 
 static inline seat_t *seat_at(object_t *object, uint16_t index) { return &object->core->seats[index]; }
+
+/* A hold of the seat is over, if it was timed. */
+static inline void stop_timing(object_t *object, seat_t *seat) {
+    if (unlikely(seat->since)) end_hold(object, seat);
+}
 
 /* Mutexes ------------------------------------------------------------------------------------------------ */
 
@@ -144,6 +146,10 @@ SHOWN int pthread_mutex_destroy(pthread_mutex_t *mutex) {
 
 static inline int got_mutex(object_t *object, thread_t *me, uint16_t seat) {
     seat_at(object, seat)->holds = 1;
+    if (unlikely(is_timed)) {
+        count_one_call(object, me);
+        begin_hold(seat_at(object, seat));
+    }
     object->owner_seat = seat;
     atomic_store_explicit(&object->owner, me->id, memory_order_relaxed);
     leave(me);
@@ -155,28 +161,33 @@ static COLD int lock_owned(object_t *object, thread_t *me) {
     int error = EDEADLK;
     if (object->type == RECURSIVE) {
         uint16_t seat = object->owner_seat;
-        error = acquire(object, me, seat_at(object, seat), AQS_MODE_EXCLUSIVE, FOREVER, NO_END);
-        if (!error) seat_at(object, seat)->holds++;
+        request_t request = {.mode = AQS_MODE_EXCLUSIVE};
+        error = acquire(object, me, seat_at(object, seat), &request);
+        if (!error) seat_at(object, seat)->holds++, count_call(object, me);
     }
     leave(me);
     return error;
 }
 
 /* The owner of a normal mutex waits like any other thread, by a second seat, until another thread unlocks. */
-static inline int lock_mutex(object_t *object, deadline_t deadline) {
+static inline int lock_mutex(object_t *object, deadline_t deadline, void *place) {
     thread_t *me = self();
     uint8_t woke;
+    request_t request = {.mode = AQS_MODE_EXCLUSIVE, .deadline = deadline, .place = place};
     enter(me, object);
     if (unlikely(object->type != NORMAL && object->owner == me->id)) return lock_owned(object, me);
     seat_t *seat = claim(object, me);
-    if (unlikely(!seat) && !(seat = claim_or_wait(object, me, deadline, NO_END, &woke))) {
+    if (unlikely(!seat) && !(seat = claim_or_wait(object, me, &request, &woke))) {
+        end_wait(me, object);
         leave(me);
         return ETIMEDOUT;
     }
     uint16_t index = index_of(object, seat);
-    int error = acquire(object, me, seat, AQS_MODE_EXCLUSIVE, deadline, NO_END);
+    int error = acquire(object, me, seat, &request);
+    if (unlikely(request.waits)) end_wait(me, object);
     if (likely(!error)) return got_mutex(object, me, index);
     unclaim(object, seat_at(object, index));
+    tend(object, me);
     leave(me);
     return error;
 }
@@ -185,7 +196,7 @@ static inline int lock_mutex(object_t *object, deadline_t deadline) {
 static int try_by(object_t *object, thread_t *me, uint16_t seat) {
     for (;;) {
         unsigned kicks = atomic_load(&object->kicks);
-        int error = one_step(object, me, seat_at(object, seat), AQS_STEP_TRY, AQS_MODE_EXCLUSIVE);
+        int error = one_step(object, seat_at(object, seat), AQS_STEP_TRY, AQS_MODE_EXCLUSIVE);
         if (error != EBUSY || (!(kicks & 1) && atomic_load(&object->kicks) == kicks)) return error;
         leave(me);
         sched_yield();
@@ -203,8 +214,9 @@ static int try_mutex(object_t *object) {
         uint16_t index = index_of(object, seat);
         error = try_by(object, me, index);
         if (!error && !is_mine) return got_mutex(object, me, index);
-        if (!error) seat_at(object, index)->holds++;
+        if (!error) seat_at(object, index)->holds++, count_call(object, me);
         else if (!is_mine) unclaim(object, seat_at(object, index));
+        tend(object, me);
     }
     leave(me);
     return error;
@@ -212,8 +224,9 @@ static int try_mutex(object_t *object) {
 
 /* Gives the owner's last hold back. The caller has taken the ownership from object->owner. */
 static inline void give_mutex(object_t *object, thread_t *me, uint16_t seat) {
+    stop_timing(object, seat_at(object, seat));
     seat_at(object, seat)->holds = 0;
-    one_step(object, me, seat_at(object, seat), AQS_STEP_GIVE, AQS_MODE_EXCLUSIVE);
+    one_step(object, seat_at(object, seat), AQS_STEP_GIVE, AQS_MODE_EXCLUSIVE);
     unclaim(object, seat_at(object, seat));
     if (unlikely(atomic_load(&object->pending))) kick(object, me);
     tend(object, me);
@@ -228,6 +241,7 @@ static COLD int unlock_for_owner(object_t *object, thread_t *me) {
     bool is_held = atomic_exchange(&object->owner, 0) != 0;
     aqs_answer_t answer = {0};
     if (is_held) {
+        stop_timing(object, seat_at(object, seat));
         seat_at(object, seat)->holds = 0;
         aqs_step_t give = {1, AQS_STEP_GIVE, AQS_MODE_EXCLUSIVE};
         aqs_step_now(&seat_at(object, seat)->pass, give, &answer);
@@ -248,10 +262,10 @@ static inline int unlock_mutex(object_t *object) {
     enter(me, object);
     uint16_t seat = object->owner_seat;
     if (unlikely(seat_at(object, seat)->holds > 1)) {
-        one_step(object, me, seat_at(object, seat), AQS_STEP_GIVE, AQS_MODE_EXCLUSIVE);
+        one_step(object, seat_at(object, seat), AQS_STEP_GIVE, AQS_MODE_EXCLUSIVE);
         seat_at(object, seat)->holds--;
     } else {
-        if (unlikely(atomic_load(&object->pending))) flush(object, me, seat);
+        if (unlikely(atomic_load(&object->pending))) flush(object, seat);
         /* Another thread may have unlocked it in this moment. */
         uint64_t owner = me->id;
         if (likely(atomic_compare_exchange_strong(&object->owner, &owner, 0))) give_mutex(object, me, seat);
@@ -270,14 +284,14 @@ uint32_t unlock_whole(object_t *object, thread_t *me) {
     return holds;
 }
 
-void lock_again(object_t *object, uint32_t holds) {
-    for (uint32_t i = 0; i < holds; i++) lock_mutex(object, FOREVER);
+void lock_again(object_t *object, uint32_t holds, void *place) {
+    for (uint32_t i = 0; i < holds; i++) lock_mutex(object, FOREVER, place);
 }
 
 SHOWN int pthread_mutex_lock(pthread_mutex_t *mutex) {
     object_t *object = find_mutex(mutex, HERE);
     if (unlikely(!object)) return REAL(pthread_mutex_lock, mutex);
-    return lock_mutex(object, FOREVER);
+    return lock_mutex(object, FOREVER, HERE);
 }
 
 SHOWN int pthread_mutex_unlock(pthread_mutex_t *mutex) {
@@ -293,8 +307,8 @@ SHOWN int pthread_mutex_trylock(pthread_mutex_t *mutex) {
 }
 
 /* A time that is none is a fault only where the call would wait. */
-static int lock_until(object_t *object, const struct timespec *moment, clockid_t clock) {
-    if (is_deadline(moment)) return lock_mutex(object, (deadline_t){moment, clock});
+static int lock_until(object_t *object, const struct timespec *moment, clockid_t clock, void *place) {
+    if (is_deadline(moment)) return lock_mutex(object, (deadline_t){moment, clock}, place);
     if (object->type == ERRORCHECK && object->owner == self()->id) return EDEADLK;
     return try_mutex(object) ? EINVAL : 0;
 }
@@ -302,13 +316,13 @@ static int lock_until(object_t *object, const struct timespec *moment, clockid_t
 SHOWN int pthread_mutex_timedlock(pthread_mutex_t *mutex, const struct timespec *moment) {
     object_t *object = find_mutex(mutex, HERE);
     if (unlikely(!object)) return REAL(pthread_mutex_timedlock, mutex, moment);
-    return lock_until(object, moment, CLOCK_REALTIME);
+    return lock_until(object, moment, CLOCK_REALTIME, HERE);
 }
 
 SHOWN int pthread_mutex_clocklock(pthread_mutex_t *mutex, clockid_t clock, const struct timespec *moment) {
     object_t *object = find_mutex(mutex, HERE);
     if (unlikely(!object)) return REAL(pthread_mutex_clocklock, mutex, clock, moment);
-    return is_clock(clock) ? lock_until(object, moment, clock) : EINVAL;
+    return is_clock(clock) ? lock_until(object, moment, clock, HERE) : EINVAL;
 }
 
 /* Read-write locks --------------------------------------------------------------------------------------- */
@@ -368,46 +382,51 @@ static void leave_seat(object_t *object, thread_t *me, seat_t *seat) {
 }
 
 /* A reader comes before waiting writers, as in glibc, unless the lock prefers writers. */
-static int read_by(object_t *object, thread_t *me, seat_t *seat, deadline_t deadline) {
+static int read_by(object_t *object, thread_t *me, seat_t *seat, request_t *request) {
     bool barges = object->type != PREFERS_WRITERS && !object->owner;
     uint16_t index = index_of(object, seat);
-    if (barges && one_step(object, me, seat, AQS_STEP_TRY, AQS_MODE_SHARED) == 0) return 0;
-    return acquire(object, me, seat_at(object, index), AQS_MODE_SHARED, deadline, NO_END);
+    if (barges && one_step(object, seat, AQS_STEP_TRY, AQS_MODE_SHARED) == 0) return 0;
+    return acquire(object, me, seat_at(object, index), request);
 }
 
 static void got_rwlock(object_t *object, thread_t *me, uint16_t seat, uint8_t mode) {
+    count_call(object, me);
     if (mode == AQS_MODE_SHARED) {
-        seat_at(object, seat)->reads++;
+        if (!seat_at(object, seat)->reads++) begin_hold(seat_at(object, seat));
         return;
     }
     seat_at(object, seat)->holds = 1;
+    begin_hold(seat_at(object, seat));
     object->owner_seat = seat;
     atomic_store(&object->owner, me->id);
 }
 
-static int
-acquire_by(object_t *object, thread_t *me, seat_t *seat, uint8_t mode, bool tries, deadline_t deadline) {
+static int acquire_by(object_t *object, thread_t *me, seat_t *seat, bool tries, request_t *request) {
     if (seat->holds) return tries ? EBUSY : EDEADLK;
-    if (tries) return one_step(object, me, seat, AQS_STEP_TRY, mode);
-    if (mode == AQS_MODE_SHARED) return read_by(object, me, seat, deadline);
-    return acquire(object, me, seat, mode, deadline, NO_END);
+    if (tries) return one_step(object, seat, AQS_STEP_TRY, request->mode);
+    if (request->mode == AQS_MODE_SHARED) return read_by(object, me, seat, request);
+    return acquire(object, me, seat, request);
 }
 
-static int lock_rwlock(object_t *object, uint8_t mode, bool tries, deadline_t deadline) {
+static int lock_rwlock(object_t *object, uint8_t mode, bool tries, deadline_t deadline, void *place) {
     thread_t *me = self();
     uint8_t woke = WOKE;
+    request_t request = {.mode = mode, .deadline = deadline, .place = place};
     enter(me, object);
     seat_t *own = own_seat(object, me), *seat = own ? own : claim(object, me);
-    if (!seat && !tries) seat = claim_or_wait(object, me, deadline, NO_END, &woke);
+    if (!seat && !tries) seat = claim_or_wait(object, me, &request, &woke);
     if (!seat) {
+        if (request.waits) end_wait(me, object);
         leave(me);
         return tries ? EBUSY : ETIMEDOUT;
     }
     uint16_t index = index_of(object, seat);
     if (!own) note_seat(me, index);
-    int error = acquire_by(object, me, seat, mode, tries, deadline);
+    int error = acquire_by(object, me, seat, tries, &request);
+    if (request.waits) end_wait(me, object);
     if (!error) got_rwlock(object, me, index, mode);
     else if (!own) leave_seat(object, me, seat_at(object, index));
+    if (error) tend(object, me);
     leave(me);
     return error;
 }
@@ -424,7 +443,10 @@ static COLD void unlock_for_reader(object_t *object, thread_t *me) {
         settle(object, &answer);
         if (mode == AQS_MODE_EXCLUSIVE) seat->holds = 0, object->owner = 0;
         else seat->reads--;
-        if (seat->reads + seat->holds == 0) atomic_store(&seat->user, 0);
+        if (seat->reads + seat->holds == 0) {
+            stop_timing(object, seat);
+            atomic_store(&seat->user, 0);
+        }
         break;
     }
     end_alone(object);
@@ -448,7 +470,8 @@ static int unlock_rwlock(object_t *object) {
     } else {
         seat->reads--;
     }
-    one_step(object, me, seat, AQS_STEP_GIVE, mode);
+    if (seat->reads + seat->holds == 0) stop_timing(object, seat);
+    one_step(object, seat, AQS_STEP_GIVE, mode);
     seat = seat_at(object, index);
     if (seat->reads + seat->holds == 0) leave_seat(object, me, seat);
     tend(object, me);
@@ -456,9 +479,10 @@ static int unlock_rwlock(object_t *object) {
     return 0;
 }
 
-static int lock_rwlock_until(object_t *object, uint8_t mode, const struct timespec *moment, clockid_t clock) {
+static int lock_rwlock_until(
+    object_t *object, uint8_t mode, const struct timespec *moment, clockid_t clock, void *place) {
     if (!is_clock(clock) || !is_deadline(moment)) return EINVAL;
-    return lock_rwlock(object, mode, false, (deadline_t){moment, clock});
+    return lock_rwlock(object, mode, false, (deadline_t){moment, clock}, place);
 }
 
 #define RWLOCK_CALL(name, parameters, arguments, by_us)                 \
@@ -471,29 +495,29 @@ static int lock_rwlock_until(object_t *object, uint8_t mode, const struct timesp
 
 RWLOCK_CALL(
     pthread_rwlock_rdlock, (pthread_rwlock_t * lock), lock,
-    lock_rwlock(object, AQS_MODE_SHARED, false, FOREVER))
+    lock_rwlock(object, AQS_MODE_SHARED, false, FOREVER, HERE))
 RWLOCK_CALL(
     pthread_rwlock_tryrdlock, (pthread_rwlock_t * lock), lock,
-    lock_rwlock(object, AQS_MODE_SHARED, true, FOREVER))
+    lock_rwlock(object, AQS_MODE_SHARED, true, FOREVER, HERE))
 RWLOCK_CALL(
     pthread_rwlock_wrlock, (pthread_rwlock_t * lock), lock,
-    lock_rwlock(object, AQS_MODE_EXCLUSIVE, false, FOREVER))
+    lock_rwlock(object, AQS_MODE_EXCLUSIVE, false, FOREVER, HERE))
 RWLOCK_CALL(
     pthread_rwlock_trywrlock, (pthread_rwlock_t * lock), lock,
-    lock_rwlock(object, AQS_MODE_EXCLUSIVE, true, FOREVER))
+    lock_rwlock(object, AQS_MODE_EXCLUSIVE, true, FOREVER, HERE))
 RWLOCK_CALL(pthread_rwlock_unlock, (pthread_rwlock_t * lock), lock, unlock_rwlock(object))
 RWLOCK_CALL(
     pthread_rwlock_timedrdlock, (pthread_rwlock_t * lock, const struct timespec *at), lock AND at,
-    lock_rwlock_until(object, AQS_MODE_SHARED, at, CLOCK_REALTIME))
+    lock_rwlock_until(object, AQS_MODE_SHARED, at, CLOCK_REALTIME, HERE))
 RWLOCK_CALL(
     pthread_rwlock_timedwrlock, (pthread_rwlock_t * lock, const struct timespec *at), lock AND at,
-    lock_rwlock_until(object, AQS_MODE_EXCLUSIVE, at, CLOCK_REALTIME))
+    lock_rwlock_until(object, AQS_MODE_EXCLUSIVE, at, CLOCK_REALTIME, HERE))
 RWLOCK_CALL(
     pthread_rwlock_clockrdlock, (pthread_rwlock_t * lock, clockid_t clock, const struct timespec *at),
-    lock AND clock AND at, lock_rwlock_until(object, AQS_MODE_SHARED, at, clock))
+    lock AND clock AND at, lock_rwlock_until(object, AQS_MODE_SHARED, at, clock, HERE))
 RWLOCK_CALL(
     pthread_rwlock_clockwrlock, (pthread_rwlock_t * lock, clockid_t clock, const struct timespec *at),
-    lock AND clock AND at, lock_rwlock_until(object, AQS_MODE_EXCLUSIVE, at, clock))
+    lock AND clock AND at, lock_rwlock_until(object, AQS_MODE_EXCLUSIVE, at, clock, HERE))
 
 /* Semaphores --------------------------------------------------------------------------------------------- */
 
@@ -560,8 +584,9 @@ static int step_for_a_moment(object_t *object, thread_t *me, uint8_t code) {
     enter(me, object);
     seat_t *seat = seat_for_a_moment(object, me);
     uint16_t index = index_of(object, seat);
-    int error = one_step(object, me, seat, code, AQS_MODE_SHARED);
+    int error = one_step(object, seat, code, AQS_MODE_SHARED);
     unclaim(object, seat_at(object, index));
+    if (code == AQS_STEP_TRY && !error) count_call(object, me);
     tend(object, me);
     leave(me);
     return error;
@@ -602,6 +627,7 @@ SHOWN int sem_getvalue(sem_t *semaphore, int *value) {
 typedef struct {
     object_t *object;
     thread_t *me;
+    request_t request;
     uint16_t seat;
     bool has_seat;
 } permit_wait_t;
@@ -622,22 +648,22 @@ static void stop_waiting_for_permit(void *with) {
         next_turn(object, wait->seat, STOPPED, &answer);
         seat_at(object, wait->seat)->state = IDLE;
         if (answer.kind == AQS_IS_ENTRY && answer.word == AQS_WORD_GRANTED)
-            one_step(object, me, seat_at(object, wait->seat), AQS_STEP_GIVE, AQS_MODE_SHARED);
+            one_step(object, seat_at(object, wait->seat), AQS_STEP_GIVE, AQS_MODE_SHARED);
         unclaim(object, seat_at(object, wait->seat));
     }
+    if (wait->request.waits) end_wait(me, object);
     leave(me);
 }
 
-static int wait_for_permit(permit_wait_t *wait, deadline_t deadline) {
+static int wait_for_permit(permit_wait_t *wait) {
     int error = 0;
     uint8_t woke = WOKE;
-    unsigned ends = ENDS_BY_SIGNAL | ENDS_BY_CANCEL;
     pthread_cleanup_push(stop_waiting_for_permit, wait);
     seat_t *seat = claim(wait->object, wait->me);
-    if (!seat) seat = claim_or_wait(wait->object, wait->me, deadline, ends, &woke);
+    if (!seat) seat = claim_or_wait(wait->object, wait->me, &wait->request, &woke);
     if (seat) {
         wait->seat = index_of(wait->object, seat), wait->has_seat = true;
-        error = acquire(wait->object, wait->me, seat, AQS_MODE_SHARED, deadline, ends);
+        error = acquire(wait->object, wait->me, seat, &wait->request);
         unclaim(wait->object, seat_at(wait->object, wait->seat));
     } else {
         error = woke == STOPPED ? EINTR : ETIMEDOUT;
@@ -646,11 +672,14 @@ static int wait_for_permit(permit_wait_t *wait, deadline_t deadline) {
     return error;
 }
 
-static int take_permit(object_t *object, deadline_t deadline) {
+static int take_permit(object_t *object, deadline_t deadline, void *place) {
     pthread_testcancel();
     permit_wait_t wait = {.object = object, .me = self()};
+    wait.request = (request_t){AQS_MODE_SHARED, false, deadline, ENDS_BY_SIGNAL | ENDS_BY_CANCEL, place};
     enter(wait.me, object);
-    int error = wait_for_permit(&wait, deadline);
+    int error = wait_for_permit(&wait);
+    if (wait.request.waits) end_wait(wait.me, object);
+    if (!error) count_call(object, wait.me);
     tend(object, wait.me);
     leave(wait.me);
     return error ? error_number(error) : 0;
@@ -659,21 +688,21 @@ static int take_permit(object_t *object, deadline_t deadline) {
 SHOWN int sem_wait(sem_t *semaphore) {
     object_t *object = object_of_semaphore(semaphore);
     if (unlikely(!object)) return REAL(sem_wait, semaphore);
-    return take_permit(object, FOREVER);
+    return take_permit(object, FOREVER, HERE);
 }
 
 SHOWN int sem_timedwait(sem_t *semaphore, const struct timespec *moment) {
     object_t *object = object_of_semaphore(semaphore);
     if (unlikely(!object)) return REAL(sem_timedwait, semaphore, moment);
     if (!is_deadline(moment)) return error_number(EINVAL);
-    return take_permit(object, (deadline_t){moment, CLOCK_REALTIME});
+    return take_permit(object, (deadline_t){moment, CLOCK_REALTIME}, HERE);
 }
 
 SHOWN int sem_clockwait(sem_t *semaphore, clockid_t clock, const struct timespec *moment) {
     object_t *object = object_of_semaphore(semaphore);
     if (unlikely(!object)) return REAL(sem_clockwait, semaphore, clock, moment);
     if (!is_clock(clock) || !is_deadline(moment)) return error_number(EINVAL);
-    return take_permit(object, (deadline_t){moment, clock});
+    return take_permit(object, (deadline_t){moment, clock}, HERE);
 }
 
 /* What is only counted ----------------------------------------------------------------------------------- */

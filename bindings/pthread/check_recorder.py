@@ -1,6 +1,7 @@
 """The tests of the recorder, for ../check.py: a program of its own runs with and without it, and prints the
 same. Each history that it leaves is legal, and shows what the program did."""
 import glob
+import json
 import os
 import pathlib
 import re
@@ -16,6 +17,8 @@ OUT = HERE / "out"
 PROGRAM = str(OUT / "objects_of_each_kind")
 RARE_CASES = str(OUT / "rare_cases")
 ANSWERS = str(OUT / "answers")
+FORKS = str(OUT / "forks")
+TIMES = str(OUT / "times")
 RECORD = str(OUT / "aqs-record")
 LIBRARY = str(OUT / "libaqs_pthread.so")
 LEFT = "aqs: not recorded, left to glibc: 1 robust mutexes, 1 objects shared among processes, 1 barriers"
@@ -98,6 +101,13 @@ def check_index(tests, name, folder, wanted=("mutex", "rwlock", "semaphore")):
     tests.count(f"{name} recorded each kind", kinds == {*wanted}, str(kinds))
 
 
+def has_names(history):
+    """Whether a file of names lies beside a history, as `aqs draw --names` reads it."""
+    names = pathlib.Path(history).with_suffix(".names")
+    text = names.read_text() if names.exists() else ""
+    return bool(re.fullmatch(r"(\d{1,3} [!-~]{1,15}\n)+", text))
+
+
 def check_run(tests, words):
     name = f"a recorded program, {' '.join(words)},"
     folder = tests.histories(f"record-{'-'.join(words)}")
@@ -107,6 +117,8 @@ def check_run(tests, words):
     if not tests.count(f"{name} prints what it prints", is_same, f"{status} {output}\n{told}"):
         return
     tests.audit(name, f"{folder}/*")
+    others = [file for file in glob.glob(f"{folder}/*/*.history") if not has_names(file)]
+    tests.count(f"each history of {name} has names of its threads beside it", not others, str(others))
     wanted = 1 + 5 * ("fork" in words)
     tests.count(f"{name} left {wanted} folders", len(processes(folder)) == wanted, str(processes(folder)))
     check_index(tests, name, first_process(folder))
@@ -156,6 +168,9 @@ def check_what_is_recorded(tests):
     is_good = [(line.waits, line.sleeps) for line in lines] == [(1, 1)]
     is_good = is_good and 50 <= lines[0].waited < 10_000 and 50 <= lines[0].slept < 10_000
     tests.count("the index says how often and how long threads waited and slept", is_good, str(lines))
+    lines = index_of(first_process(tests.histories("record-a_child_with_our_memory_is_ended")))
+    is_good = [line.entries for line in lines] == [6]
+    tests.count("what comes after a child that was ended is recorded", is_good, str(lines))
     check_child(tests, tests.histories("record-child_of_a_process_that_did_much"))
 
 
@@ -181,7 +196,9 @@ def check_answers(tests):
     """What each call answers is the same recorded, also where few entries are kept and nothing is written meanwhile."""
     runs = [(case,) for case in ran([ANSWERS])[1].split()]
     runs += [("one_thread_locks_often", "-k", most) for most in ("1", "4000")]
-    full = ("full_histories_leave_no_memory", "many_holds_of_one_thread", "tries_fill_a_history")
+    full = (
+        "full_histories_leave_no_memory", "many_holds_of_one_thread", "many_holds_beside_one_that_waits",
+        "tries_fill_a_history")
     runs += [(case, "-k", "64") for case in full]
     runs += [("a_program_rests", "-e", "0")]
     with ThreadPoolExecutor(AT_A_TIME) as pool:
@@ -260,8 +277,10 @@ def check_counts(tests):
     entries = [line.entries for line in index_of(first_process(tests.histories("answers-used_while_it_is_written")))]
     tests.count("what is done while a history is written is written too", entries == [2002] * 24, str(entries))
     folder = first_process(tests.histories("answers-conditions_change_their_mutex"))
-    sleeps = [line.sleeps for line in index_of(folder)]
-    tests.count("each wait on a condition has a number", sleeps == [23, 3, 1], str(sleeps))
+    lines = index_of(folder)
+    sleeps = [line.sleeps for line in lines]
+    awaits = [pathlib.Path(folder, line.file).read_text().count(" await ") for line in lines]
+    tests.count("each wait on a condition has a number", sleeps == [23, 3, 2] == awaits, f"{sleeps} {awaits}")
     seats = [seats_of(text)[1] for text in texts_of(folder)]
     tests.count("one that sleeps at a time needs few seats", seats == ["5"] * 3, str(seats))
     texts = texts_of(first_process(tests.histories("answers-tries_fill_a_history-k64")))
@@ -347,6 +366,333 @@ def check_cost(tests):
     tests.count("each of them left a history", files == 10003, str(files))
 
 
+def check_forks(tests):
+    """A library whose constructor ran before the recorder's locks before each fork. A server forks to save."""
+    for words in ((), ("3",)):
+        folder = tests.histories("-".join(["record-forks", *words]))
+        told = ran([RECORD, "-o", folder, "--", FORKS, *words])
+        name = f"forks beside a library of {len(words) and words[0]} other threads that locks before them"
+        tests.count(name, told == (0, "20 forks\n", ""), str(told))
+        tests.audit(name, f"{folder}/*")
+    if not (shutil.which("redis-server") and shutil.which("redis-cli")):
+        tests.left_out("a recorded redis-server", "it is not installed")
+        return
+    folder = tests.histories("record-redis")
+    words = ["--port", "0", "--unixsocket", "socket", "--save", "", "--appendonly", "yes", "--dir", folder]
+    server = subprocess.Popen(
+        [RECORD, "-o", folder, "--", "redis-server", *words], cwd=folder, stdin=subprocess.DEVNULL,
+        stdout=subprocess.DEVNULL, stderr=subprocess.DEVNULL, start_new_session=True)
+    try:
+        is_saved, told = saves(folder)
+        status = server.wait(SECONDS) if is_saved else None
+    finally:
+        if server.poll() is None:
+            os.killpg(server.pid, signal.SIGKILL)
+            server.wait()
+    tests.count("a recorded redis-server saves, rewrites and ends", status == 0, told)
+    tests.audit("redis-server", f"{folder}/*")
+
+
+def saves(folder):
+    """Whether the server of a folder answers, saves, rewrites its log, and is asked to end; and what it said."""
+    client, told, until = ["redis-cli", "-s", f"{folder}/socket"], [], time.monotonic() + SECONDS
+    steps = [("set a 1", "OK"), ("bgsave", "saving started"), ("info persistence", "rdb_bgsave_in_progress:0"),
+             ("bgrewriteaof", "rewriting started"), ("info persistence", "aof_rewrite_in_progress:0"), ("get a", "1")]
+    for words, wanted in steps:
+        while True:
+            said = ran([*client, *words.split()], 10)
+            told.append(str(said))
+            if wanted in said[1] and "rdb_last_bgsave_status:err" not in said[1]:
+                break
+            if time.monotonic() > until or said[0] is None:
+                return False, "\n".join(told)
+            time.sleep(0.1)
+    ran([*client, "shutdown"], 10)
+    return True, "\n".join(told)
+
+
+def report_of(words):
+    """The one process of a report as JSON, or nothing, and all that was said."""
+    told = ran([RECORD, *words, "--json"])
+    try:
+        [process] = json.loads(told[1])
+    except ValueError:
+        return None, str(told)
+    return process if told[0] == 0 else None, str(told)
+
+
+def is_near(time, *wanted, least=1.0):
+    """Whether nanoseconds are so many milliseconds in all, and some for a busy machine."""
+    return least * sum(wanted) <= time / 1e6 < 1.3 * sum(wanted) + 100
+
+
+LATE = 0.6  # a part of the time that a thread may wait less, since it came late
+
+
+# Cases of `times`: the waits, the longest of them, the holds, the calls and the threads.
+KNOWN_TIMES = {
+    "a_wait_and_two_holds": ([120], [120, 40], 2, 2),
+    "a_reader_and_a_writer": ([120], [160, 40], 4, 2),
+    "a_sleep_between_two_holds": ([], [40, 40], 1, 1),
+    "a_wait_for_a_permit": ([120], [], 1, 1),
+    "twelve_waits": ([10, 10, 120, *[30] * 9], [10, 10, 120, *[30] * 9], 24, 2),
+}
+
+
+def record_times(tests, case):
+    folder = tests.histories(f"times-{case}")
+    ran([RECORD, "--times", "-o", folder, "--", TIMES, case])
+    return folder
+
+
+def are_times(process, waits, holds, calls, threads):
+    """Whether the one object of a report has such times, and the report such longest waits."""
+    [found] = process["objects"]
+    is_good = [found["contended"], found["calls"], found["threads"]] == [len(waits), calls, threads]
+    is_good = is_good and is_near(found["waited_ns"], *waits, least=LATE) and is_near(found["held_ns"], *holds)
+    is_good = is_good and is_near(found["longest_wait_ns"], max(waits, default=0), least=LATE)
+    is_good = is_good and is_near(found["longest_hold_ns"], max(holds, default=0))
+    by_size = found["waits_by_log2_ns"]
+    is_good = is_good and sum(by_size.values()) == len(waits) and (not waits or max(map(int, by_size)) >= 26)
+    counted = sum(found["holds_by_log2_ns"].values())
+    is_good = is_good and counted >= len(holds) and found["holds"] == counted
+    longest, wanted = [wait["ns"] for wait in process["longest_waits"]], sorted(waits, reverse=True)[:10]
+    is_good = is_good and len(longest) == len(wanted) and longest == sorted(longest, reverse=True)
+    return is_good and all(is_near(it, many, least=LATE) for it, many in zip(longest, wanted))
+
+
+def check_times_of(tests, case, *wanted):
+    """On a busy machine a thread may come too late to wait: then it is tried again."""
+    name = case.replace("_", " ")
+    for nth in range(3):
+        folder = tests.histories(f"times-{case}" if nth == 0 else f"times-{case}-{nth}")
+        said = ran([RECORD, "--times", "-o", folder, "--", TIMES, case])
+        process, told = report_of(["--report", folder])
+        is_good = process is not None and said[:2] == (0, "") and are_times(process, *wanted)
+        if is_good:
+            break
+    tests.count(f"times of {name}", is_good, f"{said}\n{told}")
+    is_said = process and f"process {process['process']}: 1 objects, the most waited for first" in said[2]
+    tests.count(f"the end of {name} says the report", bool(is_said and "held ms" in said[2]), str(said))
+
+
+def check_known_times(tests):
+    """How long threads of known programs waited and held, in all, at most, and in buckets; and who they were."""
+    for case, wanted in KNOWN_TIMES.items():
+        check_times_of(tests, case, *wanted)
+    folder = tests.histories("times-a_wait_and_two_holds")
+    process, told = report_of(["--report", folder])
+    wait = process["longest_waits"][0] if process and process["longest_waits"] else None
+    if tests.count("a long wait is in the report", wait is not None, told):
+        people = wait["thread"]["thread"], wait["thread"]["name"], wait["held_by"]["thread"], wait["held_by"]["name"]
+        is_good = people == (1, "the waiter", 0, "times")
+        is_good = is_good and str(wait["place_line"]).endswith(f":{line_with('a long wait')}")
+        tests.count("a long wait has its thread, its holder and its line", is_good, str(wait))
+    names = [pathlib.Path(file).read_text() for file in glob.glob(f"{folder}/*/*.names")]
+    is_good = names == ["0 times\n1 the_waiter\n"]
+    tests.count("names of threads lie beside a history", is_good, str(names))
+    process, told = report_of(["--report", record_times(tests, "three_mutexes")])
+    order = [it["object"] for it in process["objects"]] if process else []
+    tests.count("the most waited for comes first, then what was held longest", order == [3, 2, 1], told)
+    process, told = report_of(["--report", record_times(tests, "a_call_that_is_put_in_line")])
+    lines = re.findall(r"\w+\.[hc]:\d+", str(process and process["objects"][0]["place_line"]))
+    wanted = [f"check.h:{line_with('in a header', 'check.h')}", f"times.c:{line_with('from here')}"]
+    tests.count("a place in a header is told with the source that it came from", lines == wanted, told)
+
+
+def line_with(text, file="times.c"):
+    """The number of the line of a test with a comment."""
+    lines = (HERE / "test" / file).read_text().split("\n")
+    return 1 + next(i for i, line in enumerate(lines) if f"/* {text} */" in line)
+
+
+class Hanging:
+    """A case of `times` that is recorded until it hangs. At the end it is killed, with all that it started."""
+
+    def __init__(self, tests, case, *, by_script=False, **environment):
+        self.folder = tests.histories("-".join(["hangs", case, *environment.values(), *["script"] * by_script]))
+        ours = {"AQS_RECORD": self.folder, "LD_PRELOAD": LIBRARY}
+        words = [RECORD, "-o", self.folder, "--"] if by_script else []
+        self.run = subprocess.Popen(
+            [*words, TIMES, case], stdin=subprocess.DEVNULL, stdout=subprocess.PIPE, stderr=subprocess.PIPE, text=True,
+            env={**os.environ, **({} if by_script else ours), **environment}, start_new_session=True)
+        self.run.stdout.readline()
+        self.errors = ""
+
+    def __enter__(self):
+        return self
+
+    def __exit__(self, *what):
+        if self.run.poll() is None:
+            os.killpg(self.run.pid, signal.SIGKILL)
+        self.ended()
+
+    def wait_for_waits(self, count):
+        """Until so many waits are in the files."""
+        until = time.monotonic() + SECONDS
+        while time.monotonic() < until:
+            files = [pathlib.Path(file).read_text() for file in glob.glob(f"{self.folder}/*/times")]
+            if any(text.count("\nnow\t") >= count for text in files):
+                return
+            time.sleep(0.02)
+
+    def kill(self, number=signal.SIGKILL):
+        os.kill(self.run.pid, number)
+        return self.ended()
+
+    def ended(self):
+        """The status, when the program has ended."""
+        try:
+            self.errors += self.run.communicate(timeout=SECONDS)[1]
+        except (subprocess.TimeoutExpired, ValueError):
+            return self.run.poll()
+        return self.run.returncode
+
+
+# Cases that hang: how many threads wait, and the circles that a report may have, as threads and the objects for which
+# they wait.
+CIRCLES = {
+    "two_mutexes_in_opposite_orders": (2, {((1, 1), (0, 2)), ((0, 2), (1, 1))}),
+    "a_mutex_that_its_owner_locks": (1, {((0, 1),)}),
+    "a_reader_that_wants_to_write": (1, {((0, 1),)}),
+    "a_circle_by_one_of_two_readers": (2, {((0, 2), (2, 1)), ((2, 1), (0, 2))}),
+    "no_circle_since_one_gives_up": (2, set()),
+    "an_owner_that_has_ended": (1, set()),
+}
+
+
+def circles_in(process):
+    return [tuple((it["thread"], it["waits_for"]) for it in circle) for circle in process["circles"]]
+
+
+def check_circle(tests, name, case, process, told):
+    """A report has the one circle of a case, or none, and each wait of a thread now as one that lasts."""
+    _, wanted = CIRCLES[case]
+    circles = circles_in(process) if process else []
+    is_good = process and (len(circles) == 1 and circles[0] in wanted if wanted else circles == [])
+    tests.count(f"the circle of {name}", bool(is_good), told)
+    waits = [it for it in process["waits_now"] if it["ns"] > 0] if process else []
+    contended = sum(it["contended"] for it in process["objects"]) if process else 0
+    is_good = waits and contended == len(waits) and sum(it["waited_ns"] for it in process["objects"]) > 0
+    is_good = is_good and len(process["longest_waits"]) == len(waits)
+    if is_good and process["holds_are_timed"] and wanted:
+        is_good = sum(it["held_ns"] for it in process["objects"]) >= sum(it["ns"] for it in waits)
+    tests.count(f"waits and holds that aren't over count in {name}", bool(is_good), told)
+
+
+def check_circles(tests):
+    """Who waits for whom in programs that hang: as they run, and after they were killed."""
+    for case, (count, _) in CIRCLES.items():
+        name = case.replace("_", " ")
+        with Hanging(tests, case) as hanging:
+            hanging.wait_for_waits(count)
+            process, told = report_of(["--now", str(hanging.run.pid)])
+            check_circle(tests, f"{name}, as it runs", case, process, told)
+        with Hanging(tests, case, AQS_TIMES="1") as hanging:
+            hanging.wait_for_waits(count)
+            hanging.kill()
+            process, told = report_of(["--report", hanging.folder])
+            check_circle(tests, f"{name}, after a kill", case, process, told)
+    check_words(tests)
+    check_first_look(tests)
+    check_child_that_hangs(tests)
+    check_now(tests)
+
+
+def check_words(tests):
+    """The words of a report."""
+    told = ran([RECORD, "--report", tests.histories("hangs-two_mutexes_in_opposite_orders-1")])
+    first, second, at_first, at_second = [line_with(words) for words in (
+        "the first call of the first", "the first call of the second", "waits for the first", "waits for the second")]
+    said = (f"thread 0 holds mutex 1 (times.c:{first}) and waits for mutex 2 (times.c:{second}) at "
+            f"times.c:{at_second}, which thread 1 holds")
+    tests.count("a circle is said with its lines", told[0] == 0 and said in told[1], str(told))
+    held = ["which is held by thread 1 (second first, ", f"at times.c:{at_first}, which is held by thread 0 (times, "]
+    tests.count("who waits for whom is said", all(words in told[1] for words in held), str(told))
+    told = ran([RECORD, "--report", tests.histories("hangs-an_owner_that_has_ended-1")])
+    is_good = "(it ended, " in told[1] and "which has ended or was left behind by a fork" in told[1]
+    tests.count("an owner that has ended is said to", is_good, str(told))
+
+
+def check_now(tests):
+    """Each report of a program that runs is of now, also if it does nothing meanwhile."""
+    with Hanging(tests, "an_owner_that_has_ended") as hanging:
+        began, told, asked = time.monotonic(), [], []
+        for _ in range(3):
+            asked.append(1e9 * (time.monotonic() - began))
+            told.append(report_of(["--now", str(hanging.run.pid)]))
+            time.sleep(0.5)
+        times = [process["waits_now"][0]["ns"] for process, _ in told if process]
+        is_good = len(times) == 3 and all(it > then - 4e8 for it, then in zip(times, asked))
+        tests.count("a program may be asked again and again", is_good, str(told))
+    with Hanging(tests, "two_threads_that_rest") as hanging:
+        told = [report_of(["--now", str(hanging.run.pid)]) for _ in range(3)]
+        tests.count("a program that rests may be asked too", all(process for process, _ in told), str(told))
+
+
+def check_first_look(tests):
+    """A program that hangs at its beginning is written within its first second, if it has a processor meanwhile."""
+    times = []
+    for _ in range(3):
+        with Hanging(tests, "two_mutexes_in_opposite_orders", AQS_KEEP="1000") as hanging:
+            hanging.wait_for_waits(2)
+            hanging.kill()
+        for process in json.loads(ran([RECORD, "--report", hanging.folder, "--json"])[1] or "[]"):
+            times += [wait["ns"] for wait in process["waits_now"]]
+    tests.count("a program that hangs is written soon", 0 < min(times, default=0) < 9e8, str(times))
+
+
+def check_child_that_hangs(tests):
+    """A child waits for a mutex whose owner is in its parent alone. It has no helper, and writes before it waits."""
+    with Hanging(tests, "a_child_without_the_owner") as hanging:
+        hanging.wait_for_waits(1)
+        os.killpg(hanging.run.pid, signal.SIGKILL)
+    told = ran([RECORD, "--report", hanging.folder, "--json"])
+    holders = [it for process in json.loads(told[1] or "[]") for it in process["holders"]]
+    is_good = [(it["object"], it["gone"], it["thread"]["thread"]) for it in holders] == [(1, True, 1)]
+    tests.count("a child says that the owner is not with it", is_good, str(told))
+
+
+def check_ends(tests):
+    """`kill` of a recorded program and of aqs-record: both end, and what was recorded is whole."""
+    for case in ("calls_without_end", "calls_of_two_threads_without_end", "two_mutexes_in_opposite_orders",
+                 "one_thread_that_rests", "two_threads_that_rest"):
+        name = case.replace("_", " ")
+        for by_script in (False, True):
+            with Hanging(tests, case, by_script=by_script, AQS_EVERY="0" if by_script else "1") as hanging:
+                time.sleep(0.5)
+                status = hanging.kill(signal.SIGTERM)
+                wanted = 128 + signal.SIGTERM if by_script else -signal.SIGTERM
+                who = "aqs-record" if by_script else "the program"
+                is_good = status == wanted and not is_running(f"{TIMES} {case}")
+                tests.count(f"{who} is ended by SIGTERM in {name}", is_good, f"{status} {hanging.errors}")
+            tests.audit(name, f"{hanging.folder}/*")
+            lines = index_of(first_process(hanging.folder))
+            others = [it for it in lines if it.kept != entries_in(f"{first_process(hanging.folder)}/{it.file}")]
+            tests.count(f"the index of {name} is whole", bool(lines) and not others, str(lines))
+            is_told = "A circle of process" in hanging.errors
+            is_good = is_told == (by_script and case in CIRCLES)
+            tests.count(f"the end of {name} says its circle", is_good, hanging.errors)
+    folder = tests.histories("record-timeout")
+    words = [TIMES, "calls_of_two_threads_without_end"]
+    told = ran(["timeout", "1", RECORD, "-o", folder, "--", *words])
+    is_good = told[0] == 124 and not is_running(" ".join(words))
+    tests.count("timeout ends aqs-record and its program", is_good, str(told))
+    is_good = len(index_of(first_process(folder))) == 2
+    tests.count("what it recorded is whole", is_good)
+
+
+def is_running(words):
+    """Whether a process has these words."""
+    for file in glob.glob("/proc/[0-9]*/cmdline"):
+        try:
+            if pathlib.Path(file).read_bytes().replace(b"\0", b" ").decode(errors="replace").strip() == words:
+                return True
+        except OSError:
+            pass
+    return False
+
+
 def check_stripped(tests):
     """Without debug information the index is whole, and places have no lines."""
     folder, stripped = tests.histories("record-stripped"), os.path.join(tests.folder, "strip: ped")
@@ -404,9 +750,17 @@ def check_script(tests):
     finally:
         signal.signal(signal.SIGINT, usual)
     tests.count("a program that ends by Ctrl-C, which is for both", told[0] == 7, str(told))
-    told, other = ran([RECORD, "-h"]), ran([RECORD, "-x", "--", "true"])
-    is_good = told[0] == 0 and told[1].startswith("usage: ") and other[0] == 2 and "usage: " in other[2]
+    told, other = [ran([RECORD, word]) for word in ("-h", "--help")], ran([RECORD, "-x", "--", "true"])
+    is_good = told[0] == told[1] and told[0][0] == 0 and told[0][1].startswith("usage: ") and not told[0][2]
+    is_good = is_good and other[0] == 2 and other[2].startswith("aqs-record: there is no option -x\nusage: ")
     tests.count("aqs-record says its usage", is_good, f"{told}\n{other}")
+    told = [ran([RECORD, *words]) for words in (("-o",), ("--now", "me"), ("--report",))]
+    tests.count("an option without its word is a fault", [it[0] for it in told] == [2] * 3, str(told))
+    told = [ran([RECORD, *words]) for words in (("--report", room), ("--now", str(os.getpid())))]
+    is_good = [it[0] for it in told] == [1] * 2 and all(it[2].startswith("aqs-record: ") for it in told)
+    tests.count("what recorded nothing has no report", is_good, str(told))
+    told = ran(["sh", "-c", f"echo words | {RECORD} -o{folder} -k100 -e5 -- cat"])
+    tests.count("a program has the standard input of aqs-record", told == (0, "words\n", ""), str(told))
     alone = shutil.copy(RECORD, room)
     tests.count("aqs-record without its library", ran([alone, "--", "true"])[0] == 127)
     ignoring = ["sh", "-c", f"trap '' USR2; exec {ANSWERS} reads_beside_sigusr2"]
@@ -416,11 +770,11 @@ def check_script(tests):
 
 
 def record_elsewhere(tests, folder, words, **environment):
-    """Records a program that goes to another folder. Its own is there, with one file and an index."""
+    """Records a program that goes to another folder. Its own is there, with a history, names, an index and times."""
     told = ran([*words, ANSWERS, "uses_a_mutex_elsewhere"], cwd=tests.folder, **environment)
     made = processes(os.path.join(tests.folder, folder))
     files = [len(os.listdir(path)) for path in made]
-    tests.count(f"what is recorded goes to {folder}", told == (8, "", "") and files == [2], f"{told} {made}")
+    tests.count(f"what is recorded goes to {folder}", told == (8, "", "") and files == [4], f"{told} {made}")
     return made[0] if made else ""
 
 
@@ -476,4 +830,8 @@ def check(tests, judged):
     check_killed(tests, " by itself", judged, False)
     check_killed(tests, " in a child", judged, False, "child")
     check_cost(tests)
+    check_forks(tests)
+    check_known_times(tests)
+    check_circles(tests)
+    check_ends(tests)
     check_stripped(tests)

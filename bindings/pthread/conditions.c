@@ -206,34 +206,34 @@ static bool signal_listed(thread_t *me, condition_t *condition, bool all) {
 }
 
 /* How many waiters a signal by the owner moved. The thread is in the object. */
-static uint32_t signal_numbered(object_t *object, thread_t *me, uint16_t seat, int number, bool all) {
+static uint32_t signal_numbered(object_t *object, uint16_t seat, int number, bool all) {
     aqs_step_t step = {.n = 1, .code = all ? AQS_STEP_SIGNAL_ALL : AQS_STEP_SIGNAL, .mode = (uint8_t)number};
     aqs_answer_t answer;
     aqs_step_now(&object->core->seats[seat].pass, step, &answer);
-    end_step(object, me, seat, step, &answer);
+    end_step(object, seat, step, &answer);
     uint32_t moved = is_success(&answer) ? answer.n : 0;
     object->moved += moved;
     return moved;
 }
 
 /* The owner makes the signals that others noted. It is in the object. */
-void flush(object_t *object, thread_t *me, uint16_t seat) {
+void flush(object_t *object, uint16_t seat) {
     unsigned which = atomic_exchange(&object->pending, 0);
     for (int number = 0; which >> number; number++) {
         if (!(which >> number & 1)) continue;
         unsigned signals = atomic_exchange(&object->signals[number], 0);
-        if (signals >= ALL) signal_numbered(object, me, seat, number, true);
+        if (signals >= ALL) signal_numbered(object, seat, number, true);
         else
-            while (signals-- && signal_numbered(object, me, seat, number, false)) continue;
+            while (signals-- && signal_numbered(object, seat, number, false)) continue;
     }
 }
 
 /* A step of the recorder's own seat in `kick`. Whether it did what it should. */
-static bool step_of_kick(object_t *object, thread_t *me, uint16_t seat, uint8_t code) {
+static bool step_of_kick(object_t *object, uint16_t seat, uint8_t code) {
     aqs_step_t step = {.n = 1, .code = code, .mode = AQS_MODE_EXCLUSIVE};
     aqs_answer_t answer;
     aqs_step_now(&object->core->seats[seat].pass, step, &answer);
-    end_step(object, me, seat, step, &answer);
+    end_step(object, seat, step, &answer);
     return is_success(&answer);
 }
 
@@ -244,10 +244,10 @@ COLD void kick(object_t *object, thread_t *me) {
         seat_t *seat = claim_own(object, me);
         uint16_t index = index_of(object, seat);
         atomic_fetch_add(&object->kicks, 1);
-        bool is_mine = step_of_kick(object, me, index, AQS_STEP_TRY);
+        bool is_mine = step_of_kick(object, index, AQS_STEP_TRY);
         if (is_mine) {
-            flush(object, me, index);
-            step_of_kick(object, me, index, AQS_STEP_GIVE);
+            flush(object, index);
+            step_of_kick(object, index, AQS_STEP_GIVE);
         }
         atomic_fetch_add(&object->kicks, 1);
         atomic_exchange(&object->core->seats[index].user, 0);
@@ -283,7 +283,7 @@ static bool signal_bound(thread_t *me, condition_t *condition, bool all) {
     bool is_moved = false;
     object_t *object = enter_bound(me, condition, &number);
     if (!object) return false;
-    if (object->owner == me->id) is_moved = signal_numbered(object, me, object->owner_seat, number, all) > 0;
+    if (object->owner == me->id) is_moved = signal_numbered(object, object->owner_seat, number, all) > 0;
     else note_signal(object, me, number, all);
     leave(me);
     return is_moved;
@@ -325,10 +325,16 @@ typedef struct {
     pthread_mutex_t *mutex;
     thread_t *me;
     deadline_t deadline;
+    void *place;
     uint16_t seat;
     uint32_t holds;
     waiter_t waiter;
 } wait_t;
+
+static void begin_sleep(wait_t *wait) {
+    request_t request = {.mode = SLEEP, .deadline = wait->deadline, .place = wait->place};
+    begin_wait(wait->me, wait->object, &request);
+}
 
 static void sleep_on(wait_t *wait, aqs_answer_t *answer) {
     object_t *object = wait->object;
@@ -337,12 +343,13 @@ static void sleep_on(wait_t *wait, aqs_answer_t *answer) {
     call.how = wait->deadline.at ? AQS_HOW_TIMED : AQS_HOW_INTERRUPTIBLE;
     seat->how = call.how, seat->condition = call.mode, seat->order = ++object->order;
     object->sleepers++;
+    if (seat->since) end_hold(object, seat);
     atomic_exchange(&object->owner, 0);
     seat->state = SLEEPING;
     aqs_begin(&seat->pass, &call, answer);
     if (answer->kind != AQS_IS_WAITING || answer->has_wakes) {
         seat->state = IDLE;
-        end_begin(object, wait->me, wait->seat, &call, answer);
+        end_begin(object, wait->seat, &call, answer);
         seat = &object->core->seats[wait->seat];
         seat->state = SLEEPING;
     } else {
@@ -359,7 +366,9 @@ static void wake_up(wait_t *wait, const aqs_answer_t *answer) {
     object->sleepers--;
     object->moved -= answer->end == AQS_END_SIGNALLED;
     object->owner_seat = wait->seat;
+    begin_hold(seat);
     atomic_store(&object->owner, wait->me->id);
+    end_sleep(wait->me, object);
 }
 
 static void turns_of_wait(wait_t *wait, aqs_answer_t *answer, unsigned ends) {
@@ -388,7 +397,7 @@ static void stop_sleeping(void *with) {
     turns_of_wait(wait, &answer, NO_END);
     wake_up(wait, &answer);
     bool is_lost = answer.end == AQS_END_SIGNALLED
-                   && !signal_numbered(wait->object, wait->me, wait->seat, wait->condition->number, false);
+                   && !signal_numbered(wait->object, wait->seat, wait->condition->number, false);
     leave(wait->me);
     if (is_lost) signal_listed(wait->me, wait->condition, false);
     let_go(wait->me, wait->condition);
@@ -396,14 +405,12 @@ static void stop_sleeping(void *with) {
 
 static int wait_numbered(wait_t *wait) {
     aqs_answer_t answer;
-    uint64_t from = nanoseconds();
+    begin_sleep(wait);
     sleep_on(wait, &answer);
     pthread_cleanup_push(stop_sleeping, wait);
     turns_of_wait(wait, &answer, ENDS_BY_CANCEL);
     pthread_cleanup_pop(0);
     wake_up(wait, &answer);
-    wait->object->sleeps++;
-    wait->object->slept += nanoseconds() - from;
     leave(wait->me);
     return answer.end == AQS_END_TIMEOUT ? ETIMEDOUT : 0;
 }
@@ -446,13 +453,17 @@ static bool leaves_list(wait_t *wait) {
 /* A mutex of glibc may refuse to be unlocked, or tell that its owner has died. */
 static int unlock_for_wait(wait_t *wait) {
     if (!wait->object) return REAL(pthread_mutex_unlock, wait->mutex);
+    begin_sleep(wait);
     wait->holds = unlock_whole(wait->object, wait->me);
     return 0;
 }
 
 static int lock_after_wait(wait_t *wait) {
     if (!wait->object) return REAL(pthread_mutex_lock, wait->mutex);
-    lock_again(wait->object, wait->holds);
+    lock_again(wait->object, wait->holds, wait->place);
+    enter(wait->me, wait->object);
+    end_sleep(wait->me, wait->object);
+    leave(wait->me);
     return 0;
 }
 
@@ -482,13 +493,13 @@ static int wait_listed(wait_t *wait) {
 static int wait_on(condition_t *condition, pthread_mutex_t *mutex, void *place, deadline_t deadline) {
     if (deadline.at && !is_deadline(deadline.at)) return EINVAL;
     pthread_testcancel();
-    wait_t wait = {.condition = condition, .mutex = mutex, .deadline = deadline, .me = self()};
+    wait_t wait = {.condition = condition, .mutex = mutex, .deadline = deadline, .place = place, .me = self()};
     wait.object = object_of_mutex(mutex, place);
     if (wait.object && wait.object->owner != wait.me->id) return EPERM;
     bool is_numbered = false;
     if (wait.object) {
         enter(wait.me, wait.object);
-        if (atomic_load(&wait.object->pending)) flush(wait.object, wait.me, wait.object->owner_seat);
+        if (atomic_load(&wait.object->pending)) flush(wait.object, wait.object->owner_seat);
         is_numbered = has_number(wait.object, wait.me, condition);
         wait.seat = wait.object->owner_seat;
         if (!is_numbered) leave(wait.me);

@@ -30,10 +30,10 @@ static uint32_t cap_of(uint8_t level) {
     return half > least ? half : least;
 }
 
-static aqs_header_t header_of(const object_t *object, uint8_t level, uint32_t holds) {
+static aqs_header_t header_of(const object_t *object, uint8_t level) {
     return (aqs_header_t){
         .number = object->kind == SEMAPHORE ? (int32_t)object->permits : 0,
-        .cap = cap_of(level) + 4 * holds,
+        .cap = UINT32_MAX, /* entries are folded before, but each hold keeps room for its end */
         .seats = seats_of[level],
         .conditions = object->kind == MUTEX ? conditions_of[level] : 0,
         .kind = core_kind[object->kind],
@@ -45,14 +45,13 @@ uint8_t conditions_at(const object_t *object) {
     return object->kind == MUTEX && object->core ? conditions_of[object->core->level] : 0;
 }
 
-/* `holds`: those with which its history begins. Each has an entry, and room for its end. There is room for as many
-   again. */
+/* `holds`: those with which its history begins. Each takes an entry. */
 static core_t *open_core(const object_t *object, uint8_t level, uint32_t holds) {
     uint16_t count = seats_of[level];
     core_t *core = heap_take_zeroed(sizeof *core + count * sizeof(seat_t));
     aqs_pass_t *passes = heap_take_zeroed(count * sizeof(aqs_pass_t));
     uint8_t answer = AQS_FAULT_OUT_OF_MEMORY;
-    if (core && passes) answer = aqs_open(header_of(object, level, holds), passes, count);
+    if (core && passes) answer = aqs_open(header_of(object, level), passes, count);
     for (uint16_t i = 0; answer == 0 && i < count; i++) core->seats[i].pass = passes[i];
     heap_give(passes);
     if (answer != 0) {
@@ -60,7 +59,7 @@ static core_t *open_core(const object_t *object, uint8_t level, uint32_t holds) 
         return NULL;
     }
     core->count = count, core->level = level;
-    core->enough = cap_of(level) / 8 * 7 + holds;
+    core->enough = cap_of(level) / 8 * 7 + holds, core->most = cap_of(level) + holds;
     return core;
 }
 
@@ -215,6 +214,16 @@ static bool replace_core(object_t *object, uint8_t level) {
     return true;
 }
 
+static void back_off(unsigned *looks) {
+    if (++*looks < 30) {
+        for (int left = 1 << (*looks < 6 ? *looks : 6); left > 0; left--) relax();
+    } else if (*looks < 1000) {
+        sched_yield();
+    } else {
+        pause_a_little();
+    }
+}
+
 /* Replaces the core if nobody is in the queue, and nobody else is just doing that. */
 COLD bool grow(object_t *object, thread_t *me, uint8_t level) {
     if (level >= LEVELS || !begin_alone(object, me)) return false;
@@ -224,10 +233,24 @@ COLD bool grow(object_t *object, thread_t *me, uint8_t level) {
     return is_good;
 }
 
+/* Where somebody is in the queue, the entries are folded in the same core. Who finds its own seat taken leaves that to
+   another turn. */
+static void fold_if_busy(object_t *object, thread_t *me) {
+    core_t *core = object->core;
+    seat_t *own = &core->seats[core->count - 1];
+    uint64_t nobody = 0, count;
+    unsigned looks = 0;
+    if (core->entries < core->most || !atomic_compare_exchange_strong(&own->user, &nobody, me->id)) return;
+    own->thread = me;
+    while (aqs_trim_now(&own->pass, &count) == AQS_IS_BUSY) back_off(&looks);
+    core->entries = 0;
+    atomic_store(&own->user, 0);
+}
+
 COLD void fold_if_full(object_t *object, thread_t *me) {
     core_t *core = object->core;
     if (object->wanted > core->level) grow(object, me, object->wanted);
-    else if (core->entries >= core->enough) grow(object, me, core->level);
+    else if (core->entries >= core->enough && !grow(object, me, core->level)) fold_if_busy(object, me);
 }
 
 /* First touches ------------------------------------------------------------------------------------------ */
@@ -253,8 +276,7 @@ static void adopt(object_t *object, const thread_t *me) {
     object->entries = object->kept = object->dropped = 0;
     object->seen_entries = 0;
     object->written_entries = 0;
-    object->waits = object->waited = 0;
-    object->sleeps = object->slept = 0;
+    forget_times(object);
     object->moved = object->sleepers = 0;
 
     object->pending = 0;
@@ -345,15 +367,15 @@ COLD void wake_outside(object_t *object, bool many) {
 }
 
 /* The thread is in the object, before and after. NULL: `woke` says why not. */
-COLD seat_t *
-claim_or_wait(object_t *object, thread_t *me, deadline_t deadline, unsigned ends, uint8_t *woke) {
+COLD seat_t *claim_or_wait(object_t *object, thread_t *me, request_t *request, uint8_t *woke) {
     seat_t *seat;
+    begin_wait(me, object, request);
     atomic_fetch_add(&object->outside, 1);
     for (*woke = WOKE;;) {
         unsigned event = atomic_load(&object->seat_event);
         if ((seat = claim(object, me)) || *woke != WOKE) break;
         leave(me);
-        *woke = sleep_while(&object->seat_event, event, deadline, ends);
+        *woke = sleep_while(&object->seat_event, event, request->deadline, request->ends);
         enter(me, object);
     }
     atomic_fetch_sub(&object->outside, 1);
@@ -375,34 +397,11 @@ COLD seat_t *claim_own(object_t *object, thread_t *me) {
 
 /* Turns -------------------------------------------------------------------------------------------------- */
 
-static void back_off(unsigned *looks) {
-    if (++*looks < 30) {
-        for (int left = 1 << (*looks < 6 ? *looks : 6); left > 0; left--) relax();
-    } else if (*looks < 1000) {
-        sched_yield();
-    } else {
-        pause_a_little();
-    }
-}
-
-/* The history is full: the core is replaced, or its entries are folded. Who has the recorder's own seat
-   folds, and waits for nobody, since others in the object may wait for that seat. */
-static void make_room(object_t *object, thread_t *me, uint16_t seat) {
-    bool is_own = seat + 1 == object->core->count;
-    if (!is_own && grow(object, me, object->core->level)) return;
-    uint64_t count;
-    unsigned looks = 0;
-    while (aqs_trim_now(&object->core->seats[seat].pass, &count) == AQS_IS_BUSY) back_off(&looks);
-    object->core->entries = 0;
-}
-
-/* Whether a first turn changed nothing, and is to be made again. */
-static bool is_made_again(
-    object_t *object, thread_t *me, uint16_t seat, const aqs_answer_t *answer, unsigned *looks) {
-    bool is_full = answer->kind == AQS_IS_FAULT && answer->fault == AQS_FAULT_HISTORY_FULL;
+/* Whether a first turn changed nothing, and is to be made again. No history is full: its entries are folded long
+   before. */
+static bool is_made_again(const aqs_answer_t *answer, unsigned *looks) {
     bool lacks_memory = answer->kind == AQS_IS_FAULT && answer->fault == AQS_FAULT_OUT_OF_MEMORY;
-    if (answer->kind != AQS_IS_BUSY && !is_full && !lacks_memory) return false;
-    if (is_full) make_room(object, me, seat);
+    if (answer->kind != AQS_IS_BUSY && !lacks_memory) return false;
     if (lacks_memory) pause_a_little();
     back_off(looks);
     return true;
@@ -413,19 +412,18 @@ void settle(object_t *object, const aqs_answer_t *answer) {
     if (answer->has_wakes) unpark(object->core->seats[answer->wakes].thread);
 }
 
-/* The rest of a step, from its first answer on. The core may be another afterwards. */
-COLD void end_step(object_t *object, thread_t *me, uint16_t seat, aqs_step_t step, aqs_answer_t *answer) {
+/* The rest of a step, from its first answer on. */
+COLD void end_step(object_t *object, uint16_t seat, aqs_step_t step, aqs_answer_t *answer) {
     unsigned looks = 0;
-    while (is_made_again(object, me, seat, answer, &looks))
+    while (is_made_again(answer, &looks))
         aqs_step_now(&object->core->seats[seat].pass, step, answer);
     settle(object, answer);
 }
 
 /* The rest of the first turn of a call. */
-COLD void
-end_begin(object_t *object, thread_t *me, uint16_t seat, const aqs_call_t *call, aqs_answer_t *answer) {
+COLD void end_begin(object_t *object, uint16_t seat, const aqs_call_t *call, aqs_answer_t *answer) {
     unsigned looks = 0;
-    while (is_made_again(object, me, seat, answer, &looks))
+    while (is_made_again(answer, &looks))
         aqs_begin(&object->core->seats[seat].pass, call, answer);
     settle(object, answer);
 }
@@ -500,6 +498,7 @@ static place_t *place_at(void *address, uint8_t kind) {
     place_t *place = heap_take_zeroed(sizeof *place);
     if (!place) return NULL;
     place->address = address, place->kind = kind, place->next = *bucket;
+    place->sums.gone.place = address, place->sums.gone.kind = kind;
     return *bucket = place;
 }
 
@@ -530,6 +529,23 @@ static object_t *new_object(void *address, uint8_t kind, uint8_t type, int64_t p
    already. */
 enum { FILES_OF_PLACE = 16 };
 
+static void add_sum(sum_t *to, const sum_t *more) {
+    to->count += more->count, to->sum += more->sum;
+    if (more->longest > to->longest) to->longest = more->longest;
+}
+
+static void add_to_gone(line_t *gone, const object_t *object, uint64_t entries) {
+    bytes_t none = {NULL, 0, 0}, buckets = none;
+    line_t line = {0};
+    add_times(object, &none, &line, &buckets);
+    heap_give(buckets.at);
+    add_sum(&gone->waits, &line.waits);
+    add_sum(&gone->holds, &line.holds);
+    gone->gone++, gone->entries += entries;
+    gone->calls += object->calls, gone->threads |= object->threads;
+    gone->sleeps += object->sleeps, gone->slept += object->slept;
+}
+
 /* An object that is gone: it will be written, or only counted. Nobody is in it, and the table is locked. */
 static void bury(object_t *object) {
     sums_t *sums = &object->place->sums;
@@ -544,8 +560,7 @@ static void bury(object_t *object) {
         return;
     }
     only_counted++;
-    sums->unsaved++, sums->entries += entries, sums->waits += object->waits, sums->waited += object->waited;
-    sums->sleeps += object->sleeps, sums->slept += object->slept;
+    add_to_gone(&sums->gone, object, entries);
     free_object(object);
 }
 
@@ -555,6 +570,8 @@ void free_object(object_t *object) {
     free_history(&object->archive);
     heap_give(object->signals);
     heap_give(object->conditions);
+    heap_give(object->wait_times);
+    heap_give(object->hold_times);
     heap_give(object);
 }
 
@@ -639,7 +656,7 @@ void for_each_object(
 
 static void forget_sums(place_t *place, void *nothing) {
     (void)nothing;
-    memset(&place->sums, 0, sizeof place->sums);
+    place->sums = (sums_t){.gone = {.place = place->address, .kind = place->kind}};
 }
 
 /* In the child of a fork: what was gone before isn't its own. */

@@ -3,8 +3,10 @@
    heap.c      memory of its own
    threads.c   the threads that use it: parking, forks, posts from signal handlers
    objects.c   objects over the proved core: seats, turns, growth, and the table of addresses
+   times.c     how long threads waited and held, and who waits now
    text.c      the history of an object as one text
    write.c     files, the index, the helper thread
+   report.c    the file of times: objects, the longest waits, who waits for whom
    calls.c     mutexes, read-write locks and semaphores under their pthread names
    conditions.c  condition variables under theirs */
 #ifndef AQS_RECORD_H
@@ -75,6 +77,19 @@ typedef struct {
     atomic_uint count;
 } posts_t;
 
+/* What a thread waits for. `since` is 0 if it doesn't, and while the rest changes. */
+typedef struct {
+    _Atomic uint64_t since;
+    uint32_t serial; /* of the object */
+    uint8_t what;
+    bool is_timed;
+    void *place;
+    struct thread *holder; /* who held the object then, if that is known, and its id */
+    uint64_t holder_id;
+} waiting_t;
+
+enum { NAME_SIZE = 16, NESTED = 2 };
+
 /* A thread that has made a call. Records are used again, and never freed: a late wake finds one.
    `in`: the object that the thread may be touching, or ELSEWHERE in the recorder, or NULL. */
 typedef struct thread {
@@ -85,6 +100,11 @@ typedef struct thread {
     uint32_t displaced;     /* how many seats of read-write locks it has which it doesn't prefer */
     uint32_t parks;         /* how deep: a signal handler may park in a park */
     volatile uint32_t has_posts;
+    volatile bool is_asleep; /* in a system call of the recorder's own */
+    volatile uint32_t depth; /* of waits: a signal handler may wait in a wait */
+    uint32_t tid;            /* as the system counts */
+    char name[NAME_SIZE];    /* as the system had it when it was last asked */
+    waiting_t waiting[NESTED];
     posts_t posts[POSTED_SEMAPHORES];
     _Alignas(64) atomic_uint word; /* PERMIT and SLEEPS */
     atomic_uint is_live;
@@ -142,6 +162,15 @@ typedef struct {
 /* Whether a wait may have a deadline by this clock. */
 static inline bool is_clock(clockid_t clock) { return clock == CLOCK_REALTIME || clock == CLOCK_MONOTONIC; }
 
+/* A call that may wait: what for, until when, what else ends it, and where the program made it. */
+typedef struct {
+    uint8_t mode;
+    bool waits; /* it had to */
+    deadline_t deadline;
+    unsigned ends;
+    void *place;
+} request_t;
+
 enum { NO_END, ENDS_BY_SIGNAL = 1, ENDS_BY_CANCEL = 2 };
 enum { WOKE = AQS_WOKE_PERMIT, TIMED_OUT = AQS_WOKE_DEADLINE, STOPPED = AQS_WOKE_INTERRUPT };
 
@@ -176,15 +205,24 @@ typedef struct {
     _Atomic uint64_t user; /* the id of its thread, or 0 */
     thread_t *thread;
     uint64_t order; /* of sleepers: who came first */
+    uint64_t since; /* when its thread began to hold, if holds are timed */
     uint32_t holds, reads;
     uint8_t state, condition, how;
 } seat_t;
+
+enum { BUCKETS = 40 };
+
+/* How long waits or holds were. Bucket N has those of 2^N nanoseconds and more, but less than twice as long. */
+typedef struct {
+    _Atomic uint64_t sum, longest;
+    _Atomic uint64_t buckets[BUCKETS];
+} times_t;
 
 /* An object of the proved core. The last seat is the recorder's own. */
 typedef struct {
     uint16_t count;
     uint8_t level;
-    uint32_t entries, enough;        /* about how many it has, and how many are enough */
+    uint32_t entries, enough, most;  /* about how many it has, how many are enough, and too many */
     uint32_t replayed, replayed_ends; /* entries at its beginning that tell the state of the core before it */
     seat_t seats[];
 } core_t;
@@ -223,7 +261,10 @@ struct object {
     uint64_t born; /* the epoch of its history */
     uint64_t order, dropped; /* dropped: entries that were folded and forgotten */
     int64_t permits; /* with which the core of a semaphore is opened */
-    _Atomic uint64_t waits, waited, sleeps, slept;
+    _Atomic uint64_t calls;   /* that got it, if they are counted */
+    _Atomic uint64_t threads; /* that got it, a bit for each number. The last is for all others */
+    _Atomic uint64_t waits, sleeps, slept;
+    times_t *_Atomic wait_times, *_Atomic hold_times;
     uint64_t entries, kept; /* all, and how many of them the last text has */
     uint64_t written_entries;
     uint32_t seen_entries;
@@ -289,11 +330,11 @@ static inline void unclaim(object_t *object, seat_t *seat) {
 }
 
 seat_t *claim_own(object_t *object, thread_t *me); /* the recorder's own seat */
-seat_t *claim_or_wait(object_t *object, thread_t *me, deadline_t deadline, unsigned ends, uint8_t *woke);
+seat_t *claim_or_wait(object_t *object, thread_t *me, request_t *request, uint8_t *woke);
 
-/* Turns. Each is made in an object. The core may be another after each of these. */
-void end_step(object_t *object, thread_t *me, uint16_t seat, aqs_step_t step, aqs_answer_t *answer);
-void end_begin(object_t *object, thread_t *me, uint16_t seat, const aqs_call_t *call, aqs_answer_t *answer);
+/* Turns. Each is made in an object. */
+void end_step(object_t *object, uint16_t seat, aqs_step_t step, aqs_answer_t *answer);
+void end_begin(object_t *object, uint16_t seat, const aqs_call_t *call, aqs_answer_t *answer);
 void next_turn(object_t *object, uint16_t seat, uint8_t woke, aqs_answer_t *answer);
 void settle(object_t *object, const aqs_answer_t *answer);
 bool grow(object_t *object, thread_t *me, uint8_t level);
@@ -320,15 +361,88 @@ static inline uint16_t index_of(const object_t *object, const seat_t *seat) {
     return (uint16_t)(seat - object->core->seats);
 }
 
+/* Times -------------------------------------------------------------------------------------------------- */
+
+extern bool is_timed; /* AQS_TIMES: holds are timed too, and calls are counted */
+
+enum { SLEEP = 2 }; /* what a thread waits for, beside AQS_MODE_EXCLUSIVE and AQS_MODE_SHARED */
+enum { LONGEST = 10 };
+
+/* A thread as it is told. */
+typedef struct {
+    uint32_t number, tid;
+    char name[NAME_SIZE];
+} person_t;
+
+/* A wait that is over, or one that isn't yet. */
+typedef struct {
+    uint64_t took, since, id;
+    uint32_t serial;
+    uint8_t what;
+    bool is_timed, has_holder;
+    void *place;
+    person_t thread, holder;
+} wait_of_t;
+
+/* A thread that holds an object for which one waits. */
+typedef struct {
+    uint64_t id;
+    uint32_t serial;
+    uint8_t mode;
+    bool is_gone; /* it has ended, or was left behind by a fork */
+    person_t thread;
+} holder_t;
+
+/* How many, how long together, and the longest. */
+typedef struct {
+    uint64_t count, sum, longest;
+} sum_t;
+
+/* What the index and the times say of an object. */
+typedef struct {
+    uint64_t entries, kept, calls, threads, sleeps, slept;
+    sum_t waits, holds;
+    void *address, *place;
+    uint64_t gone; /* above 0: so many objects of this place that are gone */
+    uint32_t serial;
+    uint8_t kind;
+} line_t;
+
+/* The thread is in the object. */
+void begin_wait(thread_t *me, object_t *object, request_t *request);
+void end_wait(thread_t *me, object_t *object);
+void end_sleep(thread_t *me, object_t *object);
+COLD void count_one_call(object_t *object, const thread_t *me);
+COLD void end_hold(object_t *object, seat_t *seat);
+void forget_times(object_t *object);
+void forget_waits(void);
+void begin_longest(thread_t *me);
+bool waits_now(bytes_t *waits);
+void add_times(const object_t *object, const bytes_t *waits, line_t *line, bytes_t *buckets);
+void add_holders(const object_t *object, const bytes_t *waits, bytes_t *holders);
+bool still_waits(const wait_of_t *wait);
+void copy_longest(wait_of_t *longest);
+void name_threads(void);
+person_t person_of(const thread_t *thread);
+
+/* Counts a call that got the object, and begins a hold, if that is asked for. */
+static inline void count_call(object_t *object, const thread_t *me) {
+    if (unlikely(is_timed)) count_one_call(object, me);
+}
+
+static inline void begin_hold(seat_t *seat) {
+    if (unlikely(is_timed)) seat->since = nanoseconds();
+}
+
 /* Conditions --------------------------------------------------------------------------------------------- */
 
-void flush(object_t *object, thread_t *me, uint16_t seat);
+void flush(object_t *object, uint16_t seat);
 void kick(object_t *object, thread_t *me);
 void unbind_all(object_t *object);
 
 /* Mutexes, for conditions.c */
 object_t *object_of_mutex(pthread_mutex_t *mutex, void *place);
-void lock_again(object_t *object, uint32_t holds);
+void lock_again(object_t *object, uint32_t holds, void *place);
 uint32_t unlock_whole(object_t *object, thread_t *me);
 
 /* Texts and files ---------------------------------------------------------------------------------------- */
@@ -342,9 +456,21 @@ bool compose(object_t *object, thread_t *me, bytes_t *text);
 bool add_to_archive(object_t *object, const bytes_t *text, uint32_t replayed, uint32_t replayed_ends);
 
 typedef struct {
-    uint64_t objects, unsaved, entries, waits, waited, sleeps, slept;
+    uint64_t objects;
+    line_t gone; /* those that have no file */
     uint32_t saved;
 } sums_t;
+
+/* What is written of one look at all objects. */
+typedef struct {
+    bytes_t lines;   /* of the index, each a line_t */
+    bytes_t waits;   /* that aren't over, each a wait_of_t */
+    bytes_t holders; /* of what is waited for, each a holder_t */
+    bytes_t buckets; /* text */
+    bool is_changed;
+    bytes_t text, names; /* of the object that was looked at last, if it changed */
+    line_t line;
+} writing_t;
 
 struct place {
     void *address;
@@ -363,10 +489,21 @@ void unlock_table(thread_t *me);
 void free_object(object_t *object);
 void forget_files(void);
 void forget_objects(void);
+void write_times(writing_t *writing);
+void sort_lines(line_t *lines, size_t count, bool (*comes_before)(const line_t *, const line_t *));
+bool names_of(object_t *object, bytes_t *names);
+bool say(bytes_t *out, const char *form, ...);
+bool write_file(const char *name, const bytes_t *text);
+void name_file(const line_t *line, char *name, size_t room);
+void name_place(void *place, char *module, char *function, size_t room);
+extern const char *const kind_names[KINDS];
+enum { NAME_ROOM = 600 };
 bool is_write_asked(void);
+bool takes_ask(void);
 void become_helper(void);
 void main_leaves(void);
 void write_all(thread_t *me);
+void write_before_wait(thread_t *me);
 
 /* What stays glibc's, and how many of which. */
 enum {

@@ -7,6 +7,7 @@
 #include <linux/futex.h>
 #include <signal.h>
 #include <string.h>
+#include <sys/prctl.h>
 #include <sys/syscall.h>
 #include <unistd.h>
 
@@ -32,6 +33,7 @@ static void end_self(void *record) {
         pthread_setspecific(at_end, me);
         return;
     }
+    prctl(PR_GET_NAME, me->name);
     self_ = NULL, put_off = 0;
     if (getpid() == gettid()) main_leaves();
     atomic_store(&me->is_live, 0);
@@ -85,7 +87,11 @@ COLD thread_t *new_self(void) {
     }
     if (!self_) {
         me->id = atomic_fetch_add(&ids, 1) + 1;
-        me->busy = me->displaced = me->parks = me->has_posts = 0;
+        me->busy = me->displaced = me->parks = me->has_posts = me->depth = 0;
+        me->is_asleep = false;
+        me->tid = (uint32_t)gettid();
+        prctl(PR_GET_NAME, me->name);
+        for (unsigned i = 0; i < NESTED; i++) me->waiting[i].since = 0;
         me->in = NULL;
         me->word = 0;
         memset(me->posts, 0, sizeof me->posts);
@@ -96,17 +102,24 @@ COLD thread_t *new_self(void) {
     return me;
 }
 
-/* What signal handlers asked for while the thread was busy. It isn't now: so a handler that comes here asks for
-   nothing, or leaves nothing when it ends. */
-void run_posts(thread_t *me) {
+static void make_posts(thread_t *me) {
     do {
         me->has_posts = 0;
         for (unsigned i = 0; i < POSTED_SEMAPHORES; i++) {
             sem_t *semaphore = me->posts[i].semaphore;
             for (unsigned left = atomic_exchange(&me->posts[i].count, 0); left > 0; left--) sem_post(semaphore);
         }
-        if (is_write_asked()) write_all(me);
     } while (me->has_posts);
+}
+
+/* What signal handlers asked for while the thread was busy. It isn't now: so a handler that comes here asks for
+   nothing, or leaves nothing when it ends. If one asks again while files are written, the next call writes. */
+void run_posts(thread_t *me) {
+    make_posts(me);
+    if (!takes_ask()) return;
+    write_all(me);
+    make_posts(me);
+    if (is_write_asked()) me->has_posts = 1;
 }
 
 /* Parking ------------------------------------------------------------------------------------------------ */
@@ -143,8 +156,13 @@ static uint8_t futex_wait(atomic_uint *word, unsigned read, deadline_t deadline,
 }
 
 uint8_t sleep_while(atomic_uint *word, unsigned read, deadline_t deadline, unsigned ends) {
+    thread_t *me = self();
     int kept = errno;
+    bool was_asleep = me->is_asleep;
+    if (!deadline.at && !me->busy) write_before_wait(me);
+    me->is_asleep = true;
     uint8_t woke = futex_wait(word, read, deadline, ends);
+    me->is_asleep = was_asleep;
     errno = kept;
     return woke;
 }
@@ -210,13 +228,18 @@ void wait_for_fork(thread_t *me) {
     for (unsigned looks = 0; atomic_load(&epoch) & 1; looks++) yield_for(looks);
 }
 
+/* The thread that closed the gate. */
+static thread_t *_Atomic forker;
+
 /* Until the fork is over nobody begins a turn, and nobody is in one. A handler that forks in the midst of a turn of
    its own thread can't wait for that: others may wait for its turn. The child of such a handler may call nothing
    but async-signal-safe functions, unless the process has one thread. */
 static void before_fork(void) {
+    if (!is_recording) return;
     thread_t *me = self();
     if (me->busy) return;
     for (unsigned looks = 0; !spin_try(&fork_lock); looks++) yield_for(looks);
+    forker = me;
     atomic_store(&epoch, settled_epoch + 1);
     for (thread_t *at = newest; at; at = at->next)
         for (unsigned looks = 0; at != me && atomic_load(&at->in); looks++) yield_for(looks);
@@ -224,7 +247,8 @@ static void before_fork(void) {
 }
 
 static void after_fork_in_parent(void) {
-    if (self()->busy) return;
+    if (!forker || forker != self_) return;
+    forker = NULL;
     heap_unlock_for_fork();
     atomic_store(&epoch, settled_epoch);
     spin_unlock(&fork_lock);
@@ -232,16 +256,40 @@ static void after_fork_in_parent(void) {
 
 /* The child has this thread alone. Each object tells its state anew when it is next touched. */
 static void after_fork_in_child(void) {
-    if (!self()->busy) heap_unlock_for_fork();
+    if (!is_recording) return;
+    if (forker == self()) heap_unlock_for_fork();
+    forker = NULL;
     for (thread_t *at = newest; at; at = at->next) {
         if (at == self_) continue;
         at->in = NULL;
         at->is_live = 0;
+        for (unsigned i = 0; i < NESTED; i++) at->waiting[i].since = 0;
     }
+    if (self_) self_->tid = (uint32_t)gettid();
     settled_epoch += 2;
     forget_files();
     atomic_store(&epoch, settled_epoch);
     atomic_store(&fork_lock, 0);
 }
 
-void watch_forks(void) { pthread_atfork(before_fork, after_fork_in_parent, after_fork_in_child); }
+/* Calls before a fork are made in the opposite order of their registration, and those after it in the same order.
+   The gate must be closed last and opened first, since the other calls may lock. So ours are registered before the
+   first of any library, whose constructor may run before the recorder's. */
+typedef void call_t(void);
+extern void *__dso_handle;
+SHOWN int __register_atfork(call_t *before, call_t *in_parent, call_t *in_child, void *library);
+
+static int register_calls(call_t *before, call_t *in_parent, call_t *in_child, void *library) {
+    return REAL(__register_atfork, before, in_parent, in_child, library);
+}
+
+void watch_forks(void) {
+    static atomic_uint is_watching;
+    if (!atomic_exchange(&is_watching, 1))
+        register_calls(before_fork, after_fork_in_parent, after_fork_in_child, &__dso_handle);
+}
+
+SHOWN int __register_atfork(call_t *before, call_t *in_parent, call_t *in_child, void *library) {
+    watch_forks();
+    return register_calls(before, in_parent, in_child, library);
+}

@@ -15,22 +15,14 @@
 #include <sys/stat.h>
 #include <unistd.h>
 
-/* One line of the index. */
-typedef struct {
-    uint64_t entries, kept, waits, waited, sleeps, slept;
-    void *address, *place;
-    uint32_t serial;
-    uint8_t kind;
-} line_t;
-
 static char top[PATH_MAX], folder[PATH_MAX + 64], program[PATH_MAX];
 static pid_t process;
-static atomic_uint write_lock, asked, has_helper, has_complained, main_has_left;
+static atomic_uint write_lock, asked, must_write, has_helper, has_complained, main_has_left;
 static uint32_t every = 1;
 static struct stat errors_at_start;
-static bytes_t gone; /* the lines of objects that are gone */
+static bytes_t gone, gone_buckets; /* the lines of objects that are gone */
 
-static const char *const kind_names[KINDS] = {"mutex", "rwlock", "semaphore"};
+const char *const kind_names[KINDS] = {"mutex", "rwlock", "semaphore"};
 
 /* The folder --------------------------------------------------------------------------------------------- */
 
@@ -85,7 +77,7 @@ static bool write_bytes(int file, const char *at, size_t size) {
     return true;
 }
 
-static bool write_file(const char *name, const bytes_t *text) {
+bool write_file(const char *name, const bytes_t *text) {
     char path[PATH_MAX + 400], beside[PATH_MAX + 400];
     snprintf(path, sizeof path, "%s/%s", folder, name);
     snprintf(beside, sizeof beside, "%s/.new", folder);
@@ -102,7 +94,7 @@ static bool write_file(const char *name, const bytes_t *text) {
 /* Places ------------------------------------------------------------------------------------------------- */
 
 /* The call before a return address: the module and the offset in it, and the function if it has a name. */
-static void name_place(void *place, char *module, char *function, size_t room) {
+void name_place(void *place, char *module, char *function, size_t room) {
     Dl_info info;
     char *at = (char *)place - 1;
     function[0] = 0;
@@ -114,10 +106,8 @@ static void name_place(void *place, char *module, char *function, size_t room) {
         snprintf(function, room, "%s+0x%zx", info.dli_sname, (size_t)(at - (char *)info.dli_saddr));
 }
 
-enum { NAME_ROOM = 600 };
-
 /* 12-mutex-worker_start+0x34.history: what is no letter or digit becomes a line. */
-static void name_file(const line_t *line, char *name, size_t room) {
+void name_file(const line_t *line, char *name, size_t room) {
     char module[NAME_ROOM], function[NAME_ROOM];
     name_place(line->place, module, function, sizeof module);
     const char *slash = strrchr(module, '/'), *shown = function[0] ? function : slash ? slash + 1 : module;
@@ -132,7 +122,7 @@ static void name_file(const line_t *line, char *name, size_t room) {
 
 /* The index ---------------------------------------------------------------------------------------------- */
 
-static bool say(bytes_t *out, const char *form, ...) {
+bool say(bytes_t *out, const char *form, ...) {
     char text[2 * NAME_ROOM + 400];
     va_list list;
     va_start(list, form);
@@ -145,23 +135,25 @@ static bool comes_before(const line_t *a, const line_t *b) {
     return a->entries != b->entries ? a->entries > b->entries : a->serial < b->serial;
 }
 
+typedef bool order_t(const line_t *, const line_t *);
+
 /* Puts the line of a heap where it belongs. */
-static void sift(line_t *lines, size_t at, size_t count) {
+static void sift(line_t *lines, size_t at, size_t count, order_t *is_before) {
     for (size_t child; (child = 2 * at + 1) < count; at = child) {
-        if (child + 1 < count && comes_before(&lines[child], &lines[child + 1])) child++;
-        if (!comes_before(&lines[at], &lines[child])) return;
+        if (child + 1 < count && is_before(&lines[child], &lines[child + 1])) child++;
+        if (!is_before(&lines[at], &lines[child])) return;
         line_t kept = lines[at];
         lines[at] = lines[child], lines[child] = kept;
     }
 }
 
 /* qsort may call malloc. */
-static void sort(line_t *lines, size_t count) {
-    for (size_t i = count / 2; i-- > 0;) sift(lines, i, count);
+void sort_lines(line_t *lines, size_t count, order_t *is_before) {
+    for (size_t i = count / 2; i-- > 0;) sift(lines, i, count, is_before);
     for (size_t left = count; left-- > 1;) {
         line_t kept = lines[0];
         lines[0] = lines[left], lines[left] = kept;
-        sift(lines, 0, left);
+        sift(lines, 0, left, is_before);
     }
 }
 
@@ -172,27 +164,27 @@ static void say_line(bytes_t *out, const line_t *line) {
     name_file(line, name, sizeof name);
     name_place(line->place, module, function, sizeof module);
     say(out, "%10llu %10llu %8llu %11.3f %8llu %11.3f  %-9s %p  %s  %s%s%s\n",
-        (unsigned long long)line->entries, (unsigned long long)line->kept, (unsigned long long)line->waits,
-        milliseconds(line->waited), (unsigned long long)line->sleeps, milliseconds(line->slept),
+        (unsigned long long)line->entries, (unsigned long long)line->kept, (unsigned long long)line->waits.count,
+        milliseconds(line->waits.sum), (unsigned long long)line->sleeps, milliseconds(line->slept),
         kind_names[line->kind], line->address, name, module, function[0] ? " " : "", function);
 }
 
 static void say_place(place_t *place, void *out) {
     char module[NAME_ROOM], function[NAME_ROOM];
-    const sums_t *sums = &place->sums;
-    if (!sums->unsaved) return;
+    const line_t *sums = &place->sums.gone;
+    if (!sums->gone) return;
     name_place(place->address, module, function, sizeof module);
     say(out,
         "%10llu %10s %8llu %11.3f %8llu %11.3f  %-9s and %llu more of this place, which are gone  %s%s%s\n",
-        (unsigned long long)sums->entries, "-", (unsigned long long)sums->waits, milliseconds(sums->waited),
+        (unsigned long long)sums->entries, "-", (unsigned long long)sums->waits.count, milliseconds(sums->waits.sum),
         (unsigned long long)sums->sleeps, milliseconds(sums->slept), kind_names[place->kind],
-        (unsigned long long)sums->unsaved, module, function[0] ? " " : "", function);
+        (unsigned long long)sums->gone, module, function[0] ? " " : "", function);
 }
 
 static void write_index(bytes_t *lines) {
     bytes_t out = {NULL, 0, 0};
     size_t count = lines->size / sizeof(line_t);
-    sort((line_t *)lines->at, count);
+    sort_lines((line_t *)lines->at, count, comes_before);
     say(&out, "program %s, process %d: %zu objects\n", program_invocation_name, (int)process, count);
     say(&out, "%10s %10s %8s %11s %8s %11s  %-9s %s\n", "entries", "kept", "waits", "waited ms",
         "sleeps", "slept ms", "kind", "address, file, place of the first call");
@@ -204,21 +196,17 @@ static void write_index(bytes_t *lines) {
 
 /* Objects ------------------------------------------------------------------------------------------------ */
 
-static line_t line_of(const object_t *object) {
-    return (line_t){
-        .entries = object->entries, .kept = object->kept, .waits = object->waits, .waited = object->waited,
-        .sleeps = object->sleeps, .slept = object->slept, .address = object->address,
-        .place = object->place->address, .serial = object->serial, .kind = object->kind,
+static line_t line_of(const object_t *object, writing_t *writing) {
+    line_t line = {
+        .entries = object->entries, .kept = object->kept, .calls = object->calls,
+        .threads = object->threads, .sleeps = object->sleeps, .slept = object->slept,
+        .address = object->address, .place = object->place->address, .serial = object->serial,
+        .kind = object->kind,
     };
+    add_times(object, &writing->waits, &line, &writing->buckets);
+    add_holders(object, &writing->waits, &writing->holders);
+    return line;
 }
-
-/* What one writing of all that changed has come to. */
-typedef struct {
-    bytes_t lines; /* of the index */
-    bool is_changed;
-    bytes_t text; /* of the object that was looked at last, if it changed */
-    line_t line;
-} writing_t;
 
 /* About how many entries the object has made. */
 static uint64_t entries_of(const object_t *object) {
@@ -233,20 +221,24 @@ static bool take_text(thread_t *me, object_t *object, writing_t *writing) {
     uint64_t entries = entries_of(object);
     if (!compose(object, me, &writing->text)) return false;
     object->written_entries = entries;
-    writing->line = line_of(object);
+    if (writing->text.size) names_of(object, &writing->names);
     return true;
 }
 
-/* Writes the text that was taken. The thread is in no object: files and the dynamic linker's lock may take long. */
+/* Writes the text that was taken, and names beside it. The thread is in no object: files and the dynamic linker's lock
+   may take long. */
 static void write_text(void *with) {
     writing_t *writing = with;
     if (writing->text.size) {
         char name[NAME_ROOM];
         name_file(&writing->line, name, sizeof name);
         if (has_folder() && write_file(name, &writing->text)) writing->is_changed = true;
+        strcpy(strrchr(name, '.'), ".names");
+        if (writing->names.size && folder[0]) write_file(name, &writing->names);
     }
     heap_give(writing->text.at);
     writing->text = (bytes_t){NULL, 0, 0};
+    writing->names.size = 0;
 }
 
 static bool look(thread_t *me, object_t *object, void *with) {
@@ -254,8 +246,8 @@ static bool look(thread_t *me, object_t *object, void *with) {
     if (object->born != epoch_of_now()) return true;
     if (entries_of(object) != object->written_entries && !take_text(me, object, writing)) return false;
     if (!object->entries) return true;
-    line_t line = line_of(object);
-    append(&writing->lines, (const char *)&line, sizeof line);
+    writing->line = line_of(object, writing);
+    append(&writing->lines, (const char *)&writing->line, sizeof writing->line);
     return true;
 }
 
@@ -268,7 +260,10 @@ static void write_dead(thread_t *me, writing_t *writing) {
         if (!object) return;
         enter_elsewhere(me);
         take_text(me, object, writing);
+        writing->line = line_of(object, writing);
         append(&gone, (const char *)&writing->line, sizeof writing->line);
+        if (writing->buckets.size) append(&gone_buckets, writing->buckets.at, writing->buckets.size);
+        writing->buckets.size = 0;
         writing->is_changed = true;
         free_object(object);
         leave(me);
@@ -276,19 +271,51 @@ static void write_dead(thread_t *me, writing_t *writing) {
     }
 }
 
+/* What is gone, and who waits, before all objects are looked at. */
+static void begin_writing(thread_t *me, writing_t *writing) {
+    write_dead(me, writing);
+    name_threads();
+    enter_elsewhere(me);
+    if (gone.size) append(&writing->lines, gone.at, gone.size);
+    if (gone_buckets.size) append(&writing->buckets, gone_buckets.at, gone_buckets.size);
+    waits_now(&writing->waits);
+    leave(me);
+}
+
+static void end_writing(writing_t *writing) {
+    heap_give(writing->lines.at);
+    heap_give(writing->waits.at);
+    heap_give(writing->holders.at);
+    heap_give(writing->buckets.at);
+    heap_give(writing->names.at);
+}
+
 static void write_changes(thread_t *me) {
     static unsigned counted;
     writing_t writing = {0};
     while (!spin_try(&write_lock)) sched_yield();
-    write_dead(me, &writing);
-    enter_elsewhere(me);
-    if (gone.size) append(&writing.lines, gone.at, gone.size);
-    leave(me);
+    begin_writing(me, &writing);
     for_each_object(me, look, write_text, &writing);
-    if (writing.is_changed || (folder[0] && counted != only_counted)) write_index(&writing.lines);
+    bool is_due = atomic_exchange(&must_write, 0) || counted != only_counted || is_timed || writing.waits.size;
+    if (writing.is_changed || (folder[0] && is_due)) {
+        write_index(&writing.lines);
+        write_times(&writing);
+    }
     counted = only_counted;
-    heap_give(writing.lines.at);
+    end_writing(&writing);
     spin_unlock(&write_lock);
+}
+
+/* The signal that ends the process once all is written. */
+static atomic_int end_signal;
+
+static void end_by_signal(int number) {
+    sigset_t ours;
+    sigemptyset(&ours);
+    sigaddset(&ours, number);
+    signal(number, SIG_DFL);
+    pthread_sigmask(SIG_UNBLOCK, &ours, NULL);
+    kill(getpid(), number);
 }
 
 /* Writes what changed since the last time. Meanwhile the thread isn't cancelled, and what its signal handlers ask for
@@ -298,6 +325,7 @@ void write_all(thread_t *me) {
     me->busy++;
     pthread_setcancelstate(PTHREAD_CANCEL_DISABLE, &state);
     write_changes(me);
+    if (end_signal) end_by_signal(end_signal);
     pthread_setcancelstate(state, NULL);
     me->busy--;
     errno = kept;
@@ -323,29 +351,55 @@ static bool is_last(void) {
     return has_two && main_has_ended();
 }
 
-static struct timespec after_now(uint64_t time) {
-    uint64_t moment = nanoseconds() + time;
-    return (struct timespec){(time_t)(moment / 1000000000), (long)(moment % 1000000000)};
+enum { SECOND = 1000000000, SHORT_TIME = 20000000, FIRST_LOOK = 100000000 };
+
+static struct timespec moment_of(uint64_t time) {
+    return (struct timespec){(time_t)(time / SECOND), (long)(time % SECOND)};
 }
 
-enum { SECOND = 1000000000, SHORT_TIME = 20000000 };
+/* Whether a thread waits for a lock or a permit. Threads that sleep on conditions often do so all the time. */
+static bool waits_for_lock(thread_t *me) {
+    bytes_t waits = {NULL, 0, 0};
+    bool is_found = false;
+    enter_elsewhere(me);
+    waits_now(&waits);
+    for (size_t i = 0; i < waits.size / sizeof(wait_of_t); i++)
+        is_found |= ((const wait_of_t *)waits.at)[i].what != SLEEP;
+    heap_give(waits.at);
+    leave(me);
+    return is_found;
+}
 
+/* The first look is soon, for a program that hangs at its beginning. */
 static void *help(void *nothing) {
     become_helper();
     thread_t *me = self();
-    uint64_t next = nanoseconds() + every * (uint64_t)SECOND;
+    uint64_t start = nanoseconds(), next = start + (every ? FIRST_LOOK : 0);
+    bool is_first = every > 0;
     while (!is_last()) {
-        struct timespec moment = after_now(main_has_left ? SHORT_TIME : every * (uint64_t)SECOND);
+        struct timespec moment = moment_of(main_has_left ? nanoseconds() + SHORT_TIME : next);
         bool is_endless = !every && !main_has_left;
         sleep_while(&asked, 0, (deadline_t){is_endless ? NULL : &moment, CLOCK_MONOTONIC}, NO_END);
-        bool is_time = every && nanoseconds() >= next;
-        if (!atomic_exchange(&asked, 0) && !is_time) continue;
+        bool is_time = every && nanoseconds() >= next, is_asked = atomic_exchange(&asked, 0);
+        if (!is_asked && !is_time) continue;
         uint64_t from = nanoseconds();
-        write_all(me);
-        next = nanoseconds() + every * (uint64_t)SECOND + 9 * (nanoseconds() - from);
+        if (is_asked || !is_first || waits_for_lock(me)) write_all(me);
+        next = is_first ? start + every * (uint64_t)SECOND : 0;
+        is_first = is_first && is_asked;
+        if (!is_first && nanoseconds() >= next)
+            next = nanoseconds() + every * (uint64_t)SECOND + 9 * (nanoseconds() - from);
     }
     exit(0);
     return nothing;
+}
+
+/* A thread is about to wait, perhaps for good, and there is no helper that would write meanwhile. */
+void write_before_wait(thread_t *me) {
+    static _Atomic uint64_t next;
+    uint64_t now;
+    if (has_helper || !every || !is_recording || (now = nanoseconds()) < next) return;
+    next = now + every * (uint64_t)SECOND;
+    write_all(me);
 }
 
 /* The main thread ends before others. When they have ended, the helper ends the process. */
@@ -382,24 +436,44 @@ pthread_create(pthread_t *thread, const pthread_attr_t *attributes, void *(*run)
 }
 
 /* Without a helper the next call of the thread writes. */
-bool is_write_asked(void) { return !has_helper && atomic_exchange(&asked, 0); }
+bool is_write_asked(void) { return !has_helper && atomic_load(&asked); }
+bool takes_ask(void) { return is_write_asked() && atomic_exchange(&asked, 0); }
 
-static void ask(int signal) {
-    (void)signal;
+/* A thread that sleeps in the recorder can write at once. */
+static void ask(int number) {
+    thread_t *me = self_;
+    (void)number;
+    atomic_store(&must_write, 1);
     atomic_store(&asked, 1);
     wake_word(&asked, 1);
-    if (self_) self_->has_posts = 1;
+    if (!me) return;
+    me->has_posts = 1;
+    if (me->is_asleep && !me->busy) run_posts(me);
+}
+
+/* SIGTERM, for which the program has no handler. The helper writes, or this thread does as soon as it isn't busy. A child
+   of vfork ends alone: our memory is its parent's. */
+static void write_and_end(int number) {
+    if (getpid() != process) {
+        end_by_signal(number);
+        return;
+    }
+    end_signal = number;
+    ask(number);
+    if (!has_helper && !self()->busy) write_all(self());
 }
 
 /* In the child of a fork: it has no helper, and a folder of its own. */
 void forget_files(void) {
     folder[0] = 0;
     process = getpid();
-    gone.size = 0;
+    gone.size = gone_buckets.size = 0;
+    forget_waits();
     atomic_store(&write_lock, 0);
     atomic_store(&has_helper, 0);
     atomic_store(&main_has_left, 0);
     atomic_store(&asked, 0);
+    end_signal = 0;
     forget_objects();
 }
 
@@ -419,9 +493,9 @@ static void find_top(const char *where) {
     for (size = strlen(top); size > 1 && top[size - 1] == '/'; size--) top[size - 1] = 0;
 }
 
-static void watch_signal(void) {
-    struct sigaction old, ours = {.sa_handler = ask, .sa_flags = SA_RESTART};
-    if (sigaction(SIGUSR2, NULL, &old) == 0 && old.sa_handler == SIG_DFL) sigaction(SIGUSR2, &ours, NULL);
+static void watch_signal(int number, void (*handler)(int)) {
+    struct sigaction old, ours = {.sa_handler = handler, .sa_flags = SA_RESTART};
+    if (sigaction(number, NULL, &old) == 0 && old.sa_handler == SIG_DFL) sigaction(number, &ours, NULL);
 }
 
 __attribute__((constructor(101))) static void begin_recording(void) {
@@ -430,12 +504,14 @@ __attribute__((constructor(101))) static void begin_recording(void) {
     find_top(where);
     keep = number_of("AQS_KEEP", 64, keep);
     every = number_of("AQS_EVERY", 0, every);
+    is_timed = number_of("AQS_TIMES", 0, 0);
     process = getpid();
     if (readlink("/proc/self/exe", program, sizeof program - 1) < 0) program[0] = 0;
     fstat(2, &errors_at_start);
     watch_threads();
     watch_forks();
-    watch_signal();
+    watch_signal(SIGUSR2, ask);
+    watch_signal(SIGTERM, write_and_end);
     is_recording = true;
 }
 

@@ -4,12 +4,14 @@ AQS_HISTORIES names a folder for the histories.
 """
 import base64
 import contextlib
+import copy
 import ctypes
 import email
 import gc
 import hashlib
 import os
 import pathlib
+import pickle
 import platform
 import re
 import signal
@@ -153,6 +155,46 @@ class Objects(Tests):
             self.assertFalse(lock.wait(timeout=0.01))
             lock.notify_all()
         self.keep("conditions", lock)
+
+    def test_a_file_of_names_is_beside_a_history(self):
+        lock, latch = aqs.RLock(keep_history=True), aqs.CountDownLatch(1)
+        name = pathlib.Path("/proc/thread-self/comm").read_text(encoding="utf-8").strip()[:15].replace(" ", "_")
+        with lock:
+            threads = run_all(1, lambda _number: in_lock(lock, int))
+            until(lambda: lock.queue_length() == 1)
+        join_all(threads)
+        with tempfile.TemporaryDirectory() as folder:
+            for thing in (lock, latch):
+                thing.save(pathlib.Path(folder) / "it")
+                self.assertEqual((pathlib.Path(folder) / "it").read_text(encoding="utf-8"), thing.history())
+                self.assertEqual((pathlib.Path(folder) / "it.names").read_text(encoding="utf-8"), thing.names())
+        seats = [line.split(" ") for line in lock.names().splitlines()]
+        self.assertEqual([it[1] for it in seats], [name, name])
+
+    def test_a_bounded_buffer(self):
+        lock, items, sums, room, each = aqs.RLock(), [], [0] * 3, 8, 20_000
+        not_empty, not_full = aqs.Condition(lock), aqs.Condition(lock)
+
+        def put(_number):
+            for item in range(each):
+                with lock:
+                    while len(items) == room:
+                        not_full.wait()
+                    items.append(item)
+                    not_empty.notify()
+
+        def take(number):
+            for _ in range(each):
+                with lock:
+                    while not items:
+                        not_empty.wait()
+                    sums[number] += items.pop()
+                    not_full.notify()
+
+        threads = run_all(3, put) + run_all(3, take)
+        for thread in threads:
+            thread.join(2 * LONG)
+        self.assertEqual((sum(sums), items), (3 * sum(range(each)), []))
 
     def test_interrupts_end_waits(self):
         lock, told = aqs.RLock(keep_history=True), []
@@ -457,7 +499,7 @@ class Objects(Tests):
 
     def test_times_longer_than_a_slice_are_not_cut_short(self):
         permits, lock = aqs.Semaphore(0), aqs.RLock()
-        time_ = 2.5 * _waiting.SLICE
+        time_ = 2.5 * _waiting.SLICE.value / 1000
         with lock:
             for wait in (lambda it: permits.acquire(timeout=it), lock.wait, aqs.Event().wait):
                 begin = time.monotonic()
@@ -642,6 +684,99 @@ class Arguments(Tests):
         self.assertRaisesRegex(ValueError, "is closed", lock.read.acquire)
         self.assertRaisesRegex(ValueError, "is closed", lock.write.acquire)
 
+    def test_who_waits_is_told_of_a_close(self):
+        both = (aqs.RWLock(), aqs.RWLock())
+        sides = ((both[0], both[0].read, both[0].write), (both[1], both[1].write, both[1].read))
+        for timeout in (None, LONG):
+            things = ((thing, thing, thing) for thing in (kind() for kind in KINDS))
+            for thing, side, other in (*things, *(sides if timeout else ())):
+                raised = []
+                other.acquire()
+                threads = run_all(2, lambda _number: raised.append(self.raised(lambda: side.acquire(timeout=timeout))))
+                until(lambda: thing.queue_length() == 2)
+                thing.close()
+                join_all(threads)
+                self.assertEqual([(type(it), str(it)) for it in raised], [(ValueError, "the object is closed")] * 2)
+                self.assertRaisesRegex(ValueError, "is closed", side.release)
+
+    def test_who_waits_on_a_condition_is_told_of_a_close(self):
+        one, more, both, event, barrier = aqs.RLock(), aqs.RLock(), aqs.RWLock(), aqs.Event(), aqs.Barrier(3)
+        for thing, side, wait in (
+            (one, one, lambda: one.wait(condition=5)), (more, more, aqs.Condition(more).wait),
+            (both, both.write, both.write.wait), (event, None, event.wait), (barrier, None, barrier.wait),
+        ):
+            raised, handle = [], thing._opened.handle
+
+            def waits(_number):
+                for _ in range(2 if side else 0):
+                    side.acquire()
+                raised.append(self.raised(wait))
+
+            threads = run_all(2, waits)
+            lock = side or thing._lock
+            until(lambda: (thing.queue_length(), thing.waiters(), lock.locked()) == (0, 2, False))
+            thing.close()
+            join_all(threads)
+            self.assertEqual([(type(it), str(it)) for it in raised], [(ValueError, "the object is closed")] * 2)
+            if thing is not both:
+                self.assertEqual(_library.library.aqs_lock_trylock(handle), _library.OK)
+                _library.library.aqs_lock_unlock(handle)
+
+    def raised(self, call):
+        try:
+            call()
+        except Exception as error:
+            return error
+        return None
+
+    def test_what_is_wrong_is_named_as_the_caller_named_it(self):
+        lock, permits = aqs.RLock(), aqs.Semaphore()
+        for call, words in (
+            (lambda: lock.acquire(timeout="5"), "timeout must be a number of seconds, not str"),
+            (lambda: permits.acquire(timeout="5"), "timeout must be a number of seconds, not str"),
+            (lambda: in_lock(lock, lambda: lock.wait("5")), "timeout must be a number of seconds, not str"),
+            (lambda: permits.acquire(n="1"), "n must be a whole number, not str"),
+            (lambda: aqs.RLock(threads=2.5), "threads must be a whole number, not float"),
+        ):
+            self.assertRaisesRegex(TypeError, f"^{words}$", call)
+        for kind in (*KINDS, aqs.RWLock, aqs.Event, lambda **it: aqs.Barrier(2, **it), lambda **it: aqs.CountDownLatch(1, **it)):
+            name = kind.__name__ if isinstance(kind, type) else "Barrier|CountDownLatch"
+            words = rf"^({name})\(\) got an unexpected keyword argument 'fair'. Its options: policy, keep_history, "
+            self.assertRaisesRegex(TypeError, words, kind, fair=True)
+
+    def test_0_threads_are_the_default(self):
+        for kind in (*KINDS, aqs.RWLock, aqs.Event):
+            self.assertRegex(kind(threads=0, most_entries=0).history(), "^aqs-history 1 .* seats 256 .*cap 1024\n")
+
+    def test_nothing_is_pickled(self):
+        both = aqs.RWLock()
+        for thing in (
+            *(kind() for kind in KINDS), both, both.read, both.write, aqs.Event(), aqs.Barrier(1), aqs.Condition(),
+            aqs.CountDownLatch(1),
+        ):
+            for call in (pickle.dumps, copy.copy, copy.deepcopy):
+                if not (isinstance(thing, aqs.Condition) and call is copy.copy):
+                    self.assertRaisesRegex(TypeError, "^cannot pickle '[A-Z]\\w+' object$", call, thing)
+
+    def test_older_names_are_there_too(self):
+        event, condition, woken = aqs.Event(), aqs.Condition(), []
+        self.assertFalse(event.isSet())
+        event.set()
+        self.assertTrue(event.isSet())
+
+        def wait(_number):
+            with condition:
+                woken.append(condition.wait(LONG))
+
+        threads = run_all(2, wait)
+        until(lambda: len(condition._queue) == 2)
+        with condition:
+            condition.notifyAll()
+        join_all(threads)
+        self.assertEqual(woken, [True, True])
+        version = re.search(r'(?m)^version = "(.*)"$', (HERE / "pyproject.toml").read_text(encoding="utf-8"))
+        self.assertEqual(aqs.__version__, version[1])
+
     def test_a_lock_that_another_thread_owns_is_not_closed(self):
         for lock in (aqs.RLock(), aqs.RWLock()):
             side = lock if isinstance(lock, aqs.RLock) else lock.read
@@ -650,10 +785,10 @@ class Arguments(Tests):
             lock.close()
 
     def test_a_close_waits_for_calls_under_way(self):
-        permits, got = aqs.Semaphore(0), []
-        threads = run_all(3, lambda _number: got.append(permits.acquire(timeout=1)))
-        until(lambda: permits.queue_length() == 3)
-        permits.close()
+        latch, got = aqs.CountDownLatch(1), []
+        threads = run_all(3, lambda _number: got.append(latch.wait(timeout=0.3)))
+        until(lambda: latch.queue_length() == 3)
+        latch.close()
         join_all(threads)
         self.assertEqual(got, [False] * 3)
 
@@ -1059,6 +1194,11 @@ class CtrlC(Tests):
                 with mock.patch("aqs._waiting.run", fail), self.assertRaises(KeyboardInterrupt):
                     call()
             self.assertTrue(in_other(lambda: thing.acquire(timeout=1) and thing.release() is None), thing)
+        lock = aqs.Lock()
+        with mock.patch("aqs._semaphores.run", fail):
+            self.assertRaises(KeyboardInterrupt, lock.acquire)
+        self.assertRaises(RuntimeError, lock.release)
+        self.assertTrue(in_other(lambda: lock.acquire(False) and lock.release() is None))
 
     def test_a_notify_that_ctrl_c_overtakes_goes_to_another(self):
         lock, woken, turn = aqs.RLock(), [], _waiting.turn
@@ -1171,9 +1311,11 @@ class CtrlC(Tests):
         self.assertRaises(ValueError, permits.release)
 
     def test_a_release_is_made_or_was_not_begun(self):
-        run = _waiting.run
-        for kind, error in ((aqs.Lock, RuntimeError), (aqs.BoundedSemaphore, ValueError)):
-            for last in (1, 2):
+        for kind, error, name, made in (
+            (aqs.Lock, RuntimeError, "run_taking", 1), (aqs.BoundedSemaphore, ValueError, "run", 2),
+        ):
+            run = getattr(_waiting, name)
+            for last in range(1, made + 1):
                 permits, calls = kind(), []
 
                 def fail(*arguments):
@@ -1184,9 +1326,9 @@ class CtrlC(Tests):
                     return status
 
                 permits.acquire()
-                with mock.patch("aqs._semaphores.run", fail):
+                with mock.patch(f"aqs._semaphores.{name}", fail):
                     self.assertRaises(KeyboardInterrupt, permits.release)
-                self.assertEqual((calls, permits.available()), ([0, 0], 1))
+                self.assertEqual((calls, permits.available()), ([0] * made, 1))
                 self.assertRaises(error, permits.release)
                 with permits:
                     self.assertEqual(permits.available(), 0)
@@ -1196,7 +1338,7 @@ class CtrlC(Tests):
                 for _ in range(20):
                     permits.acquire(False)
             calls, last = [], 1
-            with mock.patch("aqs._semaphores.run", fail):
+            with mock.patch(f"aqs._semaphores.{name}", fail):
                 self.assertRaises(KeyboardInterrupt, permits.release)
             permits.trim()
             permits.release()
@@ -1485,9 +1627,9 @@ class Refusals(Tests):
         for thing in (permits, latch, both):
             until(lambda: isinstance(raised_in_other(thing.waiters), aqs.TooManyThreads))
         for call in (
-            permits.available, permits.release, permits.drain, permits.acquire,
-            lambda: permits.acquire(False), latch.count, latch.count_down, latch.wait, latch.waiters,
-            both.write.locked, both.write.acquire, both.read.acquire, lambda: both.read.acquire(False),
+            permits.available, permits.release, permits.drain, lambda: permits.acquire(False), latch.count,
+            latch.count_down, latch.waiters, both.write.locked, lambda: both.write.acquire(False),
+            lambda: both.read.acquire(False),
         ):
             self.assertRaises(aqs.TooManyThreads, call)
         self.assertEqual((both.read.holds(), both.write.holds()), (0, 0))
@@ -1572,7 +1714,7 @@ class Closing(Tests):
     def test_each_object_is_freed_once(self):
         for kind, freed in (
             (aqs.RLock, ["lock"]), (aqs.RWLock, ["rwlock"]), (aqs.Semaphore, ["sem"]), (aqs.Event, ["lock"]),
-            (aqs.Lock, ["sem"] * 2), (aqs.BoundedSemaphore, ["sem"] * 2), (aqs.Condition, ["lock"]),
+            (aqs.Lock, ["sem"]), (aqs.BoundedSemaphore, ["sem"] * 2), (aqs.Condition, ["lock"]),
             (lambda: aqs.Barrier(2), ["lock"]), (lambda: aqs.CountDownLatch(1), ["latch"]),
             (lambda: aqs.Condition(threading.Lock()), ["lock"]),
         ):
@@ -1738,7 +1880,7 @@ class Waiting(Tests):
                 lock.wait()
             permits.acquire()
 
-        with mock.patch("aqs._waiting.SLICE", 0.005):
+        with mock.patch("aqs._waiting.SLICE", ctypes.c_int64(5)):
             threads = run_all(1, waits)
             for thing, goes_on in ((lock, lambda: in_lock(lock, lock.notify)), (permits, permits.release)):
                 until(lambda: thing.waiters() == 1)
@@ -1751,8 +1893,8 @@ class Waiting(Tests):
     def test_no_time_is_rounded_down(self):
         latch, given = aqs.CountDownLatch(1), []
 
-        def run(ran, _function, _handle, milliseconds):
-            given.append(milliseconds)
+        def run(ran, _function, arguments):
+            given.append(arguments[1].value)
             ran.append(_library.OK)
             return _library.OK
 
@@ -1813,7 +1955,7 @@ class Waiting(Tests):
                     condition.notify()
             return is_behind
 
-        with mock.patch("aqs._waiting.SLICE", 0.01), condition:
+        with mock.patch("aqs._waiting.SLICE", ctypes.c_int64(10)), condition:
             threads = run_all(1, wait) + run_all(1, lambda _number: until(notified))
             self.assertTrue(condition.wait(LONG))
             self.assertEqual(woken, [True])
@@ -1829,7 +1971,7 @@ class Waiting(Tests):
                 notified.append(None)
                 condition.notify()
 
-        with mock.patch("aqs._waiting.SLICE", 0.01), mock.patch.object(queue, "_drop", dropping), condition:
+        with mock.patch("aqs._waiting.SLICE", ctypes.c_int64(10)), mock.patch.object(queue, "_drop", dropping), condition:
             self.assertTrue(condition.wait(LONG))
 
     def test_a_predicate_is_asked_again_after_the_time(self):
@@ -2022,6 +2164,26 @@ class Forks(Tests):
         barrier.wait()
         join_all(threads)
         self.assertEqual(woken, [True])
+
+    def test_the_thread_that_forked_is_the_main_one_there(self):
+        def ended_early():
+            """Whether a signal ends a wait of the child soon. Its exception is raised in the main thread alone."""
+            signal.signal(signal.SIGALRM, signal.default_int_handler)
+            signal.setitimer(signal.ITIMER_REAL, 0.1)
+            begin = time.monotonic()
+            try:
+                aqs.Semaphore(0).acquire(timeout=4)
+            except KeyboardInterrupt:
+                return time.monotonic() - begin < 3
+            return False
+
+        def fork():
+            child = os.fork()
+            if child == 0:
+                os._exit(0 if ended_early() else 1)
+            return os.waitpid(child, 0)[1]
+
+        self.assertEqual(in_other(fork), 0)
 
     def test_what_is_opened_anew_is_as_at_first(self):
         options = {"policy": aqs.Policy.STRICT, "threads": 3, "most_entries": 20}

@@ -20,7 +20,7 @@ class lru_cache {
 public:
     lru_cache(std::size_t most, std::function<Value(const Key &)> load)
         : most_(most), load_(std::move(load)),
-          mutex_(aqs::options().fair().keeps_history().most_threads(4)) {}
+          mutex_(aqs::options().fair().keep_history().threads(4)) {}
 
     // The value of a key, from the cache, or loaded by this thread or by another.
     Value get(const Key &key) {

@@ -328,24 +328,24 @@ static const struct {
     aqs_options_t options;
     aqs_header_t wanted; /* of a lock */
 } headers[] = {
-    {{0}, {.cap = 1024, .seats = AQS_THREADS, .conditions = 1, .policy = AQS_CORE_NONFAIR}},
-    {{.policy = AQS_FAIR}, {.cap = 1024, .seats = AQS_THREADS, .conditions = 1, .policy = AQS_CORE_FAIR}},
-    {{.policy = AQS_STRICT}, {.cap = 1024, .seats = AQS_THREADS, .conditions = 1, .policy = AQS_CORE_STRICT}},
+    {{0}, {.cap = 1024, .seats = AQS_THREADS, .conditions = 16, .policy = AQS_CORE_NONFAIR}},
+    {{.policy = AQS_FAIR}, {.cap = 1024, .seats = AQS_THREADS, .conditions = 16, .policy = AQS_CORE_FAIR}},
+    {{.policy = AQS_STRICT}, {.cap = 1024, .seats = AQS_THREADS, .conditions = 16, .policy = AQS_CORE_STRICT}},
     {{.when_full = AQS_REFUSE},
-     {.cap = UINT32_MAX, .seats = AQS_THREADS, .conditions = 1, .policy = AQS_CORE_NONFAIR}},
-    {{.history = 15}, {.cap = 15, .seats = AQS_THREADS, .conditions = 1, .policy = AQS_CORE_NONFAIR}},
-    {{.history = 16}, {.cap = 16, .seats = AQS_THREADS, .conditions = 1, .policy = AQS_CORE_NONFAIR}},
+     {.cap = UINT32_MAX, .seats = AQS_THREADS, .conditions = 16, .policy = AQS_CORE_NONFAIR}},
+    {{.history = 15}, {.cap = 15, .seats = AQS_THREADS, .conditions = 16, .policy = AQS_CORE_NONFAIR}},
+    {{.history = 16}, {.cap = 16, .seats = AQS_THREADS, .conditions = 16, .policy = AQS_CORE_NONFAIR}},
     {{.history = UINT32_MAX},
-     {.cap = UINT32_MAX, .seats = AQS_THREADS, .conditions = 1, .policy = AQS_CORE_NONFAIR}},
+     {.cap = UINT32_MAX, .seats = AQS_THREADS, .conditions = 16, .policy = AQS_CORE_NONFAIR}},
     {{.when_full = AQS_REFUSE, .history = 70000},
-     {.cap = 70000, .seats = AQS_THREADS, .conditions = 1, .policy = AQS_CORE_NONFAIR}},
-    {{.threads = 1}, {.cap = 1024, .seats = 1, .conditions = 1, .policy = AQS_CORE_NONFAIR}},
-    {{.threads = 256}, {.cap = 1024, .seats = 256, .conditions = 1, .policy = AQS_CORE_NONFAIR}},
-    {{.threads = 257}, {.cap = 1024, .seats = 257, .conditions = 1, .policy = AQS_CORE_NONFAIR}},
+     {.cap = 70000, .seats = AQS_THREADS, .conditions = 16, .policy = AQS_CORE_NONFAIR}},
+    {{.threads = 1}, {.cap = 1024, .seats = 1, .conditions = 16, .policy = AQS_CORE_NONFAIR}},
+    {{.threads = 256}, {.cap = 1024, .seats = 256, .conditions = 16, .policy = AQS_CORE_NONFAIR}},
+    {{.threads = 257}, {.cap = 1024, .seats = 257, .conditions = 16, .policy = AQS_CORE_NONFAIR}},
     {{.conditions = 16}, {.cap = 1024, .seats = AQS_THREADS, .conditions = 16, .policy = AQS_CORE_NONFAIR}},
     {{.conditions = 17}, {.cap = 1024, .seats = AQS_THREADS, .conditions = 17, .policy = AQS_CORE_NONFAIR}},
     {{.policy = 3},
-     {.cap = 1024, .seats = AQS_THREADS, .conditions = 1, .policy = UINT8_MAX, .kind = UINT8_MAX}},
+     {.cap = 1024, .seats = AQS_THREADS, .conditions = 16, .policy = UINT8_MAX, .kind = UINT8_MAX}},
 };
 
 static void is_header(size_t row, uint8_t kind, int32_t number) {
@@ -376,9 +376,7 @@ static void openings(void) {
         is_header(row, AQS_KIND_LATCH, 2147483647);
         for (kind_t kind = LOCK; kind <= LATCH; kind++) drops = 0, close_it(kind);
     }
-    IS(aqs_latch_open(&latch, 2147483648u, NULL), AQS_OK);
-    is_header(0, AQS_KIND_LATCH, -1);
-    drops = 0, close_it(LATCH);
+    IS(aqs_latch_open(&latch, 2147483648u, NULL), AQS_OUT_OF_RANGE);
     static const struct {
         uint8_t answer;
         aqs_status_t status;
@@ -840,6 +838,35 @@ static void times_of_conditions(void) {
     close_all();
 }
 
+/* A time that is longer than one call of the library below takes is asked for in pieces, until one ends otherwise. */
+static void *make_long_calls(void *none) {
+    static const aqs_answer_t missed[] = {ENTRY(MISSED), ENTRY(GOT)};
+    const int64_t piece = UINT32_MAX;
+    for (int seat = 0; seat < SEATS; seat++) answer_with(seat, 0, missed, 1);
+    begins = 0;
+    IS(aqs_lock_timedlock(lock, 2 * piece + 5), AQS_TIMED_OUT);
+    CHECK(begins == 3 && times[0] == piece && times[1] == piece && times[2] == 5);
+    begins = 0;
+    IS(aqs_lock_timedwait(lock, 0, 2 * piece), AQS_TIMED_OUT);
+    CHECK(begins == 2 && times[0] == piece && times[1] == piece);
+    begins = 0;
+    IS(aqs_sem_timedacquire(semaphore, 1, piece), AQS_TIMED_OUT);
+    CHECK(begins == 1 && times[0] == piece);
+    for (int seat = 0; seat < SEATS; seat++) answer_with(seat, 0, missed, 2);
+    begins = 0;
+    IS(aqs_latch_timedawait(latch, 3 * piece), AQS_OK);
+    CHECK(begins == 2);
+    return none;
+}
+
+static void long_times(void) {
+    pthread_t thread;
+    open_all(&(aqs_options_t){.threads = SEATS});
+    CHECK(pthread_create(&thread, NULL, make_long_calls, NULL) == 0);
+    CHECK(pthread_join(thread, NULL) == 0);
+    close_all();
+}
+
 /* Whether a pending interrupt is handed over, and taken, at each call, though the object is busy at first. */
 static void interrupts_at_entry(void) {
     for (size_t row = 0; row < sizeof waiting_calls / sizeof waiting_calls[0]; row++) {
@@ -988,6 +1015,7 @@ int main(void) {
     close_all();
     stray_wakes();
     times_of_conditions();
+    long_times();
     forks_in_turns();
     return good("answers");
 }

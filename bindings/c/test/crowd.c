@@ -14,7 +14,7 @@ static aqs_rwlock_t locks[LOCKS];
 static aqs_lock_t lock;
 static pthread_t threads[CROWD];
 static aqs_thread_t numbers[CROWD];
-static atomic_int came, refused;
+static atomic_int came;
 static int count; /* the lock guards it */
 
 /* Doors that open one after the other, when all have come to them. */
@@ -41,14 +41,9 @@ static void open_next(void) {
     CHECK(pthread_mutex_unlock(&door) == 0);
 }
 
-/* The lock has a seat for 256 that hold it or wait. Others come again. */
+/* The lock has a seat for 256 that hold it or wait. Others wait for a seat. */
 static void take_the_one(void) {
-    aqs_status_t status;
-    while ((status = aqs_lock_lock(&lock)) == AQS_TOO_MANY_THREADS) {
-        atomic_fetch_add(&refused, 1);
-        usleep(1000);
-    }
-    IS(status, AQS_OK);
+    IS(aqs_lock_lock(&lock), AQS_OK);
     CHECK(aqs_lock_holds(&lock) == 1);
     count++;
     IS(aqs_lock_unlock(&lock), AQS_OK);
@@ -109,6 +104,6 @@ int main(void) {
     aqs_lock_close(&lock);
     CHECK(atomic_load(&held) == 0);
     if (all < CROWD) printf("left out: the system has no room for more than %d threads\n", all);
-    printf("crowd: good, %d threads, %d times no seat\n", all, atomic_load(&refused));
+    printf("crowd: good, %d threads\n", all);
     return all < 300; /* a lock alone has seats for 256 */
 }

@@ -51,7 +51,7 @@ static const play_t plays[] = {
      "0 rdlock = OK; 1 timedwrlock 20000 ..; 2 rdlock ..; 0 handle 1 = OK; 1 = HANDLER_RAN; 2 = OK; "
      "0 rdunlock = OK; 2 rdunlock = OK",
      "0 got s 1; 1 queued x 1; 2 queued s 1; 1 left x 1 interrupt; 2 granted s 1; 0 gave s 1; 2 gave s 1"},
-    {"a small amount behind a great one", "semaphore fair seats 3 permits 1 cap 64 heeds",
+    {"a small amount behind a great one", "semaphore fair seats 4 permits 1 cap 64 heeds",
      "1 acquire_interruptibly 2 ..; 2 acquire 1 ..; 0 handle 1 = OK; 1 = HANDLER_RAN; 2 = OK; "
      "0 getvalue = 0", "1 queued s 2; 2 queued s 1; 1 left s 2 interrupt; 2 granted s 1"},
     {"a permit that the handler releases is taken", "semaphore nonfair seats 3 permits 0 cap 64 heeds",
@@ -105,13 +105,13 @@ static const play_t plays[] = {
      "0 notify 4 = OK; 0 unlock = OK; 1 = OK; 1 interrupted = 1; 1 unlock = OK", NULL},
 
     /* Times. */
-    {"a handler makes no time longer or shorter", "semaphore fair seats 2 permits 0 cap 64",
+    {"a handler makes no time longer or shorter", "semaphore fair seats 3 permits 0 cap 64",
      "1 timedacquire 1 700 ..; [5: 0 handle 1 = OK; 0 handle_restarting 1 = OK]; 1 waits; 1 = TIMED_OUT",
      "1 queued s 1; 1 left s 1 timeout"},
     {"a time that is up is no handler", "lock nonfair seats 2 conditions 1 cap 64 heeds",
      "0 lock = OK; [3: 1 timedlock 20 = TIMED_OUT; 1 interrupted = 0]; 0 timedwait 0 20 = TIMED_OUT; "
      "0 unlock = OK", NULL},
-    {"a call that doesn't wait", "semaphore fair seats 2 permits 0 cap 64 heeds",
+    {"a call that doesn't wait", "semaphore fair seats 3 permits 0 cap 64 heeds",
      "0 handle 0 = OK; 0 timedacquire 1 0 = TIMED_OUT; 0 release 1 = OK; 0 handle 0 = OK; "
      "0 acquire_interruptibly 1 = OK", "0 missed s 1; 0 gave s 1; 0 got s 1"},
 };

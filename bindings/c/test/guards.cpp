@@ -30,7 +30,7 @@ static aqs_status_t status_of(void (*call)()) {
 }
 
 static void guards() {
-    aqs::mutex mutex(aqs::options().fair().keeps_history());
+    aqs::mutex mutex(aqs::options().fair().keep_history());
     long count = 0;
     std::vector<std::thread> threads;
     for (int t = 0; t < 4; t++) {
@@ -90,7 +90,7 @@ static void is_notified_often(Lock &mutex, Condition condition) {
 }
 
 static void queues() {
-    aqs::mutex mutex(aqs::options().keeps_history().has_conditions(2));
+    aqs::mutex mutex(aqs::options().keep_history().conditions(2));
     aqs::condition not_empty = mutex.condition(0), not_full = mutex.condition(1);
     std::queue<int> queue;
     long sum = 0;
@@ -128,7 +128,7 @@ static void often_notified() {
 }
 
 static void readers() {
-    aqs::shared_mutex mutex(aqs::options().keeps_history());
+    aqs::shared_mutex mutex(aqs::options().keep_history());
     long value = 0;
     std::atomic<bool> over{false};
     std::vector<std::thread> threads;
@@ -162,7 +162,7 @@ static void readers() {
 }
 
 static void others() {
-    aqs::semaphore permits(2, aqs::options().strict().keeps_history());
+    aqs::semaphore permits(2, aqs::options().strict().keep_history());
     permits.acquire(2);
     CHECK(!permits.try_acquire());
     CHECK(!permits.try_acquire_for(5ms));
@@ -176,7 +176,7 @@ static void others() {
     CHECK(permits.try_acquire_until(std::chrono::steady_clock::now(), 3) && permits.available() == 0);
     CHECK(aqs::semaphore::max() == 2147483647);
     keep("guards-semaphore", permits.history());
-    aqs::latch latch(2, aqs::options().keeps_history());
+    aqs::latch latch(2, aqs::options().keep_history());
     std::thread waiter([&] { latch.wait(); });
     CHECK(!latch.wait_for(5ms));
     latch.count_down(0);
@@ -197,7 +197,7 @@ static void others() {
 }
 
 static void over_a_lock() {
-    aqs::plain_mutex mutex(aqs::options().keeps_history());
+    aqs::plain_mutex mutex(aqs::options().keep_history());
     auto comes = mutex.condition();
     bool is_set = false;
     std::thread setter([&] {
@@ -214,7 +214,7 @@ static void over_a_lock() {
     setter.join();
     keep("guards-plain-mutex", mutex.history());
     CHECK(status_of([] { aqs::plain_mutex once; once.lock(); once.lock(); }) == AQS_TOO_MANY_HOLDS);
-    aqs::barrier barrier(3, aqs::options().keeps_history());
+    aqs::barrier barrier(3, aqs::options().keep_history());
     std::atomic<int> came{0}, lasts{0};
     auto come = [&] {
         came++;
@@ -323,7 +323,7 @@ static void waiters() {
 
 template <class Lock>
 static void condition_objects(const std::string &name) {
-    Lock mutex(aqs::options().keeps_history().has_conditions(2));
+    Lock mutex(aqs::options().keep_history().conditions(2));
     aqs::condition_variable not_empty, not_full;
     std::queue<int> queue;
     long sum = 0;
@@ -408,6 +408,7 @@ static void codes() {
         {AQS_WOULD_BLOCK, std::errc::resource_unavailable_try_again},
         {AQS_NOT_OWNER, std::errc::operation_not_permitted},
         {AQS_TOO_MANY_HOLDS, std::errc::resource_unavailable_try_again},
+        {AQS_TOO_MANY_HOLDS, std::errc::resource_deadlock_would_occur},
         {AQS_TOO_MANY_PERMITS, std::errc::value_too_large},
         {AQS_HOLDS_READ, std::errc::resource_deadlock_would_occur},
         {AQS_NO_SUCH_CONDITION, std::errc::invalid_argument},
@@ -428,7 +429,7 @@ static void codes() {
 static void errors() {
     CHECK(status_of([] { aqs::mutex mutex; mutex.unlock(); }) == AQS_NOT_OWNER);
     CHECK(status_of([] { aqs::mutex mutex; mutex.condition().notify_one(); }) == AQS_NOT_OWNER);
-    CHECK(status_of([] { aqs::mutex mutex(aqs::options().most_threads(999)); }) == AQS_OUT_OF_RANGE);
+    CHECK(status_of([] { aqs::mutex mutex(aqs::options().threads(999)); }) == AQS_OUT_OF_RANGE);
     CHECK(status_of([] {
               aqs::mutex mutex;
               std::unique_lock guard(mutex, std::defer_lock);
@@ -449,7 +450,7 @@ static void errors() {
           == AQS_NOT_OWNER);
     CHECK(status_of([] {
               aqs::plain_mutex one;
-              aqs::mutex other(aqs::options().has_conditions(1));
+              aqs::mutex other(aqs::options().conditions(1));
               std::unique_lock guard(other);
               other.condition(1).notify_one();
           })

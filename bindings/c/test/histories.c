@@ -23,14 +23,14 @@ static const play_t plays[] = {
      "seat 1 calls 1 x 0 s 1\nseat 2 calls 0 x 0 s 0\nseat 3 calls 0 x 0 s 0\nline 2 queued x 1\n"
      "line 3 queued s 1\n4 1 gave s 1\n5 0 gave s 1\n6 2 granted x 1\n7 2 gave x 1\n8 3 granted s 1\n"
      "9 3 gave s 1\nend 10 8\n"},
-    {"a semaphore after a trim", "semaphore strict seats 2 permits 3 cap 64",
+    {"a semaphore after a trim", "semaphore strict seats 3 permits 3 cap 64",
      "0 acquire 2 = OK; 0 release 4 = OK; 1 acquire 9 ..; 0 trim = 3; 0 release 4 = OK; 1 = OK",
-     "aqs-history 2 semaphore strict seats 2 permits 3 cap 64\nbase 3 unheld 2\nseat 0 calls 2 x 0 s 0\n"
-     "seat 1 calls 0 x 0 s 0\nline 1 queued s 9\n3 0 gave s 4\n4 1 granted s 9\nend 5 4\n"},
-    {"a latch after a trim", "latch seats 2 count 2 cap 64",
+     "aqs-history 2 semaphore strict seats 3 permits 3 cap 64\nbase 3 unheld 2\nseat 0 calls 2 x 0 s 0\n"
+     "seat 1 calls 0 x 0 s 0\nseat 2 calls 0 x 0 s 0\nline 1 queued s 9\n3 0 gave s 4\n4 1 granted s 9\nend 5 4\n"},
+    {"a latch after a trim", "latch seats 3 count 2 cap 64",
      "0 count_down = OK; 1 await ..; 0 trim = 2; 0 count_down = OK; 1 = OK",
-     "aqs-history 2 latch seats 2 count 2 cap 64\nbase 2 count 1\nseat 0 calls 1 x 0 s 0\n"
-     "seat 1 calls 0 x 0 s 0\nline 1 queued s 1\n2 0 counted s 1\n3 1 granted s 1\nend 4 3\n"},
+     "aqs-history 2 latch seats 3 count 2 cap 64\nbase 2 count 1\nseat 0 calls 1 x 0 s 0\n"
+     "seat 1 calls 0 x 0 s 0\nseat 2 calls 0 x 0 s 0\nline 1 queued s 1\n2 0 counted s 1\n3 1 granted s 1\nend 4 3\n"},
     {"one that was folded as it was full", "lock fair seats 1 conditions 1 cap 16 trims",
      "0 lock = OK; 0 lock = OK; 0 lock = OK; 0 lock = OK; 0 lock = OK; 0 lock = OK; 0 lock = OK; "
      "0 lock = OK; 0 lock = OK; 0 unlock = OK; 0 unlock = OK; 0 unlock = OK; 0 unlock = OK; 0 unlock = OK; "

@@ -64,11 +64,11 @@ static const play_t plays[] = {
      "0 timedrdlock 0 = OK; 0 rdunlock = OK",
      "0 refused s 1 Interrupted; 0 refused s 1 Interrupted; 0 refused x 1 Interrupted; "
      "0 refused x 1 Interrupted; 0 refused s 1 NotOwner; 0 refused x 1 NotOwner; 0 got s 1; 0 gave s 1"},
-    {"nor permits, nor does an open latch let it pass", "semaphore fair seats 2 permits 5 cap 64",
+    {"nor permits, nor does an open latch let it pass", "semaphore fair seats 3 permits 5 cap 64",
      "0 interrupt 0 = OK; 0 acquire_interruptibly 2 = INTERRUPTED; 0 interrupt 0 = OK; "
      "0 timedacquire 3 0 = INTERRUPTED; 0 getvalue = 5; 0 acquire_interruptibly 2 = OK; "
      "0 timedacquire 3 0 = OK", "0 refused s 2 Interrupted; 0 refused s 3 Interrupted; 0 got s 2; 0 got s 3"},
-    {"an open latch", "latch seats 2 count 0 cap 64",
+    {"an open latch", "latch seats 3 count 0 cap 64",
      "0 interrupt 0 = OK; 0 await_interruptibly = INTERRUPTED; 0 interrupt 0 = OK; "
      "0 timedawait 0 = INTERRUPTED; 0 interrupt 0 = OK; 0 timedawait 10 = INTERRUPTED; 0 timedawait 0 = OK; "
      "0 await_interruptibly = OK",
@@ -81,11 +81,11 @@ static const play_t plays[] = {
      "0 interrupt 0 = OK; 0 rdlock = OK; 0 tryrdlock = OK; 0 trywrlock = WOULD_BLOCK; 0 rdunlock = OK; "
      "0 rdunlock = OK; 0 wrlock = OK; 0 trywrlock = OK; 0 signal 0 = OK; 0 signal_all 0 = OK; "
      "0 wrunlock = OK; 0 wrunlock = OK; 0 interrupted = 1; 0 interrupted = 0", NULL},
-    {"at a semaphore", "semaphore fair seats 2 permits 3 cap 64",
+    {"at a semaphore", "semaphore fair seats 3 permits 3 cap 64",
      "0 interrupt 0 = OK; 0 acquire 1 = OK; 0 tryacquire 1 = OK; 0 tryacquire 5 = WOULD_BLOCK; "
      "0 release 1 = OK; 0 getvalue = 2; 0 drain = 2; 0 drain = 0; 0 interrupted = 1; 0 interrupted = 0",
      NULL},
-    {"at a latch", "latch seats 2 count 1 cap 64",
+    {"at a latch", "latch seats 3 count 1 cap 64",
      "0 interrupt 0 = OK; 0 getcount = 1; 0 count_down = OK; 0 await = OK; 0 interrupted = 1; "
      "0 interrupted = 0", NULL},
     {"it comes before whatever else refuses a wait", "lock fair seats 2 conditions 1 cap 64",
@@ -98,11 +98,16 @@ static const play_t plays[] = {
      "[8: 0 lock = OK; 0 unlock = OK]; 0 interrupt 1 = OK; 1 lock_interruptibly = HISTORY_FULL; "
      "1 timedlock 3 = HISTORY_FULL; "
      "1 interrupted = 1; 1 interrupted = 0", NULL},
+    {"an interrupt ends a wait for a seat", "lock fair seats 1 conditions 1 cap 64",
+     "0 lock = OK; 0 interrupt 1 = OK; 1 lock_interruptibly = INTERRUPTED; "
+     "1 lock_interruptibly ..; 0 interrupt 1 = OK; 1 = INTERRUPTED; 0 interrupt 1 = OK; "
+     "1 timedlock 60000 = INTERRUPTED; 0 interrupt 1 = OK; 1 lock ..; 0 unlock = OK; "
+     "1 = OK; 1 unlock = OK; 1 interrupted = 1", NULL},
     {"a call that gets no seat leaves it pending", "lock fair seats 1 conditions 1 cap 64",
-     "0 lock = OK; 0 interrupt 1 = OK; 1 lock_interruptibly = TOO_MANY_THREADS; 1 timedlock 5 = TOO_MANY_THREADS; "
+     "0 lock = OK; 0 interrupt 1 = OK; 1 timedlock 0 = TOO_MANY_THREADS; "
      "1 wait_interruptibly 0 = TOO_MANY_THREADS; 1 timedwait 0 5 = TOO_MANY_THREADS; 1 interrupted = 1; "
      "1 interrupted = 0; 0 unlock = OK", "0 got x 1; 0 gave x 1"},
-    {"amounts that no semaphore has leave it pending", "semaphore fair seats 2 permits 0 cap 16",
+    {"amounts that no semaphore has leave it pending", "semaphore fair seats 3 permits 0 cap 16",
      "0 interrupt 0 = OK; 0 acquire_interruptibly 2147483648 = BAD_AMOUNT; "
      "0 timedacquire 4294967295 3 = BAD_AMOUNT; 0 interrupted = 1", ""},
 };

@@ -1,5 +1,5 @@
 /* limits.c: each limit of aqs.h at its value and one past it. Those that other tests reach are named in
- * docs/TESTS.md. */
+ * docs/EVIDENCE.md. */
 #define PLAYERS 256
 #include "play.h"
 
@@ -81,7 +81,7 @@ static const play_t plays[] = {
     {"a count of none", "latch seats 1 count 0 cap 16", "0 getcount = 0; 0 count_down = OK; 0 await = OK",
      "0 counted s 1; 0 got s 1"},
     {"the last seat, and none past it", "lock fair seats 3 conditions 1 cap 64",
-     "254 lock = OK; 255 lock ..; 200 lock_interruptibly ..; 3 lock = TOO_MANY_THREADS; "
+     "254 lock = OK; 255 lock ..; 200 lock_interruptibly ..; 3 timedlock 0 = TOO_MANY_THREADS; "
      "3 trylock = TOO_MANY_THREADS; 3 interrupt 200 = OK; 200 = INTERRUPTED; 3 trylock = WOULD_BLOCK; "
      "254 unlock = OK; 255 = OK; 255 unlock = OK",
      "2 got x 1; 0 queued x 1; 1 queued x 1; 1 left x 1 interrupt; 1 missed x 1; 2 gave x 1; 0 granted x 1; "
@@ -94,9 +94,28 @@ static const play_t plays[] = {
 };
 
 static void *finds_no_seat(void *none) {
-    aqs_status_t statuses[] = {aqs_lock_lock(lock), aqs_lock_trylock(lock), aqs_lock_timedlock(lock, 5),
-                               aqs_lock_wait(lock, 0), aqs_history_trim(object, NULL)};
-    for (int i = 0; i < 5; i++) CHECK(statuses[i] == AQS_TOO_MANY_THREADS);
+    aqs_status_t statuses[] = {aqs_lock_trylock(lock), aqs_lock_timedlock(lock, 0), aqs_lock_wait(lock, 0),
+                               aqs_history_trim(object, NULL)};
+    for (int i = 0; i < 4; i++) CHECK(statuses[i] == AQS_TOO_MANY_THREADS);
+    return none;
+}
+
+/* One of those that have the seats may unlock, so that a thread waits for its seat. */
+static void *waits_for_a_seat(void *none) {
+    IS(aqs_lock_timedlock(lock, 5), AQS_TIMED_OUT);
+    return none;
+}
+
+static void *waits_longer(void *none) {
+    IS(aqs_lock_timedlock(lock, 400), AQS_TIMED_OUT);
+    return none;
+}
+
+/* None of them may. */
+static void *is_refused(void *none) {
+    IS(aqs_lock_lock(lock), AQS_TOO_MANY_THREADS);
+    IS(aqs_lock_lock_interruptibly(lock), AQS_TOO_MANY_THREADS);
+    IS(aqs_lock_timedlock(lock, 60000), AQS_TOO_MANY_THREADS);
     return none;
 }
 
@@ -118,6 +137,12 @@ static void all_wait(void) {
     }
     play_lines(kind, "0 lock = OK");
     in_other(finds_no_seat);
+    in_other(waits_for_a_seat);
+    play_lines(kind, "0 timedwait 0 3000 ..");
+    in_other(finds_no_seat);
+    in_other(is_refused);
+    play_lines(kind, "0 = TIMED_OUT");
+    in_other(waits_longer); /* it has come back from its condition */
     play_lines(kind, "0 unlock = OK; 0 lock = OK; 0 unlock = OK; 1 waits");
     for (int condition = 15; condition >= 0; condition--) {
         snprintf(line, sizeof line, "0 lock = OK; 0 signal_all %d = OK; 0 unlock = OK", condition);
@@ -241,8 +266,8 @@ static const char *const seats_left[][2] = {
             "2 rdunlock = OK",
             "1 trywrlock = WOULD_BLOCK; 2 timedwrlock 1 = TIMED_OUT; 1 wrlock_interruptibly ..; "
             "3 trywrlock = TOO_MANY_THREADS; 3 interrupt 1 = OK; 1 = INTERRUPTED; 2 wrunlock = NOT_OWNER"},
-    [SEM] = {"1 acquire_interruptibly 100 ..; 2 acquire_interruptibly 100 ..; "
-             "3 release 1 = TOO_MANY_THREADS; 3 interrupt 1 = OK; 1 = INTERRUPTED; 3 interrupt 2 = OK; 2 = INTERRUPTED"},
+    [SEM] = {"1 acquire_interruptibly 100 ..; 2 acquire_interruptibly 100 ..; 3 queue_length = 1; "
+             "3 interrupt 1 = OK; 1 = INTERRUPTED; 3 interrupt 2 = OK; 2 = INTERRUPTED"},
     [LATCH] = {"1 await = OK; 2 await = OK; 1 count_down = OK"},
 };
 

@@ -60,13 +60,13 @@ static void note(const char *name, const void *object, std::vector<long> numbers
 #define CONDITIONS(kind)                                                                                     \
     CALL(aqs_##kind##_wait, (aqs_##kind##_t * it, uint8_t number), it, number)                               \
     CALL(aqs_##kind##_wait_interruptibly, (aqs_##kind##_t * it, uint8_t number), it, number)                 \
-    CALL(aqs_##kind##_timedwait, (aqs_##kind##_t * it, uint8_t number, uint32_t ms), it, number, (long)ms)   \
+    CALL(aqs_##kind##_timedwait, (aqs_##kind##_t * it, uint8_t number, int64_t ms), it, number, (long)ms)   \
     CALL(aqs_##kind##_signal, (aqs_##kind##_t * it, uint8_t number), it, number)                             \
     CALL(aqs_##kind##_signal_all, (aqs_##kind##_t * it, uint8_t number), it, number)
 #define EXCLUSIVE(kind, lock, unlock)                                                             \
     CALL(aqs_##kind##_##lock, (aqs_##kind##_t * it), it)                                          \
     CALL(aqs_##kind##_##lock##_interruptibly, (aqs_##kind##_t * it), it)                          \
-    CALL(aqs_##kind##_timed##lock, (aqs_##kind##_t * it, uint32_t ms), it, (long)ms)              \
+    CALL(aqs_##kind##_timed##lock, (aqs_##kind##_t * it, int64_t ms), it, (long)ms)              \
     CALL(aqs_##kind##_try##lock, (aqs_##kind##_t * it), it)                                       \
     CALL(aqs_##kind##_##unlock, (aqs_##kind##_t * it), it)
 
@@ -87,16 +87,16 @@ EXCLUSIVE(rwlock, wrlock, wrunlock)
 EXCLUSIVE(rwlock, rdlock, rdunlock)
 CALL(aqs_sem_acquire, (aqs_sem_t * it, uint32_t n), it, (long)n)
 CALL(aqs_sem_acquire_interruptibly, (aqs_sem_t * it, uint32_t n), it, (long)n)
-CALL(aqs_sem_timedacquire, (aqs_sem_t * it, uint32_t n, uint32_t ms), it, (long)n, (long)ms)
+CALL(aqs_sem_timedacquire, (aqs_sem_t * it, uint32_t n, int64_t ms), it, (long)n, (long)ms)
 CALL(aqs_sem_tryacquire, (aqs_sem_t * it, uint32_t n), it, (long)n)
 CALL(aqs_sem_release, (aqs_sem_t * it, uint32_t n), it, (long)n)
 CALL(aqs_latch_count_down, (aqs_latch_t * it), it)
 CALL(aqs_latch_await, (aqs_latch_t * it), it)
 CALL(aqs_latch_await_interruptibly, (aqs_latch_t * it), it)
-CALL(aqs_latch_timedawait, (aqs_latch_t * it, uint32_t ms), it, (long)ms)
+CALL(aqs_latch_timedawait, (aqs_latch_t * it, int64_t ms), it, (long)ms)
 CALL(aqs_cond_wait, (aqs_cond_t * it, aqs_lock_t *), it)
 CALL(aqs_cond_wait_interruptibly, (aqs_cond_t * it, aqs_lock_t *), it)
-CALL(aqs_cond_timedwait, (aqs_cond_t * it, aqs_lock_t *, uint32_t ms), it, (long)ms)
+CALL(aqs_cond_timedwait, (aqs_cond_t * it, aqs_lock_t *, int64_t ms), it, (long)ms)
 CALL(aqs_cond_signal, (aqs_cond_t * it), it)
 CALL(aqs_cond_signal_all, (aqs_cond_t * it), it)
 QUIET(uint32_t, aqs_lock_holds, (aqs_lock_t * it), it, 3)
@@ -128,8 +128,8 @@ PUTS(aqs_barrier_wait, aqs_barrier_t, aqs_bool_t, true)
 // A text for which more room is asked than it takes, and which others lengthen by half after each try.
 static std::string the_text = "a text of 20 letters";
 static int tries_left;
-extern "C" aqs_status_t aqs_history_text(aqs_object_t *it, char *buffer, size_t size, size_t *length) {
-    note("aqs_history_text", it, {});
+static aqs_status_t put_text(const char *name, aqs_object_t *it, char *buffer, size_t size, size_t *length) {
+    note(name, it, {});
     *length = the_text.size();
     if (answer != AQS_OK) return answer;
     if (size < the_text.size()) {
@@ -139,6 +139,12 @@ extern "C" aqs_status_t aqs_history_text(aqs_object_t *it, char *buffer, size_t 
     }
     the_text.copy(buffer, the_text.size());
     return AQS_OK;
+}
+extern "C" aqs_status_t aqs_history_text(aqs_object_t *it, char *buffer, size_t size, size_t *length) {
+    return put_text("aqs_history_text", it, buffer, size, length);
+}
+extern "C" aqs_status_t aqs_history_names(aqs_object_t *it, char *buffer, size_t size, size_t *length) {
+    return put_text("aqs_history_names", it, buffer, size, length);
 }
 extern "C" aqs_status_t aqs_sem_init(aqs_sem_t *it, int32_t permits, const aqs_options_t *options) {
     opened_with = *options;
@@ -162,6 +168,26 @@ extern "C" void aqs_barrier_close(aqs_barrier_t *it) { note("aqs_barrier_close",
 extern "C" aqs_object_t *aqs_barrier_object(aqs_barrier_t *it) { return (aqs_object_t *)it; }
 extern "C" aqs_lock_t *aqs_mutex_as_lock(aqs_mutex_t *it) { return (aqs_lock_t *)it; }
 extern "C" const char *aqs_status_name(aqs_status_t) { return "a status"; }
+
+// Numbers of conditions, which are given back, and which objects are static.
+static int taken, given;
+static const void *taken_of;
+static bool has_none_left, is_static;
+extern "C" aqs_status_t aqs_object_take_condition(aqs_object_t *it, uint8_t *number) {
+    if (has_none_left) return AQS_NO_SUCH_CONDITION;
+    taken++, taken_of = it;
+    *number = 7;
+    return AQS_OK;
+}
+extern "C" void aqs_object_give_condition(aqs_object_t *it, uint8_t number) {
+    CHECK(it == taken_of && number == 7);
+    given++;
+}
+extern "C" bool aqs_is_static(const void *) { return is_static; }
+extern "C" aqs_status_t aqs_history_save(aqs_object_t *it, const char *path) {
+    note("aqs_history_save", it, {path[0]});
+    return answer;
+}
 
 // What a member returned: a number, or the status that it threw, below 0.
 static long told(const std::function<long()> &member) {
@@ -234,7 +260,8 @@ waits_for_predicates(Condition &condition, Guard &guard, const std::string &call
         CHECK(member() && looks == 3 && made.empty());
     };
     makes_two(call, [&] { condition.wait(guard, third); return true; });
-    makes_two(timed + " 4294967295", [&] { return condition.wait_for(guard, 2000h, third); });
+    const auto longest = std::chrono::hours::max();
+    makes_two(timed + " 9223372036854775000", [&] { return condition.wait_for(guard, longest, third); });
     makes_two(timed + " 0", [&] { return condition.wait_until(guard, past, third); });
 }
 
@@ -264,6 +291,45 @@ static void locks(Lock &lock, const std::string &kind, const std::string &side) 
     does(call + unlock, it, [&] { lock.unlock(); });
 }
 
+// A condition without a number takes one, and gives it back once, at its end or when another is put in its
+// place.
+template <class Lock>
+static void conditions_of_their_own(Lock &lock, const std::string &call) {
+    const void *it = lock.native_handle();
+    taken = given = 0;
+    does(call + "signal 7", it, [&] { lock.condition().notify_one(); });
+    CHECK(taken == 18 && given == 18 && taken_of == it);
+    {
+        auto one = lock.condition(), another = std::move(one);
+        CHECK(taken == 19 && given == 18);
+        one = lock.condition();
+        one = std::move(another);
+        CHECK(taken == 20 && given == 19);
+        auto by_number = lock.condition(2);
+        by_number = std::move(one);
+        CHECK(given == 19);
+        has_none_left = true;
+        CHECK(told([&] { lock.condition(); return 1; }) == thrown(AQS_NO_SUCH_CONDITION));
+        has_none_left = false;
+    }
+    CHECK(taken == 20 && given == 20);
+}
+
+// How a wait with a time ended, as std::cv_status too.
+template <class Condition, class Guard>
+static void results(Condition &condition, Guard &guard) {
+    for (int status : {AQS_OK, AQS_TIMED_OUT, AQS_INTERRUPTED, AQS_HANDLER_RAN}) {
+        answer = (aqs_status_t)status;
+        auto result = condition.wait_for(guard, 5ms);
+        CHECK(result.status() == status && static_cast<bool>(result) == (status == AQS_OK));
+        CHECK((result == std::cv_status::timeout) == (status == AQS_TIMED_OUT));
+        CHECK((std::cv_status::no_timeout != result) == (status == AQS_TIMED_OUT));
+        std::cv_status as_status = condition.wait_until(guard, soon);
+        CHECK((as_status == aqs::cv_status::timeout) == (status == AQS_TIMED_OUT));
+    }
+    answer = AQS_OK;
+}
+
 // Those of a condition of a number. The guard's own calls succeed, and aren't noted.
 template <class Lock>
 static void conditions(Lock &lock, const std::string &kind) {
@@ -282,8 +348,10 @@ static void conditions(Lock &lock, const std::string &kind) {
     made.clear();
     CHECK(!condition.wait_for(guard, 0ms, no) && made == call + "timedwait 2 0");
     answer = AQS_OK;
-    does(call + "signal 0", it, [&] { lock.condition().notify_one(); });
+    does(call + "signal 0", it, [&] { lock.condition(0).notify_one(); });
+    conditions_of_their_own(lock, call);
     waits_for_predicates(condition, guard, call + "wait 2", call + "timedwait 2");
+    results(condition, guard);
     Lock another;
     std::unique_lock<Lock> without(lock, std::defer_lock), none, of_another(another);
     refuses_all(condition, without);
@@ -296,10 +364,16 @@ template <class Object>
 static void histories(Object &object) {
     const void *it = object.native_handle();
     tells("aqs_history_trim", it, 8, [&] { return (long)object.trim(); });
+    does("aqs_history_save 112", it, [&] { object.save_history("path"); });
     made.clear();
     the_text = "a text of 20 letters";
     tries_left = 6;
     CHECK(object.history() == the_text && made.find("aqs_history_text; aqs_history_text") == 0 && of.back() == it);
+    made.clear();
+    the_text = "0 main";
+    tries_left = 6;
+    CHECK(object.history_names() == the_text && of.back() == it);
+    CHECK(made.find("aqs_history_names; aqs_history_names") == 0);
     answer = AQS_TOO_MANY_THREADS;
     CHECK(told([&] { return (long)object.history().size(); }) == thrown(answer));
     answer = AQS_OK;
@@ -420,7 +494,7 @@ static void barriers() {
 // An opening has its options, and throws its status. What was opened is closed.
 static void
 opens(const std::string &kind, const std::string &call, const std::function<void(const aqs::options &)> &open) {
-    aqs::options how = aqs::options().strict().keeps_history().most_entries(17).most_threads(5).has_conditions(6);
+    aqs::options how = aqs::options().strict().keep_history().most_entries(17).threads(5).conditions(6);
     made.clear(), opened_with = {};
     open(how.handlers_end_waits());
     CHECK(made == "aqs_" + kind + call + "; aqs_" + kind + "_close");

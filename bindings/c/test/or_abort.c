@@ -143,8 +143,8 @@ static void serves_many_threads(void) {
 
 int main(void) {
     alarm(60);
-    IS(aqs_lock_open(&lock, NULL), AQS_OK);
-    IS(aqs_rwlock_open(&rwlock, NULL), AQS_OK);
+    IS(aqs_lock_open(&lock, &(aqs_options_t){.conditions = 9}), AQS_OK);
+    IS(aqs_rwlock_open(&rwlock, &(aqs_options_t){.conditions = 9}), AQS_OK);
     IS(aqs_sem_open(&semaphore, 0, NULL), AQS_OK);
     IS(aqs_latch_open(&latch, 1, NULL), AQS_OK);
     goes_on();

@@ -49,7 +49,7 @@ static void locks_once(void) {
         IS(aqs_mutex_trylock(mutex), AQS_WOULD_BLOCK);
         in_other(find_it_owned);
         IS(aqs_mutex_timedwait(mutex, 0, 1), AQS_TIMED_OUT);
-        IS(aqs_mutex_wait(mutex, 9), AQS_NO_SUCH_CONDITION);
+        IS(aqs_mutex_wait(mutex, 16), AQS_NO_SUCH_CONDITION);
         CHECK(aqs_mutex_is_mine(mutex));
         in_other(find_it_owned);
         IS(aqs_mutex_unlock(mutex), AQS_OK);

@@ -13,7 +13,7 @@
 #endif
 
 static void all_types() {
-    aqs::mutex mutex(aqs::options().fair().has_conditions(2));
+    aqs::mutex mutex(aqs::options().fair().conditions(2));
     aqs::condition comes = mutex.condition(1);
     aqs::shared_mutex shared;
     aqs::semaphore permits(0);

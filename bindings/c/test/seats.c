@@ -24,7 +24,7 @@ static const play_t plays[] = {
      "0 unlock = OK; 1 = OK; " MISS("2") MISS("3") "1 unlock = OK; 2 lock = OK; " MISS("0") "2 unlock = OK",
      NULL},
     {"a wait keeps the seat", "lock nonfair seats 2 conditions 1 cap 64",
-     "0 lock = OK; 0 wait 0 ..; 1 lock = OK; 2 lock = TOO_MANY_THREADS; 1 signal 0 = OK; "
+     "0 lock = OK; 0 wait 0 ..; 1 lock = OK; 2 timedlock 0 = TOO_MANY_THREADS; 1 signal 0 = OK; "
      "2 trylock = TOO_MANY_THREADS; 1 unlock = OK; 0 = OK; 1 lock ..; 0 unlock = OK; 1 = OK; 1 unlock = OK; "
      "2 lock = OK; 2 unlock = OK",
      "0 got x 1; 0 await 0 1; 1 got x 1; 1 signal 0 1; 1 gave x 1; 0 back 0 1 signalled; 1 queued x 1; "
@@ -417,7 +417,7 @@ static void more_than_remembered(void) {
     run(read_all, others);
     run(hold_many, locks);
     run(hold_many, others); /* here it has the other seat */
-    snprintf(wanted, sizeof wanted, "aqs-history 1 rw nonfair seats 2 conditions 1 cap 1024\n"
+    snprintf(wanted, sizeof wanted, "aqs-history 1 rw nonfair seats 2 conditions 16 cap 1024\n"
              "0 1 got s 1\n1 0 got s 1\n2 0 trygot s 1\n3 0 gave s 1\n4 0 gave s 1\n"
              "5 0 refused s 1 NotOwner\nend 6 6\n");
     for (int i = 0; i < LOCKS; i++) {

@@ -40,8 +40,7 @@ static const play_t plays_of_locks[] = {
      "0 got x 1; 1 queued x 1; 2 missed x 1; 0 gave x 1; 1 granted x 1; 2 missed x 1; 1 gave x 1; "
      "2 trygot x 1; 2 gave x 1"},
     {"a lock is for as many threads at a time as it has seats", "lock fair seats 2 conditions 1 cap 64",
-     "0 lock = OK; 1 lock ..; 2 lock = TOO_MANY_THREADS; 2 lock_interruptibly = TOO_MANY_THREADS; "
-     "2 timedlock 5 = TOO_MANY_THREADS; "
+     "0 lock = OK; 1 lock ..; 2 timedlock 0 = TOO_MANY_THREADS; 2 timedlock 5 = TIMED_OUT; "
      "2 trylock = TOO_MANY_THREADS; 2 unlock = TOO_MANY_THREADS; 2 wait 0 = TOO_MANY_THREADS; "
      "2 wait_interruptibly 0 = TOO_MANY_THREADS; 2 timedwait 0 5 = TOO_MANY_THREADS; "
      "2 signal 0 = TOO_MANY_THREADS; 7 signal_all 0 = TOO_MANY_THREADS; 2 trim = TOO_MANY_THREADS; "
@@ -111,10 +110,10 @@ static const play_t plays_of_rwlocks[] = {
      "0 got s 1; 1 queued x 1; 2 queued s 1; 2 left s 1 timeout; 2 missed s 1; 2 trygot s 1; 0 got s 1; "
      "0 gave s 1; 2 got s 1; 2 gave s 1; 2 gave s 1; 0 gave s 1; 1 granted x 1; 1 gave x 1"},
     {"a read-write lock too", "rw fair seats 1 conditions 1 cap 64",
-     "0 rdlock = OK; 1 rdlock = TOO_MANY_THREADS; 1 rdlock_interruptibly = TOO_MANY_THREADS; "
-     "1 timedrdlock 5 = TOO_MANY_THREADS; 1 tryrdlock = TOO_MANY_THREADS; 1 rdunlock = TOO_MANY_THREADS; "
-     "1 wrlock = TOO_MANY_THREADS; 1 wrlock_interruptibly = TOO_MANY_THREADS; "
-     "1 timedwrlock 5 = TOO_MANY_THREADS; 1 trywrlock = TOO_MANY_THREADS; 1 wrunlock = TOO_MANY_THREADS; "
+     "0 rdlock = OK; 1 timedrdlock 0 = TOO_MANY_THREADS; 1 timedrdlock 5 = TIMED_OUT; "
+     "1 tryrdlock = TOO_MANY_THREADS; 1 rdunlock = TOO_MANY_THREADS; "
+     "1 timedwrlock 0 = TOO_MANY_THREADS; 1 timedwrlock 5 = TIMED_OUT; "
+     "1 trywrlock = TOO_MANY_THREADS; 1 wrunlock = TOO_MANY_THREADS; "
      "1 wait 0 = TOO_MANY_THREADS; 1 wait_interruptibly 0 = TOO_MANY_THREADS; "
      "1 timedwait 0 5 = TOO_MANY_THREADS; 1 signal 0 = TOO_MANY_THREADS; 1 signal_all 0 = TOO_MANY_THREADS; "
      "0 rdunlock = OK; 1 wrlock = OK; 0 tryrdlock = TOO_MANY_THREADS; 1 wrunlock = OK",
@@ -154,18 +153,17 @@ static const play_t plays_of_others[] = {
      "0 trim = 4; 0 getvalue = -2; 0 release 2 = OK; 0 tryacquire 0 = OK; 0 tryacquire 1 = WOULD_BLOCK",
      NULL},
     {"a semaphore has a seat for each that waits", "semaphore fair seats 1 permits 5 cap 64",
-     "0 acquire_interruptibly 6 ..; 1 acquire 1 = TOO_MANY_THREADS; "
-     "1 acquire_interruptibly 1 = TOO_MANY_THREADS; "
-     "1 timedacquire 1 5 = TOO_MANY_THREADS; 1 tryacquire 1 = TOO_MANY_THREADS; "
+     "0 acquire_interruptibly 6 ..; 1 timedacquire 1 0 = TOO_MANY_THREADS; "
+     "1 timedacquire 1 5 = TIMED_OUT; 1 tryacquire 1 = TOO_MANY_THREADS; "
      "1 release 1 = TOO_MANY_THREADS; 1 drain = TOO_MANY_THREADS; 1 getvalue = TOO_MANY_THREADS; "
      "1 interrupt 0 = OK; 0 = INTERRUPTED; 1 getvalue = 5; 1 acquire 2 = OK; 0 release 1 = OK; 5 drain = 4",
      "0 queued s 6; 0 left s 6 interrupt; 0 got s 2; 0 gave s 1; 0 drained s 4"},
-    {"a full history refuses each call but looks", "semaphore fair seats 2 permits 5 cap 16",
+    {"a full history refuses each call but looks", "semaphore fair seats 3 permits 5 cap 16",
      "[8: 0 tryacquire 1 = OK; 0 release 1 = OK]; 0 acquire 1 = HISTORY_FULL; "
      "0 acquire_interruptibly 1 = HISTORY_FULL; 0 timedacquire 1 3 = HISTORY_FULL; "
      "0 tryacquire 1 = HISTORY_FULL; 0 release 1 = HISTORY_FULL; 0 drain = HISTORY_FULL; 0 getvalue = 5; "
      "0 acquire 2147483648 = BAD_AMOUNT; 0 trim = 16; 0 getvalue = 5; 0 drain = 5", NULL},
-    {"one that folds makes room for each", "semaphore fair seats 2 permits 5 cap 16 trims",
+    {"one that folds makes room for each", "semaphore fair seats 3 permits 5 cap 16 trims",
      "[16: 0 tryacquire 1 = OK; 0 release 1 = OK; 0 acquire 2 = OK; 0 drain = 3; 0 release 5 = OK; "
      "0 acquire_interruptibly 1 = OK; 0 release 1 = OK; 0 timedacquire 5 3 = OK; 0 release 5 = OK]; "
      "0 getvalue = 5", NULL},
@@ -175,12 +173,12 @@ static const play_t plays_of_others[] = {
      "1 getcount = 0; 1 count_down = OK; 0 getcount = 0; 0 await = OK; 0 await_interruptibly = OK; "
      "0 timedawait 0 = OK; 0 timedawait 8 = OK", NULL},
     {"a latch too", "latch seats 1 count 1 cap 64",
-     "0 await_interruptibly ..; 1 count_down = TOO_MANY_THREADS; 1 await = TOO_MANY_THREADS; "
-     "1 await_interruptibly = TOO_MANY_THREADS; "
-     "1 timedawait 5 = TOO_MANY_THREADS; 1 getcount = TOO_MANY_THREADS; 1 interrupt 0 = OK; 0 = INTERRUPTED; "
+     "0 await_interruptibly ..; 1 count_down = TOO_MANY_THREADS; "
+     "1 timedawait 0 = TOO_MANY_THREADS; 1 timedawait 5 = TIMED_OUT; "
+     "1 getcount = TOO_MANY_THREADS; 1 interrupt 0 = OK; 0 = INTERRUPTED; "
      "1 getcount = 1; 1 count_down = OK; 0 await = OK; 5 getcount = 0",
      "0 queued s 1; 0 left s 1 interrupt; 0 counted s 1; 0 got s 1"},
-    {"a full history refuses each call but a look at the count", "latch seats 2 count 1 cap 16",
+    {"a full history refuses each call but a look at the count", "latch seats 3 count 1 cap 16",
      "[8: 0 count_down = OK; 0 await = OK]; 0 count_down = HISTORY_FULL; 0 await = HISTORY_FULL; "
      "0 await_interruptibly = HISTORY_FULL; 0 timedawait 0 = HISTORY_FULL; 0 timedawait 3 = HISTORY_FULL; "
      "0 getcount = 0; 0 trim = 16; 0 await = OK", NULL},

@@ -86,7 +86,7 @@ static const play_t plays_of_rwlocks[] = {
 };
 
 static const play_t plays_of_others[] = {
-    {"a release of two wakes two that want one", "semaphore fair seats 4 permits 0 cap 64",
+    {"a release of two wakes two that want one", "semaphore fair seats 5 permits 0 cap 64",
      "1 acquire 1 ..; 2 acquire_interruptibly 1 ..; 3 timedacquire 1 20000 ..; 0 release 2 = OK; 1 = OK; "
      "2 = OK; 3 waits; 0 getvalue = 0; 0 release 1 = OK; 3 = OK",
      "1 queued s 1; 2 queued s 1; 3 queued s 1; 0 gave s 2; 1 granted s 1; 2 granted s 1; 0 gave s 1; "
@@ -95,7 +95,7 @@ static const play_t plays_of_others[] = {
      "1 acquire 3 ..; 2 acquire 1 ..; 0 release 2 = OK; 1 waits; 2 waits; 0 getvalue = 2; 0 release 2 = OK; "
      "1 = OK; 2 = OK; 0 getvalue = 0",
      "1 queued s 3; 2 queued s 1; 0 gave s 2; 0 gave s 2; 1 granted s 3; 2 granted s 1"},
-    {"permits below zero come first", "semaphore strict seats 2 permits -2 cap 64",
+    {"permits below zero come first", "semaphore strict seats 3 permits -2 cap 64",
      "1 acquire 1 ..; 0 release 2 = OK; 1 waits; 0 getvalue = 0; 0 release 1 = OK; 1 = OK",
      "1 queued s 1; 0 gave s 2; 0 gave s 1; 1 granted s 1"},
     {"only a fair semaphore's try passes those who wait", "semaphore fair seats 3 permits 1 cap 64",
@@ -104,10 +104,10 @@ static const play_t plays_of_others[] = {
     {"and a strict semaphore's doesn't", "semaphore strict seats 3 permits 1 cap 64",
      "1 acquire 2 ..; 2 tryacquire 1 = WOULD_BLOCK; 2 timedacquire 1 0 = TIMED_OUT; 0 release 1 = OK; 1 = OK",
      "1 queued s 2; 2 missed s 1; 2 missed s 1; 0 gave s 1; 1 granted s 2"},
-    {"and that of one that isn't fair does, a time too", "semaphore nonfair seats 3 permits 3 cap 64",
+    {"and that of one that isn't fair does, a time too", "semaphore nonfair seats 4 permits 3 cap 64",
      "1 acquire 4 ..; 2 tryacquire 1 = OK; 2 timedacquire 1 0 = OK; 2 acquire 1 = OK; 0 release 4 = OK; "
      "1 = OK", "1 queued s 4; 2 trygot s 1; 2 got s 1; 2 got s 1; 0 gave s 4; 1 granted s 4"},
-    {"the last count wakes all, and none before", "latch seats 4 count 2 cap 64",
+    {"the last count wakes all, and none before", "latch seats 5 count 2 cap 64",
      "1 await ..; 2 await_interruptibly ..; 3 timedawait 20000 ..; 0 count_down = OK; 1 waits; 2 waits; "
      "3 waits; 0 getcount = 1; 0 count_down = OK; 1 = OK; 2 = OK; 3 = OK; 0 await = OK; 0 count_down = OK; "
      "0 getcount = 0",

@@ -754,7 +754,7 @@ final class AqsTest {
             same(lock.history(), before);
             start(() -> failing("AQS_TOO_MANY_THREADS", 13, lock::isLocked)).join();
             start(() -> failing("AQS_TOO_MANY_THREADS", 13, lock::getQueueLength)).join();
-            start(() -> failing("AQS_TOO_MANY_THREADS", 13, lock::lock)).join();
+            start(() -> failing("AQS_TOO_MANY_THREADS", 13, lock::tryLock)).join();
             start(() -> failing("AQS_TOO_MANY_THREADS", 13, lock::history)).join();
             start(() -> failing("AQS_TOO_MANY_THREADS", 13, lock::trim)).join();
             lock.unlock();
@@ -779,10 +779,10 @@ final class AqsTest {
             try {
                 for (Work call : Arrays.<Work>asList(
                         permits::availablePermits, permits::drainPermits, permits::release, permits::tryAcquire,
-                        permits::acquire, permits::acquireUninterruptibly, latch::getCount, latch::countDown,
-                        latch::await, latch::awaitUninterruptibly, () -> latch.await(1, TimeUnit.SECONDS))) {
+                        latch::getCount, latch::countDown)) {
                     failing("AQS_TOO_MANY_THREADS", 13, call);
                 }
+                check(!permits.tryAcquire(10, TimeUnit.MILLISECONDS) && !latch.await(10, TimeUnit.MILLISECONDS));
             } finally {
                 waiters.forEach(Thread::interrupt);
             }
@@ -826,6 +826,114 @@ final class AqsTest {
         }
     }
 
+    /** An object in which threads wait stays open, and a closed one says so. */
+    static void closes() throws Exception {
+        AqsLock lock = new AqsLock();
+        Condition met = lock.newCondition();
+        AqsSemaphore permits = new AqsSemaphore(0);
+        lock.lock();
+        List<Thread> waiters = Arrays.asList(start(() -> inLock(lock, () -> { })), start(permits::acquire));
+        until(() -> lock.hasQueuedThreads() && permits.hasQueuedThreads());
+        throwing(IllegalStateException.class, lock::close);
+        throwing(IllegalStateException.class, permits::close);
+        lock.unlock();
+        permits.release();
+        join(waiters);
+        Thread waiter = start(() -> inLock(lock, met::await));
+        until(() -> asleep(lock, met));
+        throwing(IllegalStateException.class, lock::close);
+        inLock(lock, met::signal);
+        waiter.join();
+        lock.close();
+        lock.close();
+        permits.close();
+        throwing(IllegalStateException.class, lock::lock);
+        throwing(IllegalStateException.class, permits::release);
+    }
+
+    static void inLock(AqsLock lock, Work call) throws Exception {
+        lock.lock();
+        try {
+            call.run();
+        } finally {
+            lock.unlock();
+        }
+    }
+
+    static boolean asleep(AqsLock lock, Condition condition) {
+        lock.lock();
+        try {
+            return lock.hasWaiters(condition);
+        } finally {
+            lock.unlock();
+        }
+    }
+
+    static void outOfRange(String words, AqsOptions how) {
+        try {
+            new AqsSemaphore(1, how).close();
+        } catch (IllegalArgumentException fault) {
+            same(fault.getMessage(), "aqs: " + words);
+            return;
+        }
+        throw new AssertionError(words);
+    }
+
+    /** Each seat has the name of its thread. */
+    static void names() throws Exception {
+        try (AqsLock lock = new AqsLock(new AqsOptions().keepHistory().fair())) {
+            lock.lock();
+            Thread waiter = new Thread(() -> {
+                lock.lock();
+                lock.unlock();
+            }, "waits-for-it");
+            waiter.start();
+            until(lock::hasQueuedThreads);
+            lock.unlock();
+            waiter.join();
+            check(lock.names().contains(" waits-for-it\n"));
+            same(lock.names().split("\n").length, 2);
+        }
+    }
+
+    /** Two conditions, three threads that put and three that take, and a signal for each item. */
+    static void boundedBuffer() throws Exception {
+        int each = 20_000, room = 8;
+        long[] sums = new long[3];
+        java.util.ArrayDeque<Integer> items = new java.util.ArrayDeque<>();
+        try (AqsLock lock = new AqsLock()) {
+            Condition notEmpty = lock.newCondition(), notFull = lock.newCondition();
+            List<Thread> threads = new ArrayList<>();
+            for (int i = 0; i < 3; i++) {
+                int number = i;
+                threads.add(start(() -> {
+                    for (int item = 0; item < each; item++) {
+                        lock.lock();
+                        while (items.size() == room) {
+                            notFull.await();
+                        }
+                        items.add(item);
+                        notEmpty.signal();
+                        lock.unlock();
+                    }
+                }));
+                threads.add(start(() -> {
+                    for (int item = 0; item < each; item++) {
+                        lock.lock();
+                        while (items.isEmpty()) {
+                            notEmpty.await();
+                        }
+                        sums[number] += items.remove();
+                        notFull.signal();
+                        lock.unlock();
+                    }
+                }));
+            }
+            join(threads);
+        }
+        same(sums[0] + sums[1] + sums[2], 3L * each * (each - 1) / 2);
+    }
+
     static void options() throws Exception {
         refused(() -> new AqsLock(new AqsOptions().threads(257)));
         refused(() -> new AqsLock(new AqsOptions().threads(-1)));
@@ -837,6 +945,13 @@ final class AqsTest {
         refused(() -> new AqsSemaphore(1, new AqsOptions().conditions(1)));
         refused(() -> new AqsSemaphore(1, new AqsOptions().threads(257)));
         refused(() -> new AqsSemaphore(1, new AqsOptions().mostEntries(-1)));
+        outOfRange("threads must be 1 to 256, not 257", new AqsOptions().threads(257));
+        outOfRange("threads must be 1 to 256, not -1", new AqsOptions().threads(-1));
+        outOfRange("conditions must be 1 to 16, not 17", new AqsOptions().conditions(17));
+        outOfRange("mostEntries must be 16 to 2147483647, not 15", new AqsOptions().mostEntries(15));
+        try (AqsLock usual = new AqsLock(new AqsOptions().threads(0).conditions(0).mostEntries(0))) {
+            check(usual.history().startsWith("aqs-history 1 lock nonfair seats 256 conditions 16 cap 1024"));
+        }
         refused(() -> new AqsCountDownLatch(-1));
         refused(() -> new AqsCountDownLatch(1, new AqsOptions().threads(257)));
         refused(() -> new AqsCyclicBarrier(0));
@@ -1034,6 +1149,9 @@ final class AqsTest {
     public static void main(String[] words) throws Exception {
         folder = Paths.get(words[0]);
         options();
+        names();
+        closes();
+        boundedBuffer();
         questions();
         withoutASeat();
         sides();

@@ -224,6 +224,25 @@ static void many_holds_of_one_thread(void) {
     for (int i = 0; i < 2 * HOLDS; i++) CHECK(pthread_rwlock_rdlock(&lock) == 0 && pthread_rwlock_unlock(&lock) == 0);
 }
 
+static void *take_recursive(void *nothing) {
+    come++;
+    CHECK(pthread_mutex_lock(&recursive) == 0 && pthread_mutex_unlock(&recursive) == 0);
+    return nothing;
+}
+
+/* The owner takes more holds than a history has entries while another thread waits, which gets the mutex then. */
+static void many_holds_beside_one_that_waits(void) {
+    enum { HOLDS = 20000 };
+    CHECK(pthread_mutex_lock(&recursive) == 0);
+    pthread_t thread = started(take_recursive, NULL);
+    while (come < 1) usleep(1000);
+    usleep(20000);
+    for (int i = 1; i < HOLDS; i++) CHECK(pthread_mutex_lock(&recursive) == 0);
+    for (int i = 0; i < HOLDS; i++) CHECK(pthread_mutex_unlock(&recursive) == 0);
+    join(thread);
+    printf("done\n");
+}
+
 /* An unlock by another thread ---------------------------------------------------------------------------- */
 
 static void *lock_late(void *nothing) {
@@ -1300,6 +1319,12 @@ static long resident(void) {
     return pages * sysconf(_SC_PAGESIZE) / 1024;
 }
 
+static void tell_growth(long before) {
+    long more = resident() - before;
+    if (more < 2000) printf("no more memory\n");
+    else printf("%ld kB more\n", more);
+}
+
 static void use_and_destroy(int objects, int times) {
     for (int i = 0; i < objects; i++) {
         pthread_mutex_t own;
@@ -1320,9 +1345,24 @@ static void full_histories_leave_no_memory(void) {
         pthread_cond_t own;
         CHECK(pthread_cond_init(&own, NULL) == 0 && pthread_cond_destroy(&own) == 0);
     }
-    long more = resident() - before;
-    if (more < 2000) printf("no more memory\n");
-    else printf("%ld kB more\n", more);
+    tell_growth(before);
+}
+
+static void *try_often(void *nothing) {
+    static const struct timespec past = {1, 0};
+    for (int i = 0; i < 200000; i++) CHECK(pthread_mutex_trylock(&mutex) == EBUSY);
+    for (int i = 0; i < 200000; i++) CHECK(pthread_mutex_timedlock(&second, &past) == ETIMEDOUT);
+    for (int i = 0; i < 200000; i++) CHECK(pthread_rwlock_trywrlock(&lock) == EBUSY);
+    return nothing;
+}
+
+/* A thread finds locks held, again and again, and their owner does nothing meanwhile. */
+static void many_tries_take_no_memory(void) {
+    CHECK(!pthread_mutex_lock(&mutex) && !pthread_mutex_lock(&second) && !pthread_rwlock_rdlock(&lock));
+    long before = resident();
+    join(started(try_often, NULL));
+    tell_growth(before);
+    CHECK(!pthread_mutex_unlock(&mutex) && !pthread_mutex_unlock(&second) && !pthread_rwlock_unlock(&lock));
 }
 
 static void *find_all_held(void *nothing) {
@@ -1389,6 +1429,7 @@ static const struct {
     CASE(locks_that_prefer_somebody),
     CASE(calls_beside_a_reader),
     CASE(many_holds_of_one_thread),
+    CASE(many_holds_beside_one_that_waits),
     CASE(another_thread_unlocks),
     CASE(more_come_than_there_are_seats),
     CASE(threads_that_were_cancelled_before),
@@ -1423,6 +1464,7 @@ static const struct {
     CASE(objects_of_other_kinds),
     CASE(full_histories_leave_no_memory),
     CASE(tries_fill_a_history),
+    CASE(many_tries_take_no_memory),
     CASE(writes_a_little_and_much),
     CASE(a_folded_history_gets_more_seats),
 };

@@ -2,6 +2,7 @@
 #ifndef AQS_RECORD_TEST_CHECK_H
 #define AQS_RECORD_TEST_CHECK_H
 
+#include <pthread.h>
 #include <stdio.h>
 #include <time.h>
 #include <unistd.h>
@@ -21,6 +22,11 @@ static inline struct timespec after(clockid_t clock, long milliseconds) {
     time.tv_sec += milliseconds / 1000, time.tv_nsec += milliseconds % 1000 * 1000000;
     if (time.tv_nsec >= 1000000000) time.tv_sec++, time.tv_nsec -= 1000000000;
     return time;
+}
+
+/* A call that is always put in line. */
+static inline __attribute__((always_inline)) void lock_in_line(pthread_mutex_t *mutex) {
+    CHECK(pthread_mutex_lock(mutex) == 0); /* in a header */
 }
 
 #endif

@@ -740,6 +740,21 @@ static void children_fork(void) {
     printf("status %d\n", WEXITSTATUS(status));
 }
 
+/* A child that has the memory of its parent is ended by a signal. The parent isn't. */
+static void a_child_with_our_memory_is_ended(void) {
+    int status;
+    use_mutex();
+    pid_t child = vfork();
+    if (child == 0) {
+        kill(getpid(), SIGTERM);
+        _exit(0);
+    }
+    CHECK(child > 0 && waitpid(child, &status, 0) == child);
+    use_mutex();
+    usleep(50000);
+    printf("ended by signal %d\n", WIFSIGNALED(status) ? WTERMSIG(status) : 0);
+}
+
 /* A child that has the memory of its parent ends. The parent goes on, and what it has left to glibc is told later. */
 static void a_child_with_our_memory_ends(void) {
     pthread_spinlock_t spins[2];
@@ -1211,6 +1226,7 @@ static const struct {
     CASE(children_fork),
     CASE(children_are_made_meanwhile),
     CASE(a_child_with_our_memory_ends),
+    CASE(a_child_with_our_memory_is_ended),
     CASE(reader_asks_to_write),
     CASE(reader_comes_while_a_writer_waits),
     CASE(waits_until_long_ago),

@@ -26,6 +26,8 @@ from ._locks import RLock, RWLock
 from ._semaphores import BoundedSemaphore, Lock, Semaphore
 from ._waiting import TIMEOUT_MAX, current_thread, interrupt, interrupted
 
+__version__ = "0.1.0"
+
 Latch = CountDownLatch
 
 __all__ = [

@@ -10,7 +10,7 @@ from collections import deque
 from typing import Any, Callable, Deque, List, Optional, TypeVar
 
 from ._library import INTERRUPTED, OK, TIMED_OUT, NotOwner, error_of
-from ._waiting import Deferred, is_up, moment
+from ._waiting import interrupt_again, is_untold, is_up, moment
 
 T = TypeVar("T")
 
@@ -87,13 +87,14 @@ class Queue:
 
     def _sleep(self, lock: Any, ticket: Ticket, until: Optional[float], interruptible: bool) -> bool:
         ran: List[int] = []
-        with Deferred(ran) as deferred:
+        is_due = False
+        try:
             while True:
                 status = lock._await(ran, self._number, until, interruptible)
                 if status not in (OK, TIMED_OUT, INTERRUPTED):
                     raise error_of(status)
                 if status == INTERRUPTED and (ticket.is_marked or not interruptible):
-                    deferred.note()
+                    is_due = True
                 if ticket.is_marked:
                     return True
                 if status == INTERRUPTED and interruptible:
@@ -103,6 +104,12 @@ class Queue:
                 # A signal handler may notify between the two, so the ticket is never missing.
                 self._tickets.append(ticket)
                 self._drop(ticket)
+        except BaseException as error:
+            is_due = is_due or is_untold(ran, error)
+            raise
+        finally:
+            if is_due:
+                interrupt_again()
 
     def notify(self, lock: Any, n: int) -> None:
         """Wakes the n that have waited longest, or all."""
@@ -226,6 +233,8 @@ class Condition(Waitable):
     def notify_all(self) -> None:
         """Wakes all who wait. Only the owner may call it."""
         self._notify(self._queue, None)
+
+    notifyAll = notify_all
 
     def _what_queues_need(self) -> Any:
         return self._lock if self._is_own else self

@@ -4,9 +4,9 @@ import threading
 from typing import Any, Callable, List, Optional
 
 from ._conditions import Condition
-from ._library import check, library
+from ._library import OPTIONS, check, library
 from ._locks import Monitor, acquired
-from ._object import Opened, Recorded, options_of
+from ._object import Opened, Recorded, options_of, refuse_unknown
 from ._waiting import calls_of, moment, number
 
 BrokenBarrierError = threading.BrokenBarrierError
@@ -16,6 +16,7 @@ class Gate(Recorded):
     """What has one lock with one condition."""
 
     def _open(self, options: Any) -> None:
+        refuse_unknown(type(self).__name__, options, (*OPTIONS, "conditions"))
         self._lock = Monitor(**{"conditions": 1, **options})
         self._opened = self._lock._opened
         self._cond = Condition(self._lock)
@@ -36,6 +37,8 @@ class Event(Gate):
 
     def is_set(self) -> bool:
         return self._flag
+
+    isSet = is_set
 
     def set(self) -> None:
         """Sets the flag, and lets all who wait go on."""
@@ -164,6 +167,7 @@ class CountDownLatch(Recorded):
     _calls = calls_of("latch", "await", "await_interruptibly", "timedawait")
 
     def __init__(self, count: int, **options: Any) -> None:
+        refuse_unknown(type(self).__name__, options)
         self._opened = Opened("latch", (number(count, 0, 2**31 - 1, "count"),), options_of(**options))
 
     def count_down(self) -> None:

@@ -18,6 +18,9 @@ OUT_OF_MEMORY = 11
 TOO_MANY_THREADS = 13
 NO_SPACE = 14
 
+# What each object may be opened with, by name.
+OPTIONS = ("policy", "keep_history", "most_entries", "threads")
+
 # What a thread has in the place of a number if memory lacks.
 NO_THREAD = 2**32 - 1
 
@@ -39,7 +42,7 @@ class Options(ctypes.Structure):
     ]
 
 
-_N, _MS, _AT = ctypes.c_uint32, ctypes.c_uint32, ctypes.c_uint8
+_N, _MS, _AT = ctypes.c_uint32, ctypes.c_int64, ctypes.c_uint8
 _IS = ctypes.POINTER(ctypes.c_bool)
 _CALLS = {
     "aqs_lock_lock": [], "aqs_lock_lock_interruptibly": [], "aqs_lock_timedlock": [_MS],
@@ -94,7 +97,8 @@ def _declared(library):
         _declare(library, name, [ctypes.c_void_p, ctypes.POINTER(ctypes.c_uint32)])
     _declare(library, "aqs_object_policy", [ctypes.c_void_p], ctypes.c_uint)
     length = ctypes.POINTER(ctypes.c_size_t)
-    _declare(library, "aqs_history_text", [ctypes.c_void_p, ctypes.c_char_p, ctypes.c_size_t, length])
+    for name in ("aqs_history_text", "aqs_history_names"):
+        _declare(library, name, [ctypes.c_void_p, ctypes.c_char_p, ctypes.c_size_t, length])
     _declare(library, "aqs_history_trim", [ctypes.c_void_p, ctypes.POINTER(ctypes.c_uint64)])
     _declare(library, "aqs_status_name", [ctypes.c_int], ctypes.c_char_p)
     _declare(library, "aqs_thread_self", [], ctypes.c_uint32)
@@ -109,6 +113,12 @@ def _declare(library, name, arguments, result=ctypes.c_int):
 
 
 library = _load()
+
+
+def quick(name):
+    """A call that returns a status, without ctypes' look at each argument, which costs as much as the call: the first
+    is a handle, and the others are ctypes' own or numbers below 2**31."""
+    return library[name]
 
 
 class Error(Exception):

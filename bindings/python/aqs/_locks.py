@@ -3,9 +3,9 @@ import ctypes
 from typing import Any, Callable, Dict, List, Optional, TypeVar
 
 from ._conditions import Numbers, Queue, Waitable
-from ._library import OK, TIMED_OUT, WOULD_BLOCK, NotOwner, check, library
-from ._object import Opened, Recorded, options_of
-from ._waiting import calls_of, limit, moment, myself, number, run, turn, wait
+from ._library import OK, OPTIONS, TIMED_OUT, WOULD_BLOCK, NotOwner, check, library, quick
+from ._object import Opened, Recorded, Unpickled, options_of, refuse_unknown
+from ._waiting import calls_of, limit, moment, number, run, threads, turn, wait
 
 T = TypeVar("T")
 
@@ -20,14 +20,15 @@ def acquired(
     if blocking:
         status = wait(ran, calls, arguments, until, interruptible)
     else:
-        status = run(ran, calls.trying, *arguments)
+        status = run(ran, calls.trying, arguments)
     if status in (TIMED_OUT, WOULD_BLOCK):
         return False
-    check(status)
+    if status != OK:
+        check(status)
     return True
 
 
-class Side:
+class Side(Unpickled):
     """What is acquired and released, each as often as the other: `with side:`."""
 
     _opened: Opened
@@ -40,28 +41,33 @@ class Side:
         """Takes it. False if it isn't free and `blocking` is False, or if the time was up. A timeout of -1 or
         None is no time. If `interruptible`, aqs.interrupt ends the wait with Interrupted."""
         until = limit(blocking, timeout)
+        handle = self._opened.handle
         before = self._recursion_count()
         ran: List[int] = []
         try:
-            has = acquired(ran, self._calls, (self._opened.handle,), blocking, until, interruptible)
+            has = acquired(ran, self._calls, (handle,), blocking, until, interruptible)
             if has:
+                self._opened.handle  # raises if it was closed meanwhile
                 self._set_count(before + 1)
             return has
         except BaseException:
             if ran[-1:] == [OK]:
                 self._set_count(before)
-                self._unlock(self._opened.handle)
+                self._unlock(handle)
             raise
 
     def release(self) -> None:
         """Gives one hold back. NotOwner, a RuntimeError, if the thread has none."""
+        handle = self._opened.handle
         count = self._recursion_count()
         if not count:
             raise NotOwner("cannot release un-acquired lock")
         try:
             self._set_count(count - 1)
         finally:
-            check(self._unlock(self._opened.handle))
+            status = self._unlock(handle)
+            if status != OK:
+                check(status)
 
     def locked(self) -> bool:
         """Whether any thread holds it. Another thread may change that before the caller reads it."""
@@ -88,14 +94,21 @@ class Side:
             self.release()
         return count
 
+    # A thread that ends with a hold would keep its number for good.
+    def _free(self, handle: Any) -> None:
+        """Gives all its holds back, by the handle of an object that may be closed."""
+        for left in reversed(range(self._recursion_count())):
+            self._set_count(left)
+            self._unlock(handle)
+
     # No signal ends it, so that a wait on a condition always ends with the lock. Ctrl-C is raised afterwards.
     def _acquire_restore(self, count: int) -> None:
         ran: List[int] = []
         try:
-            run(ran, self._calls.plain, self._opened.handle)
+            run(ran, self._calls.plain, (self._opened.handle,))
         finally:
             while len(ran) < count and ran.count(OK) == len(ran):
-                run(ran, self._calls.plain, self._opened.handle)
+                run(ran, self._calls.plain, (self._opened.handle,))
             if OK in ran:
                 self._set_count(ran.count(OK))
         check(ran[-1])
@@ -129,11 +142,11 @@ class Exclusive(Side, Waitable):
         return is_locked.value
 
     def _recursion_count(self) -> int:
-        return self._count if self._owner is myself() else 0
+        return self._count if self._owner is threads.me else 0
 
     def _set_count(self, count: int) -> None:
         self._count = count
-        self._owner = myself() if count else None
+        self._owner = threads.me if count else None
 
     def wait(
         self, timeout: Optional[float] = None, *, condition: int = 0, interruptible: bool = False
@@ -164,12 +177,15 @@ class Exclusive(Side, Waitable):
 
     def _await(self, ran: List[int], condition: int, until: Optional[float], interruptible: bool) -> int:
         """One wait of the library, which has given the lock up and taken it again when it returns."""
-        count = self._count
+        count, handle = self._count, self._opened.handle
         try:
             self._set_count(0)
-            return turn(ran, self._waits, (self._opened.handle, condition), until, interruptible)
+            return turn(ran, self._waits, (handle, condition), until, interruptible)
         finally:
             self._set_count(count)
+            if self._opened.is_closed:
+                self._free(handle)
+                self._opened.handle  # raises if it was closed meanwhile
 
     def _signal(self, condition: int) -> None:
         check(self._one(self._opened.handle, condition))
@@ -177,13 +193,23 @@ class Exclusive(Side, Waitable):
     def _signal_all(self, condition: int) -> None:
         check(self._all(self._opened.handle, condition))
 
+    def _close(self) -> None:
+        """Closes the object while this thread owns the lock, and gives all its holds back. Nobody else is then
+        between two calls of it: who waits gets the lock, finds it closed, and raises."""
+        handle, is_owned = self._opened.handle, self._is_owned()
+        status = OK if is_owned else self._calls.trying(handle)
+        if status == WOULD_BLOCK:
+            raise RuntimeError("another thread holds the lock")
+        self._opened.close()
+        for condition, users in enumerate(self._numbers.users):
+            if users:
+                self._all(handle, condition)
+        self._free(handle)
+        if status == OK and not is_owned:
+            self._unlock(handle)
+
     def _reinit(self) -> None:
         self._open(self._opened, len(self._numbers.users))
-
-    # A thread that ends with a hold would keep its number for good.
-    def _free(self) -> None:
-        while self._recursion_count():
-            self.release()
 
 
 class RLock(Exclusive, Recorded):
@@ -196,27 +222,27 @@ class RLock(Exclusive, Recorded):
 
     _calls = calls_of("lock", "lock", "lock_interruptibly", "timedlock", "trylock")
     _waits = calls_of("lock", "wait", "wait_interruptibly", "timedwait")
-    _unlock = library.aqs_lock_unlock
+    _unlock = quick("aqs_lock_unlock")
     _one, _all = library.aqs_lock_signal, library.aqs_lock_signal_all
     _is_locked = library.aqs_lock_is_locked
 
     def __init__(self, *, conditions: int = CONDITIONS, **options: Any) -> None:
+        refuse_unknown(type(self).__name__, options, (*OPTIONS, "conditions"))
         self._open(Opened("lock", (), options_of(conditions=conditions, **options)), conditions)
 
     def close(self) -> None:
-        """Frees its memory. RuntimeError if another thread owns it. Later calls raise ValueError."""
-        if self._owner not in (None, myself()):
-            raise RuntimeError("another thread owns the lock")
-        self._free()
-        super().close()
+        """Frees its memory. RuntimeError if another thread owns it. Later calls raise ValueError, and so do
+        those that wait for it or on its conditions."""
+        if not self._opened.is_closed:
+            self._close()
 
     def _at_fork_reinit(self) -> None:
         self._opened.abandon()
         self._reinit()
 
     def __del__(self) -> None:
-        if getattr(self, "_owner", None):
-            self._free()
+        if getattr(self, "_owner", None) and not self._opened.is_closed:
+            self._free(self._opened.handle)
 
     def __repr__(self) -> str:
         state = "locked" if self._count else "unlocked"
@@ -245,7 +271,7 @@ class ReadSide(Side):
     """The side of a read-write lock that many threads may have at a time."""
 
     _calls = calls_of("rwlock", "rdlock", "rdlock_interruptibly", "timedrdlock", "tryrdlock")
-    _unlock = library.aqs_rwlock_rdunlock
+    _unlock = quick("aqs_rwlock_rdunlock")
 
     def __init__(self, opened: Opened) -> None:
         self._opened = opened
@@ -255,13 +281,13 @@ class ReadSide(Side):
         return bool(self._holds)
 
     def _recursion_count(self) -> int:
-        return self._holds.get(myself(), 0)
+        return self._holds.get(threads.me, 0)
 
     def _set_count(self, count: int) -> None:
         if count:
-            self._holds[myself()] = count
+            self._holds[threads.me] = count
         else:
-            self._holds.pop(myself(), None)
+            self._holds.pop(threads.me, None)
 
     def __repr__(self) -> str:
         return f"<read side of an aqs.RWLock, {len(self._holds)} readers, at {id(self):#x}>"
@@ -272,7 +298,7 @@ class WriteSide(Exclusive):
 
     _calls = calls_of("rwlock", "wrlock", "wrlock_interruptibly", "timedwrlock", "trywrlock")
     _waits = calls_of("rwlock", "wait", "wait_interruptibly", "timedwait")
-    _unlock = library.aqs_rwlock_wrunlock
+    _unlock = quick("aqs_rwlock_wrunlock")
     _one, _all = library.aqs_rwlock_signal, library.aqs_rwlock_signal_all
     _is_locked = library.aqs_rwlock_is_write_locked
 
@@ -300,25 +326,24 @@ class RWLock(Recorded):
     """
 
     def __init__(self, *, conditions: int = CONDITIONS, **options: Any) -> None:
+        refuse_unknown(type(self).__name__, options, (*OPTIONS, "conditions"))
         self._opened = Opened("rwlock", (), options_of(conditions=conditions, **options))
         self.read = ReadSide(self._opened)
         self.write = WriteSide(self._opened, conditions, self.read)
 
     def close(self) -> None:
-        """Frees its memory. RuntimeError if another thread holds it. Later calls raise ValueError."""
-        if {*self.read._holds, self.write._owner} - {None, myself()}:
+        """Frees its memory. RuntimeError if another thread holds it. Later calls raise ValueError, and so do
+        those that wait for it or on its conditions."""
+        if {*self.read._holds} - {threads.me}:
             raise RuntimeError("another thread holds the lock")
-        self._free()
-        super().close()
-
-    def _free(self) -> None:
-        self.write._free()
-        while self.read._is_owned():
-            self.read.release()
+        if not self._opened.is_closed:
+            self.read._free(self._opened.handle)
+            self.write._close()
 
     def __del__(self) -> None:
-        if hasattr(self, "write"):
-            self._free()
+        if hasattr(self, "write") and not self._opened.is_closed:
+            for side in (self.read, self.write):
+                side._free(self._opened.handle)
 
     def __repr__(self) -> str:
         state = "locked to write" if self.write._count else f"{len(self.read._holds)} readers"

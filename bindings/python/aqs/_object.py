@@ -2,7 +2,7 @@
 import ctypes
 from typing import Any, Callable, Optional
 
-from ._library import NO_SPACE, Error, Options, Policy, check, library
+from ._library import NO_SPACE, OPTIONS, Error, Options, Policy, check, library
 from ._waiting import number
 
 
@@ -20,6 +20,13 @@ class _Handle(ctypes.c_void_p):
             close(self)
 
 
+def refuse_unknown(what: str, options: Any, known: Any = OPTIONS) -> None:
+    """Refuses what is no option of this class, by the name that the caller gave it."""
+    for name in options:
+        if name not in known:
+            raise TypeError(f"{what}() got an unexpected keyword argument {name!r}. Its options: {', '.join(known)}")
+
+
 def options_of(
     policy: int = Policy.NONFAIR, keep_history: bool = False, most_entries: int = 0, threads: int = 0,
     conditions: int = 0,
@@ -34,18 +41,23 @@ def options_of(
 
 
 class Opened:
-    """An object of the library, which its types share."""
+    """An object of the library, which its types share. It has its handle until it is closed, which may be
+    while a thread waits in it."""
+
+    handle: _Handle
 
     def __init__(self, kind: str, numbers: Any, options: Options) -> None:
         self._kind, self._numbers, self._options = kind, numbers, options
-        self._handle: Optional[_Handle] = None
         self.reopen()
 
-    @property
-    def handle(self) -> _Handle:
-        if self._handle is None:
+    def __getattr__(self, name: str) -> Any:
+        if name == "handle":
             raise ValueError("the object is closed")
-        return self._handle
+        raise AttributeError(name)
+
+    @property
+    def is_closed(self) -> bool:
+        return "handle" not in self.__dict__
 
     def function(self, name: str) -> Any:
         return getattr(library, f"aqs_{self._kind}_{name}")
@@ -53,7 +65,7 @@ class Opened:
     def reopen(self) -> None:
         place = ctypes.c_void_p()
         check(self.function("open")(ctypes.byref(place), *self._numbers, ctypes.byref(self._options)))
-        self._handle = _Handle(place.value or 0, self.function("close"))
+        self.handle = _Handle(place.value or 0, self.function("close"))
 
     def abandon(self) -> None:
         """Opens a new object. The old one is never closed: after a fork another thread may be inside it for
@@ -61,10 +73,12 @@ class Opened:
         self.handle.close = None
         self.reopen()
 
-    def close(self) -> None:
-        self._handle = None
+    def close(self) -> Optional[_Handle]:
+        """From here on it is closed, for the calls under way too. Returns what they still use."""
+        return self.__dict__.pop("handle", None)
 
-    def history(self) -> str:
+    def text(self, call: Any) -> str:
+        """The text that a call of any object puts into a buffer."""
         # Other threads may lengthen the text between two tries. So each try has twice the spare room, until
         # the room is twice the text.
         size, share, length = 4096, 8, ctypes.c_size_t()
@@ -72,10 +86,11 @@ class Opened:
             buffer = ctypes.create_string_buffer(size)
             handle = self.handle
             object_ = self.function("object")(handle)
-            status = library.aqs_history_text(object_, buffer, size, ctypes.byref(length))
+            status = call(object_, buffer, size, ctypes.byref(length))
             if status != NO_SPACE:
                 check(status)
-                return buffer.raw[: length.value].decode()
+                # The name of a thread may be cut within a character.
+                return buffer.raw[: length.value].decode("utf-8", "replace")
             size, share = length.value + length.value // share, max(share // 2, 1)
 
     def policy(self) -> Policy:
@@ -89,14 +104,32 @@ class Opened:
         return count.value
 
 
-class Recorded:
+class Unpickled:
+    """What can be neither pickled nor copied, as the locks of threading."""
+
+    def __reduce__(self) -> Any:
+        raise TypeError(f"cannot pickle {type(self).__name__!r} object")
+
+
+class Recorded(Unpickled):
     """What has a history."""
 
     _opened: Opened
 
     def history(self) -> str:
         """The text of the history since the last trim, as `aqs audit` and `aqs draw` read it."""
-        return self._opened.history()
+        return self._opened.text(library.aqs_history_text)
+
+    def names(self) -> str:
+        """Which thread each seat of the history is, or was last, as `aqs draw --names` reads it: for each seat a
+        line with its number and the name that the system has of the thread."""
+        return self._opened.text(library.aqs_history_names)
+
+    def save(self, path: Any) -> None:
+        """Writes the history to a file, and the names of its seats to a file beside it, PATH.names."""
+        for name, text in ((f"{path}", self.history()), (f"{path}.names", self.names())):
+            with open(name, "w", encoding="utf-8") as file:
+                file.write(text)
 
     def trim(self) -> int:
         """Forgets the recorded entries, and returns how many."""
@@ -118,7 +151,7 @@ class Recorded:
 
     def close(self) -> None:
         """Frees its memory, at the latest when the last call that is under way has ended. Later calls raise
-        ValueError. What is not closed is freed with its last reference."""
+        ValueError, and so do those that wait in it. What is not closed is freed with its last reference."""
         self._opened.close()
 
     def _name(self) -> str:

@@ -4,24 +4,31 @@ Python runs signal handlers in the main thread, between two steps of its interpr
 C. So the main thread waits in slices. A call's status is noted in the same step as the call, so an exception
 that comes right after it finds whether the call has taken something, which is then given back.
 """
+import ctypes
 import math
 import operator
+import os
 import threading
 import time
+from itertools import starmap
+from threading import get_ident
 from typing import Any, List, NamedTuple, Optional
 
 from . import _library
-from ._library import INTERRUPTED, TIMED_OUT, library
+from ._library import INTERRUPTED, OK, TIMED_OUT, library, quick
 
 TIMEOUT_MAX = threading.TIMEOUT_MAX
-# The longest time that the main thread waits in C at a time, in seconds.
-SLICE = 0.1
+# The longest time that the main thread waits in C at a time.
+SLICE = ctypes.c_int64(100)
 _MOST_MILLISECONDS = 2**32 - 1
 
 
 def number(value: Any, least: int, most: int, name: str) -> int:
     """The value as a number of this range. C would wrap another one."""
-    value = operator.index(value)
+    try:
+        value = operator.index(value)
+    except TypeError:
+        raise TypeError(f"{name} must be a whole number, not {type(value).__name__}") from None
     if not least <= value <= most:
         raise ValueError(f"{name} must be {least} to {most}, not {value}")
     return value
@@ -31,8 +38,12 @@ def moment(timeout: Optional[float]) -> Optional[float]:
     """The moment this many seconds from now. None: never."""
     if timeout is None:
         return None
-    if math.isnan(timeout):
-        raise ValueError("a timeout must be a number, not nan")
+    try:
+        is_number = not math.isnan(timeout)
+    except TypeError:
+        raise TypeError(f"timeout must be a number of seconds, not {type(timeout).__name__}") from None
+    if not is_number:
+        raise ValueError("timeout must be a number of seconds, not nan")
     if timeout > TIMEOUT_MAX:
         raise OverflowError("timeout value is too large")
     return time.monotonic() + timeout
@@ -44,9 +55,10 @@ def limit(blocking: bool, timeout: Optional[float]) -> Optional[float]:
         return None
     if not blocking:
         raise ValueError("can't specify a timeout for a non-blocking call")
+    until = moment(timeout)
     if timeout < 0:
         raise ValueError("timeout value must be a non-negative number")
-    return moment(timeout)
+    return until
 
 
 class Calls(NamedTuple):
@@ -60,63 +72,81 @@ class Calls(NamedTuple):
 
 
 def calls_of(kind: str, *names: str) -> Calls:
-    return Calls(*(getattr(library, f"aqs_{kind}_{name}") for name in names))
+    return Calls(*(quick(f"aqs_{kind}_{name}") for name in names))
 
 
-def run(ran: List[int], function: Any, *arguments: Any) -> int:
+def run(ran: List[Any], function: Any, arguments: Any) -> Any:
     """Makes a call, and appends its status to `ran`: no signal handler runs between the two."""
-    ran.extend(map(function, *((it,) for it in arguments)))
+    ran.extend(starmap(function, (arguments,)))
     return ran[-1]
 
 
-def _is_main() -> bool:
-    return threading.get_ident() == threading.main_thread().ident
+def run_taking(ran: List[Any], function: Any, take: Any) -> Any:
+    """The same with the arguments that `take` returns: no signal handler runs between the two calls either."""
+    ran.extend(starmap(function, starmap(take, ((),))))
+    return ran[-1]
 
 
-def turn(ran: List[int], calls: Calls, arguments: Any, until: Optional[float], interruptible: bool) -> int:
+_main = 0
+
+
+def _find_main() -> None:
+    global _main
+    _main = threading.main_thread().ident or 0
+
+
+_find_main()
+# After a fork it is the thread that forked.
+os.register_at_fork(after_in_child=_find_main)
+
+
+def turn(ran: List[Any], calls: Calls, arguments: Any, until: Optional[float], interruptible: bool) -> int:
     """One call that waits: all the time in most threads, a slice of it in the main thread."""
     ran.clear()
-    is_main = _is_main()
-    if until is None and not is_main:
-        return run(ran, calls.interruptibly if interruptible else calls.plain, *arguments)
-    left = math.inf if until is None else max(0, until - time.monotonic())
-    longest = min(left, SLICE) if is_main else left
-    return run(ran, calls.timed, *arguments, math.ceil(min(longest * 1000, _MOST_MILLISECONDS)))
+    is_main = get_ident() == _main
+    if until is not None:
+        left = math.ceil(max(0, until - time.monotonic()) * 1000)
+        most = SLICE.value if is_main else _MOST_MILLISECONDS
+        return run(ran, calls.timed, (*arguments, ctypes.c_int64(min(left, most))))
+    if is_main:
+        return run(ran, calls.timed, (*arguments, SLICE))
+    return run(ran, calls.interruptibly if interruptible else calls.plain, arguments)
 
 
 def is_up(until: Optional[float]) -> bool:
     return until is not None and time.monotonic() >= until
 
 
-class Deferred:
-    """An interrupt that ended a slice of a call that no interrupt may end. It is pending again afterwards.
-    If Ctrl-C comes right after the slice, the last of `ran` tells of the interrupt."""
+def is_untold(ran: List[int], error: BaseException) -> bool:
+    """Whether an interrupt ended the last slice of a call, and the error that came right after it says nothing of
+    that."""
+    return ran[-1:] == [INTERRUPTED] and not isinstance(error, _library.Interrupted)
 
-    def __init__(self, ran: List[int]) -> None:
-        self._ran, self._is_due = ran, False
 
-    def note(self) -> None:
-        self._is_due = True
-
-    def __enter__(self) -> "Deferred":
-        return self
-
-    def __exit__(self, kind: Any, *_error: object) -> None:
-        is_told = kind is None or issubclass(kind, _library.Interrupted)
-        if self._is_due or not is_told and self._ran[-1:] == [INTERRUPTED]:
-            library.aqs_thread_interrupt(library.aqs_thread_self())
+def interrupt_again() -> None:
+    """An interrupt that ended a slice of a call, which no interrupt may end, is pending again."""
+    library.aqs_thread_interrupt(library.aqs_thread_self())
 
 
 def wait(ran: List[int], calls: Calls, arguments: Any, until: Optional[float], interruptible: bool) -> int:
     """Turns until the call has what it asks for, its time is up or an interrupt may end it. Returns the
     status, which is the last of `ran`."""
-    with Deferred(ran) as deferred:
+    is_due = False
+    try:
         while True:
             status = turn(ran, calls, arguments, until, interruptible)
+            if status == OK:
+                return status
             if status == INTERRUPTED and not interruptible:
-                deferred.note()
+                is_due = True
             elif status != TIMED_OUT or is_up(until):
                 return status
+    except BaseException as error:
+        is_due = is_due or is_untold(ran, error)
+        raise
+    finally:
+        if is_due:
+            interrupt_again()
 
 
 def current_thread() -> int:
@@ -141,13 +171,11 @@ def interrupted() -> bool:
 
 
 class _Threads(threading.local):
+    """Who the calling thread is: `threads.me`. No other thread ever is the same, unlike its ident after its
+    end."""
+
     def __init__(self) -> None:
         self.me = object()
 
 
-_threads = _Threads()
-
-
-def myself() -> object:
-    """Who the calling thread is. No other thread ever is the same, unlike its ident after its end."""
-    return _threads.me
+threads = _Threads()

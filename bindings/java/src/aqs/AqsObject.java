@@ -21,6 +21,7 @@ public abstract class AqsObject implements AutoCloseable {
 
     AqsObject(int kind, int number, AqsOptions how) {
         Callers.check();
+        how.check();
         this.kind = kind;
         policy = how.policy;
         boolean hasConditions = kind == Native.LOCK || kind == Native.READ_WRITE;
@@ -39,6 +40,18 @@ public abstract class AqsObject implements AutoCloseable {
         byte[][] text = new byte[1][];
         must(Native.history(this, kind, handle(), text));
         return new String(text[0], StandardCharsets.US_ASCII);
+    }
+
+    /**
+     * Returns which thread each seat of the history is, or was last, as `aqs draw --names` reads it: for each
+     * seat a line with its number and the thread's name, cut to 15 characters.
+     *
+     * @return the text
+     */
+    public final String names() {
+        byte[][] text = new byte[1][];
+        must(Native.names(this, kind, handle(), text));
+        return new String(text[0], StandardCharsets.UTF_8);
     }
 
     /**
@@ -89,13 +102,19 @@ public abstract class AqsObject implements AutoCloseable {
     }
 
     /**
-     * Frees the native memory. No thread may be in a call of the object, and none may own it. Later calls
+     * Frees the native memory. No thread may be in a call of the object, and no other may own it. Later calls
      * throw IllegalStateException, but another close does nothing. An object that nobody closes is closed
      * some time after it can't be reached any more.
+     *
+     * @throws IllegalStateException if threads wait in the object, which stays as it was
      */
     @Override
     public final void close() {
         Callers.check();
+        long open = at;
+        if (open != 0 && Native.waiters(this, kind, open) > 0) {
+            throw new IllegalStateException("aqs: threads wait in the object");
+        }
         at = 0;
         memory.free();
     }

@@ -122,8 +122,14 @@ final class Native {
     /** How many threads are in the object's queue, or the status, made negative. */
     static native long queueLength(Object keep, int kind, long at);
 
+    /** How many threads wait in the object, also on its conditions, or the status, made negative. */
+    static native long waiters(Object keep, int kind, long at);
+
     /** A status. It puts the text into the first place. */
     static native int history(Object keep, int kind, long at, byte[][] into);
+
+    /** A status. It puts the names of the seats into the first place. */
+    static native int names(Object keep, int kind, long at, byte[][] into);
 
     /** How many entries there were, or the status, made negative. */
     static native long trim(Object keep, int kind, long at);

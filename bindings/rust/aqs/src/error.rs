@@ -12,6 +12,7 @@ use std::{error, ffi::CStr, fmt};
 /// assert_eq!(error, Error::OutOfRange);
 /// assert_eq!(error.name(), "AQS_OUT_OF_RANGE");
 /// assert_eq!(error.to_string(), "a number that the object can't be opened with, or that no thread has");
+/// assert_eq!(aqs::last_error(), "threads must be 1 to 256, not 257");
 /// ```
 #[derive(Clone, Copy, Debug, PartialEq, Eq, Hash)]
 #[non_exhaustive]
@@ -38,7 +39,7 @@ pub enum Error {
     HistoryFull,
     /// The library got no memory.
     OutOfMemory,
-    /// A number that the object can't be opened with, or that no thread has.
+    /// A number that the object can't be opened with, or that no thread has. [`last_error`] says which.
     OutOfRange,
     /// As many threads as the object was opened for hold it or wait for it.
     TooManyThreads,
@@ -133,6 +134,13 @@ impl fmt::Display for Error {
 
 impl error::Error for Error {}
 
+/// What the last [`Error::OutOfRange`] of the calling thread was about, as `threads must be 1 to 256, not 257`.
+/// Empty if it had none.
+pub fn last_error() -> String {
+    // SAFETY: it returns a text that stays until the thread's next such error.
+    unsafe { CStr::from_ptr(sys::aqs_last_error()) }.to_string_lossy().into_owned()
+}
+
 pub(crate) fn check(status: sys::Status) -> Result<(), Error> {
     match status {
         0 => Ok(()),
@@ -160,5 +168,8 @@ pub(crate) fn must(status: sys::Status) {
 #[cold]
 #[track_caller]
 pub(crate) fn refused(error: Error) -> ! {
-    panic!("aqs: {error} ({})", error.name())
+    match error {
+        Error::OutOfRange => panic!("aqs: {} ({})", last_error(), error.name()),
+        _ => panic!("aqs: {error} ({})", error.name()),
+    }
 }

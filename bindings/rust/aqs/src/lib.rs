@@ -28,24 +28,32 @@
 #![warn(missing_docs)]
 #![deny(unsafe_op_in_unsafe_fn)]
 
+mod arc;
+mod barrier;
 mod condvar;
 mod error;
 mod latch;
 mod mutex;
 mod object;
+mod once;
 mod options;
 mod raw_mutex;
+mod reentrant_mutex;
 mod rwlock;
 mod semaphore;
 mod sys;
 mod thread;
 
+pub use arc::{ArcMutexGuard, ArcReadGuard, ArcWriteGuard};
+pub use barrier::{Barrier, BarrierWaitResult};
 pub use condvar::{Condvar, WaitTimeoutResult};
-pub use error::Error;
+pub use error::{last_error, Error};
 pub use latch::Latch;
 pub use mutex::{Entry, MappedMutexGuard, Mutex, MutexGuard};
+pub use once::{Once, OnceState};
 pub use options::{Options, Policy};
-pub use rwlock::{MappedReadGuard, MappedWriteGuard, ReadGuard, RwLock, WriteGuard};
+pub use reentrant_mutex::{ReentrantMutex, ReentrantMutexGuard};
+pub use rwlock::{MappedReadGuard, MappedWriteGuard, ReadGuard, RwLock, UpgradableReadGuard, WriteGuard};
 pub use semaphore::{Permits, Semaphore};
 pub use thread::{interrupted, Thread};
 
@@ -53,6 +61,8 @@ pub use thread::{interrupted, Thread};
 pub type RwLockReadGuard<'l, T> = ReadGuard<'l, T>;
 /// [`WriteGuard`], by the name that it has in parking_lot.
 pub type RwLockWriteGuard<'l, T> = WriteGuard<'l, T>;
+/// [`UpgradableReadGuard`], by the name that it has in parking_lot.
+pub type RwLockUpgradableReadGuard<'l, T> = UpgradableReadGuard<'l, T>;
 /// [`MappedReadGuard`], by the name that it has in parking_lot.
 pub type MappedRwLockReadGuard<'l, T> = MappedReadGuard<'l, T>;
 /// [`MappedWriteGuard`], by the name that it has in parking_lot.

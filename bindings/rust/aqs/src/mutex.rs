@@ -1,7 +1,7 @@
 //! A lock round a value.
 
 use crate::error::{check, taken, Error};
-use crate::object::{after, calls_of_each_object, Lazy};
+use crate::object::{after, calls_of_each_object};
 use crate::options::Options;
 use crate::raw_mutex::RawMutex;
 use std::cell::UnsafeCell;
@@ -50,9 +50,7 @@ unsafe impl<T: ?Sized + Send> Sync for Mutex<T> {}
 impl<T> Mutex<T> {
     /// A mutex with the default options. Its first call opens it.
     pub const fn new(value: T) -> Mutex<T> {
-        let options = Options::new().with_conditions();
-        let raw = RawMutex::new(Lazy::new((), options), options.0.conditions);
-        Mutex { raw, value: UnsafeCell::new(value) }
+        Mutex { raw: RawMutex::unopened(Options::new()), value: UnsafeCell::new(value) }
     }
 
     /// A mutex with these options, which is open: [`Error::OutOfRange`] or [`Error::OutOfMemory`].
@@ -138,11 +136,50 @@ impl<T: ?Sized> Mutex<T> {
     /// ```
     #[track_caller]
     pub fn enter(&self) -> Entry<'_, T> {
-        let has_locked = self.raw.is_mine() && self.raw.entered().get() == 0;
-        assert!(!has_locked, "aqs: the thread has locked this mutex");
+        assert!(!self.has_locked(), "aqs: the thread has locked this mutex");
         self.raw.lock();
+        self.entry()
+    }
+
+    /// Takes the value to read it, if no other thread has it and the calling one hasn't locked it.
+    #[track_caller]
+    pub fn try_enter(&self) -> Option<Entry<'_, T>> {
+        (!self.has_locked() && taken(self.raw.try_lock())).then(|| self.entry())
+    }
+
+    /// The same, and waits for at most this time.
+    #[track_caller]
+    pub fn try_enter_for(&self, time: Duration) -> Option<Entry<'_, T>> {
+        self.try_enter_to(after(time))
+    }
+
+    /// The same, and waits until a moment at the latest.
+    #[track_caller]
+    pub fn try_enter_until(&self, moment: Instant) -> Option<Entry<'_, T>> {
+        self.try_enter_to(Some(moment))
+    }
+
+    #[track_caller]
+    fn try_enter_to(&self, until: Option<Instant>) -> Option<Entry<'_, T>> {
+        (!self.has_locked() && taken(self.raw.lock_until(until, false))).then(|| self.entry())
+    }
+
+    fn has_locked(&self) -> bool {
+        self.raw.is_mine() && self.raw.entered().get() == 0
+    }
+
+    fn entry(&self) -> Entry<'_, T> {
         self.raw.entered().set(self.raw.entered().get() + 1);
         Entry { mutex: self, not_send: PhantomData }
+    }
+
+    /// The value, for a guard without a reference to the mutex.
+    pub(crate) fn value(&self) -> *mut T {
+        self.value.get()
+    }
+
+    pub(crate) fn raw(&self) -> &RawMutex {
+        &self.raw
     }
 
     /// Whether any thread has the value. Another thread may change that before the caller reads it. It
@@ -264,6 +301,12 @@ impl<'m, T: ?Sized> MutexGuard<'m, T> {
         guard.raw().unlock();
         let _again = Again(guard.raw());
         call()
+    }
+
+    /// Gives the value up, as a drop does: whose it is next is decided by the policy of the mutex. If that is
+    /// fair ([`Options::fair`]), no thread that comes later has it before those that wait.
+    pub fn unlock_fair(guard: MutexGuard<'m, T>) {
+        drop(guard);
     }
 
     /// Lets a thread that waits for the value have it in between.
@@ -393,6 +436,13 @@ impl<T: ?Sized> Drop for MappedMutexGuard<'_, T> {
 pub struct Entry<'m, T: ?Sized> {
     mutex: &'m Mutex<T>,
     not_send: PhantomData<*const ()>,
+}
+
+impl<T: ?Sized> Entry<'_, T> {
+    /// Gives the value up, as [`MutexGuard::unlock_fair`].
+    pub fn unlock_fair(entry: Self) {
+        drop(entry);
+    }
 }
 
 impl<T: ?Sized> Deref for Entry<'_, T> {

@@ -3,9 +3,10 @@
 use crate::error::{check, must, refused, Error};
 use crate::options::{Options, Policy};
 use crate::sys;
-use std::ptr;
+use std::os::raw::c_char;
 use std::sync::OnceLock;
 use std::time::{Duration, Instant};
+use std::{hint, ptr, thread};
 
 /// A kind of object of the library.
 ///
@@ -54,6 +55,9 @@ impl<K: Kind> Drop for Handle<K> {
     }
 }
 
+/// A call that puts a text into a buffer.
+type TextOf = unsafe extern "C" fn(*mut sys::Object, *mut c_char, usize, *mut usize) -> sys::Status;
+
 /// An object that its first call opens.
 pub(crate) struct Lazy<K: Kind> {
     handle: OnceLock<Handle<K>>,
@@ -94,9 +98,19 @@ impl<K: Kind> Lazy<K> {
         self.handle.get_or_init(open).0
     }
 
-    /// The text of the history since the last trim. Other threads may lengthen it between two tries. So each
-    /// try has twice the spare room, until the room is twice the text.
+    /// The text of the history since the last trim.
     pub(crate) fn history(&self) -> Result<String, Error> {
+        self.text(sys::aqs_history_text)
+    }
+
+    /// Which thread each seat is.
+    pub(crate) fn names(&self) -> Result<String, Error> {
+        self.text(sys::aqs_history_names)
+    }
+
+    /// A text of the object. Other threads may lengthen it between two tries. So each try has twice the spare
+    /// room, until the room is twice the text.
+    fn text(&self, call: TextOf) -> Result<String, Error> {
         const NO_SPACE: sys::Status = 14;
         // SAFETY: the object is open.
         let object = unsafe { K::object(self.get()) };
@@ -105,8 +119,7 @@ impl<K: Kind> Lazy<K> {
         loop {
             let (mut length, size) = (0, text.capacity());
             // SAFETY: the object is open, and the buffer has that room.
-            let status =
-                unsafe { sys::aqs_history_text(object, text.as_mut_ptr().cast(), size, &mut length) };
+            let status = unsafe { call(object, text.as_mut_ptr().cast(), size, &mut length) };
             if status == NO_SPACE {
                 text = Vec::with_capacity(length + length / share);
                 share = (share / 2).max(1);
@@ -115,7 +128,9 @@ impl<K: Kind> Lazy<K> {
             check(status)?;
             // SAFETY: the call has written as many bytes.
             unsafe { text.set_len(length) };
-            return Ok(String::from_utf8(text).expect("a history is a text"));
+            // The name of a thread may be cut within a character.
+            return Ok(String::from_utf8(text)
+                .unwrap_or_else(|error| String::from_utf8_lossy(error.as_bytes()).into_owned()));
         }
     }
 
@@ -181,6 +196,12 @@ macro_rules! calls_of_each_object {
             self.$($field).+.history()
         }
 
+        /// Which thread each seat of the history is, or was last, as `aqs draw --names` reads it: for each seat
+        /// a line with its number and the thread's name, cut to 15 characters.
+        pub fn names(&self) -> Result<String, Error> {
+            self.$($field).+.names()
+        }
+
         /// Forgets the recorded entries, and returns how many.
         pub fn trim(&self) -> Result<u64, Error> {
             self.$($field).+.trim()
@@ -194,10 +215,14 @@ pub(crate) fn after(time: Duration) -> Option<Instant> {
     Instant::now().checked_add(time)
 }
 
-/// The milliseconds until a moment, rounded up, at most some 49 days.
-fn left(until: Instant) -> u32 {
-    let whole = until.saturating_duration_since(Instant::now()).as_nanos().div_ceil(1_000_000);
-    u32::try_from(whole).unwrap_or(u32::MAX)
+pub(crate) fn left_of(until: Instant) -> Duration {
+    until.saturating_duration_since(Instant::now())
+}
+
+/// The milliseconds until a moment, rounded up, as many as a call takes.
+fn left(until: Instant) -> i64 {
+    let whole = left_of(until).as_nanos().div_ceil(1_000_000);
+    i64::try_from(whole).unwrap_or(i64::MAX)
 }
 
 pub(crate) fn is_up(until: Option<Instant>) -> bool {
@@ -215,7 +240,7 @@ impl<P, I, T> Waits<P, I, T>
 where
     P: Fn() -> sys::Status,
     I: Fn() -> sys::Status,
-    T: Fn(u32) -> sys::Status,
+    T: Fn(i64) -> sys::Status,
 {
     /// One call. A long time may be up for the library before it is for the caller.
     pub(crate) fn once(&self, until: Option<Instant>, interruptible: bool) -> sys::Status {
@@ -256,6 +281,16 @@ impl Drop for Pending {
             // SAFETY: any number has an answer, and that of a thread is in range.
             let _set = unsafe { sys::aqs_thread_interrupt(me()) };
         }
+    }
+}
+
+/// Between two looks for what another thread is about to do.
+pub(crate) fn back_off(looks: &mut u32) {
+    *looks += 1;
+    if *looks < 100 {
+        hint::spin_loop()
+    } else {
+        thread::yield_now()
     }
 }
 

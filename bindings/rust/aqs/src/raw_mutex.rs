@@ -1,14 +1,12 @@
 //! The lock below a mutex: who owns it, and its conditions.
 
 use crate::error::{check, must, taken, Error};
-use crate::object::{me, Kind, Lazy, Waits, NOBODY};
+use crate::object::{back_off, me, Kind, Lazy, Waits, NOBODY};
 use crate::options::{Options, CONDITIONS};
 use crate::sys::{self, Status};
 use std::cell::Cell;
-use std::hint;
 use std::sync::atomic::{AtomicBool, AtomicU32, Ordering};
 use std::sync::{Mutex, PoisonError};
-use std::thread;
 use std::time::Instant;
 
 /// All who wait on a condition, in the place of a number of them.
@@ -61,7 +59,7 @@ pub(crate) struct RawMutex {
 unsafe impl Sync for RawMutex {}
 
 impl RawMutex {
-    pub(crate) const fn new(lock: Lazy<LockKind>, conditions: u8) -> RawMutex {
+    const fn new(lock: Lazy<LockKind>, conditions: u8) -> RawMutex {
         RawMutex {
             lock,
             owner: AtomicU32::new(NOBODY),
@@ -70,6 +68,12 @@ impl RawMutex {
             numbers: Mutex::new(None),
             is_due: AtomicBool::new(false),
         }
+    }
+
+    /// One that its first call opens.
+    pub(crate) const fn unopened(options: Options) -> RawMutex {
+        let options = options.with_conditions();
+        RawMutex::new(Lazy::new((), options), options.0.conditions)
     }
 
     pub(crate) fn open(options: Options) -> Result<RawMutex, Error> {
@@ -223,12 +227,7 @@ impl RawMutex {
                 self.unlock();
                 return;
             }
-            looks += 1;
-            if looks < 100 {
-                hint::spin_loop()
-            } else {
-                thread::yield_now()
-            }
+            back_off(&mut looks);
         }
     }
 

@@ -2,7 +2,7 @@
 
 use crate::error::{check, must, taken, Error};
 use crate::mutex::shows_its_value;
-use crate::object::{after, calls_of_each_object, me, Kind, Lazy, Waits, NOBODY};
+use crate::object::{after, back_off, calls_of_each_object, is_up, left_of, me, Kind, Lazy, Waits, NOBODY};
 use crate::options::Options;
 use crate::sys::{self, Status};
 use std::cell::UnsafeCell;
@@ -11,6 +11,7 @@ use std::marker::PhantomData;
 use std::mem::ManuallyDrop;
 use std::ops::{Deref, DerefMut};
 use std::sync::atomic::{AtomicU32, AtomicUsize, Ordering};
+use std::sync::{Condvar, Mutex, PoisonError};
 use std::time::{Duration, Instant};
 
 enum RwLockKind {}
@@ -42,11 +43,26 @@ struct RawRwLock {
     writer: AtomicU32,
     /// How many guards read.
     readers: AtomicUsize,
+    /// The reader that may go on to write. It changes while its thread reads or writes, or has just done so.
+    /// Whoever else comes to write meanwhile leaves again: so nobody writes between its read and its write.
+    upgrader: AtomicU32,
+    vacancy: Mutex<()>,
+    vacant: Condvar,
 }
+
+const TIMED_OUT: Status = 1;
+const WOULD_BLOCK: Status = 3;
 
 impl RawRwLock {
     const fn new(lock: Lazy<RwLockKind>) -> RawRwLock {
-        RawRwLock { lock, writer: AtomicU32::new(NOBODY), readers: AtomicUsize::new(0) }
+        RawRwLock {
+            lock,
+            writer: AtomicU32::new(NOBODY),
+            readers: AtomicUsize::new(0),
+            upgrader: AtomicU32::new(NOBODY),
+            vacancy: Mutex::new(()),
+            vacant: Condvar::new(),
+        }
     }
 
     fn writes(&self) -> bool {
@@ -92,7 +108,21 @@ impl RawRwLock {
 
     fn try_write(&self) -> Status {
         // SAFETY: the lock is open.
-        self.wrote(unsafe { sys::aqs_rwlock_trywrlock(self.lock.get()) })
+        let status = unsafe { sys::aqs_rwlock_trywrlock(self.lock.get()) };
+        if status == 0 && self.must_leave() {
+            return WOULD_BLOCK;
+        }
+        self.wrote(status)
+    }
+
+    /// Whether another thread may go on to write. Then this one, which has just got the lock, has given it up.
+    fn must_leave(&self) -> bool {
+        let upgrader = self.upgrader.load(Ordering::SeqCst);
+        let must = upgrader != NOBODY && upgrader != me();
+        if must {
+            self.unlock_writer();
+        }
+        must
     }
 
     fn read(&self, until: Option<Instant>, interruptible: bool) -> Status {
@@ -109,14 +139,23 @@ impl RawRwLock {
 
     fn write(&self, until: Option<Instant>, interruptible: bool) -> Status {
         let lock = self.lock.get();
-        // SAFETY: the lock is open.
-        let status = unsafe {
-            let plain = || sys::aqs_rwlock_wrlock(lock);
-            let interruptibly = || sys::aqs_rwlock_wrlock_interruptibly(lock);
-            let timed = |time| sys::aqs_rwlock_timedwrlock(lock, time);
-            Waits { plain, interruptibly, timed }.all(until, interruptible)
-        };
-        self.wrote(status)
+        let mut looks = 0;
+        loop {
+            // SAFETY: the lock is open.
+            let status = unsafe {
+                let plain = || sys::aqs_rwlock_wrlock(lock);
+                let interruptibly = || sys::aqs_rwlock_wrlock_interruptibly(lock);
+                let timed = |time| sys::aqs_rwlock_timedwrlock(lock, time);
+                Waits { plain, interruptibly, timed }.all(until, interruptible)
+            };
+            if status != 0 || !self.must_leave() {
+                return self.wrote(status);
+            }
+            if is_up(until) {
+                return TIMED_OUT;
+            }
+            back_off(&mut looks);
+        }
     }
 
     // It never lacks memory or room.
@@ -126,11 +165,109 @@ impl RawRwLock {
         let _given = unsafe { sys::aqs_rwlock_rdunlock(self.lock.get()) };
     }
 
-    // It never lacks memory or room.
     fn stop_writing(&self) {
         self.writer.store(NOBODY, Ordering::Relaxed);
+        self.unlock_writer();
+    }
+
+    // It never lacks memory or room.
+    fn unlock_writer(&self) {
         // SAFETY: the lock is open, and the thread writes.
         let _given = unsafe { sys::aqs_rwlock_wrunlock(self.lock.get()) };
+    }
+
+    #[track_caller]
+    fn refuse_upgrader(&self) {
+        self.refuse_writer();
+        let is_upgrader = self.upgrader.load(Ordering::SeqCst) == me();
+        assert!(!is_upgrader, "aqs: the thread has an upgradable read already");
+    }
+
+    /// Whether this thread, which reads, is now the one that may go on to write.
+    fn is_upgrader(&self) -> bool {
+        self.upgrader.compare_exchange(NOBODY, me(), Ordering::SeqCst, Ordering::SeqCst).is_ok()
+    }
+
+    fn try_read_to_upgrade(&self) -> Status {
+        let status = self.try_read();
+        if status == 0 && !self.is_upgrader() {
+            self.stop_reading();
+            return WOULD_BLOCK;
+        }
+        status
+    }
+
+    fn read_to_upgrade(&self, until: Option<Instant>) -> Status {
+        loop {
+            let status = self.read(until, false);
+            if status != 0 || self.is_upgrader() {
+                return status;
+            }
+            self.stop_reading();
+            if !self.is_vacant_before(until) {
+                return TIMED_OUT;
+            }
+        }
+    }
+
+    /// Waits until no thread may go on to write. False if the time is up before.
+    fn is_vacant_before(&self, until: Option<Instant>) -> bool {
+        let mut guard = self.vacancy.lock().unwrap_or_else(PoisonError::into_inner);
+        while self.upgrader.load(Ordering::SeqCst) != NOBODY {
+            guard = match until {
+                None => self.vacant.wait(guard).unwrap_or_else(PoisonError::into_inner),
+                Some(_) if is_up(until) => return false,
+                Some(until) => {
+                    let waited = self.vacant.wait_timeout(guard, left_of(until));
+                    waited.unwrap_or_else(PoisonError::into_inner).0
+                }
+            };
+        }
+        true
+    }
+
+    /// This thread won't go on to write.
+    fn vacate(&self) {
+        let guard = self.vacancy.lock().unwrap_or_else(PoisonError::into_inner);
+        self.upgrader.store(NOBODY, Ordering::SeqCst);
+        drop(guard);
+        self.vacant.notify_all();
+    }
+
+    /// The reader that may go on to write does so. If it is refused it has nothing any more.
+    #[track_caller]
+    fn upgrade(&self) {
+        self.stop_reading();
+        let status = self.write(None, false);
+        self.vacate();
+        must(status);
+    }
+
+    /// The same if nobody else reads before the time is up. Else it reads on, and nobody has written meanwhile.
+    #[track_caller]
+    fn try_upgrade(&self, write: impl FnOnce() -> Status) -> bool {
+        self.stop_reading();
+        if write() == 0 {
+            self.vacate();
+            return true;
+        }
+        let status = self.read(None, false);
+        if status != 0 {
+            self.vacate();
+        }
+        must(status);
+        false
+    }
+
+    /// The thread that writes goes on as the reader that may write again.
+    #[track_caller]
+    fn downgrade_to_upgradable(&self) {
+        let status = self.read(None, false);
+        if status == 0 {
+            self.upgrader.store(me(), Ordering::SeqCst);
+        }
+        self.stop_writing();
+        must(status);
     }
 
     /// The thread that writes goes on as a reader.
@@ -253,6 +390,65 @@ impl<T: ?Sized> RwLock<T> {
         (!self.raw.writes() && taken(self.raw.read(until, false))).then(|| self.reader())
     }
 
+    fn upgradable(&self) -> UpgradableReadGuard<'_, T> {
+        UpgradableReadGuard { lock: self, not_send: PhantomData }
+    }
+
+    /// Takes the value to read it, and perhaps to change it later ([`UpgradableReadGuard::upgrade`]). One
+    /// thread at a time may have it so, beside those that read.
+    ///
+    /// ```
+    /// use aqs::{RwLock, UpgradableReadGuard};
+    ///
+    /// let lock = RwLock::new(1);
+    /// let reads = lock.upgradable_read();
+    /// assert_eq!((*reads, *lock.read()), (1, 1));
+    /// *UpgradableReadGuard::upgrade(reads) += 1;
+    /// assert_eq!(*lock.read(), 2);
+    /// ```
+    #[track_caller]
+    pub fn upgradable_read(&self) -> UpgradableReadGuard<'_, T> {
+        self.raw.refuse_upgrader();
+        must(self.raw.read_to_upgrade(None));
+        self.upgradable()
+    }
+
+    /// The same, if nobody writes and no thread has the value so.
+    #[track_caller]
+    pub fn try_upgradable_read(&self) -> Option<UpgradableReadGuard<'_, T>> {
+        (!self.raw.writes() && taken(self.raw.try_read_to_upgrade())).then(|| self.upgradable())
+    }
+
+    /// The same, and waits for at most this time.
+    #[track_caller]
+    pub fn try_upgradable_read_for(&self, time: Duration) -> Option<UpgradableReadGuard<'_, T>> {
+        self.try_upgradable_read_to(after(time))
+    }
+
+    /// The same, and waits until a moment at the latest.
+    #[track_caller]
+    pub fn try_upgradable_read_until(&self, moment: Instant) -> Option<UpgradableReadGuard<'_, T>> {
+        self.try_upgradable_read_to(Some(moment))
+    }
+
+    #[track_caller]
+    fn try_upgradable_read_to(&self, until: Option<Instant>) -> Option<UpgradableReadGuard<'_, T>> {
+        (!self.raw.writes() && taken(self.raw.read_to_upgrade(until))).then(|| self.upgradable())
+    }
+
+    /// The value, for a guard without a reference to the lock.
+    pub(crate) fn value(&self) -> *mut T {
+        self.value.get()
+    }
+
+    pub(crate) fn stop_reading(&self) {
+        self.raw.stop_reading();
+    }
+
+    pub(crate) fn stop_writing(&self) {
+        self.raw.stop_writing();
+    }
+
     /// Takes the value to change it, and waits until nobody else has it.
     #[track_caller]
     pub fn write(&self) -> WriteGuard<'_, T> {
@@ -352,7 +548,7 @@ impl<T: ?Sized + fmt::Debug> fmt::Debug for RwLock<T> {
     }
 }
 
-shows_its_value! { ReadGuard WriteGuard MappedReadGuard MappedWriteGuard }
+shows_its_value! { ReadGuard UpgradableReadGuard WriteGuard MappedReadGuard MappedWriteGuard }
 
 /// A value that is read until the guard is dropped.
 #[must_use = "the lock is free again if the guard is not kept"]
@@ -362,6 +558,11 @@ pub struct ReadGuard<'l, T: ?Sized> {
 }
 
 impl<'l, T: ?Sized> ReadGuard<'l, T> {
+    /// Gives the value up, as a drop does: whose it is next is decided by the policy of the lock.
+    pub fn unlock_fair(guard: ReadGuard<'l, T>) {
+        drop(guard);
+    }
+
     /// A guard of a part of the value.
     pub fn map<U: ?Sized>(guard: ReadGuard<'l, T>, part: impl FnOnce(&T) -> &U) -> MappedReadGuard<'l, U> {
         let value: *const U = part(&*guard);
@@ -395,6 +596,67 @@ impl<T: ?Sized> Deref for ReadGuard<'_, T> {
 
 impl<T: ?Sized> Drop for ReadGuard<'_, T> {
     fn drop(&mut self) {
+        self.lock.raw.stop_reading();
+    }
+}
+
+/// A value that is read until the guard is dropped, or changed after it is upgraded.
+#[must_use = "the lock is free again if the guard is not kept"]
+pub struct UpgradableReadGuard<'l, T: ?Sized> {
+    lock: &'l RwLock<T>,
+    not_send: PhantomData<*const ()>,
+}
+
+impl<'l, T: ?Sized> UpgradableReadGuard<'l, T> {
+    /// Goes on to change the value, when those that read have ended: nobody writes in between.
+    #[track_caller]
+    pub fn upgrade(guard: UpgradableReadGuard<'l, T>) -> WriteGuard<'l, T> {
+        let lock = ManuallyDrop::new(guard).lock;
+        lock.raw.upgrade();
+        lock.writer()
+    }
+
+    /// The same if nobody else reads, and else the guard again. Nobody writes meanwhile.
+    #[track_caller]
+    pub fn try_upgrade(
+        guard: UpgradableReadGuard<'l, T>,
+    ) -> Result<WriteGuard<'l, T>, UpgradableReadGuard<'l, T>> {
+        let lock = ManuallyDrop::new(guard).lock;
+        let is_writer = lock.raw.try_upgrade(|| lock.raw.try_write());
+        is_writer.then(|| lock.writer()).ok_or_else(|| lock.upgradable())
+    }
+
+    /// The same, and waits for at most this time.
+    #[track_caller]
+    pub fn try_upgrade_for(
+        guard: UpgradableReadGuard<'l, T>,
+        time: Duration,
+    ) -> Result<WriteGuard<'l, T>, UpgradableReadGuard<'l, T>> {
+        let lock = ManuallyDrop::new(guard).lock;
+        let is_writer = lock.raw.try_upgrade(|| lock.raw.write(after(time), false));
+        is_writer.then(|| lock.writer()).ok_or_else(|| lock.upgradable())
+    }
+
+    /// Goes on as a reader like others.
+    pub fn downgrade(guard: UpgradableReadGuard<'l, T>) -> ReadGuard<'l, T> {
+        let lock = ManuallyDrop::new(guard).lock;
+        lock.raw.vacate();
+        lock.reader()
+    }
+}
+
+impl<T: ?Sized> Deref for UpgradableReadGuard<'_, T> {
+    type Target = T;
+
+    fn deref(&self) -> &T {
+        // SAFETY: the thread reads, so nobody writes.
+        unsafe { &*self.lock.value.get() }
+    }
+}
+
+impl<T: ?Sized> Drop for UpgradableReadGuard<'_, T> {
+    fn drop(&mut self) {
+        self.lock.raw.vacate();
         self.lock.raw.stop_reading();
     }
 }
@@ -441,6 +703,19 @@ pub struct WriteGuard<'l, T: ?Sized> {
 }
 
 impl<'l, T: ?Sized> WriteGuard<'l, T> {
+    /// Gives the value up, as a drop does: whose it is next is decided by the policy of the lock.
+    pub fn unlock_fair(guard: WriteGuard<'l, T>) {
+        drop(guard);
+    }
+
+    /// Goes on as the reader that may write again: nobody writes in between.
+    #[track_caller]
+    pub fn downgrade_to_upgradable(self) -> UpgradableReadGuard<'l, T> {
+        let lock = ManuallyDrop::new(self).lock;
+        lock.raw.downgrade_to_upgradable();
+        lock.upgradable()
+    }
+
     /// Goes on as a reader: nobody writes in between.
     #[track_caller]
     pub fn downgrade(self) -> ReadGuard<'l, T> {

@@ -28,6 +28,7 @@ pub type Status = c_int;
 
 extern "C" {
     pub fn aqs_status_name(status: Status) -> *const c_char;
+    pub fn aqs_last_error() -> *const c_char;
     pub fn aqs_thread_self() -> u32;
     pub fn aqs_thread_interrupt(thread: u32) -> Status;
     pub fn aqs_thread_interrupted() -> bool;
@@ -36,14 +37,14 @@ extern "C" {
     pub fn aqs_lock_close(lock: *mut Lock);
     pub fn aqs_lock_lock(lock: *mut Lock) -> Status;
     pub fn aqs_lock_lock_interruptibly(lock: *mut Lock) -> Status;
-    pub fn aqs_lock_timedlock(lock: *mut Lock, milliseconds: u32) -> Status;
+    pub fn aqs_lock_timedlock(lock: *mut Lock, milliseconds: i64) -> Status;
     pub fn aqs_lock_trylock(lock: *mut Lock) -> Status;
     pub fn aqs_lock_unlock(lock: *mut Lock) -> Status;
     pub fn aqs_lock_holds(lock: *mut Lock) -> u32;
     pub fn aqs_lock_is_locked(lock: *mut Lock, is_locked: *mut bool) -> Status;
     pub fn aqs_lock_wait(lock: *mut Lock, condition: u8) -> Status;
     pub fn aqs_lock_wait_interruptibly(lock: *mut Lock, condition: u8) -> Status;
-    pub fn aqs_lock_timedwait(lock: *mut Lock, condition: u8, milliseconds: u32) -> Status;
+    pub fn aqs_lock_timedwait(lock: *mut Lock, condition: u8, milliseconds: i64) -> Status;
     pub fn aqs_lock_signal(lock: *mut Lock, condition: u8) -> Status;
     pub fn aqs_lock_signal_all(lock: *mut Lock, condition: u8) -> Status;
     pub fn aqs_lock_object(lock: *mut Lock) -> *mut Object;
@@ -52,12 +53,12 @@ extern "C" {
     pub fn aqs_rwlock_close(lock: *mut RwLock);
     pub fn aqs_rwlock_rdlock(lock: *mut RwLock) -> Status;
     pub fn aqs_rwlock_rdlock_interruptibly(lock: *mut RwLock) -> Status;
-    pub fn aqs_rwlock_timedrdlock(lock: *mut RwLock, milliseconds: u32) -> Status;
+    pub fn aqs_rwlock_timedrdlock(lock: *mut RwLock, milliseconds: i64) -> Status;
     pub fn aqs_rwlock_tryrdlock(lock: *mut RwLock) -> Status;
     pub fn aqs_rwlock_rdunlock(lock: *mut RwLock) -> Status;
     pub fn aqs_rwlock_wrlock(lock: *mut RwLock) -> Status;
     pub fn aqs_rwlock_wrlock_interruptibly(lock: *mut RwLock) -> Status;
-    pub fn aqs_rwlock_timedwrlock(lock: *mut RwLock, milliseconds: u32) -> Status;
+    pub fn aqs_rwlock_timedwrlock(lock: *mut RwLock, milliseconds: i64) -> Status;
     pub fn aqs_rwlock_trywrlock(lock: *mut RwLock) -> Status;
     pub fn aqs_rwlock_wrunlock(lock: *mut RwLock) -> Status;
     pub fn aqs_rwlock_read_holds(lock: *mut RwLock) -> u32;
@@ -68,7 +69,7 @@ extern "C" {
     pub fn aqs_sem_close(semaphore: *mut Sem);
     pub fn aqs_sem_acquire(semaphore: *mut Sem, n: u32) -> Status;
     pub fn aqs_sem_acquire_interruptibly(semaphore: *mut Sem, n: u32) -> Status;
-    pub fn aqs_sem_timedacquire(semaphore: *mut Sem, n: u32, milliseconds: u32) -> Status;
+    pub fn aqs_sem_timedacquire(semaphore: *mut Sem, n: u32, milliseconds: i64) -> Status;
     pub fn aqs_sem_tryacquire(semaphore: *mut Sem, n: u32) -> Status;
     pub fn aqs_sem_release(semaphore: *mut Sem, n: u32) -> Status;
     pub fn aqs_sem_drain(semaphore: *mut Sem, n: *mut u32) -> Status;
@@ -80,7 +81,7 @@ extern "C" {
     pub fn aqs_latch_count_down(latch: *mut Latch) -> Status;
     pub fn aqs_latch_await(latch: *mut Latch) -> Status;
     pub fn aqs_latch_await_interruptibly(latch: *mut Latch) -> Status;
-    pub fn aqs_latch_timedawait(latch: *mut Latch, milliseconds: u32) -> Status;
+    pub fn aqs_latch_timedawait(latch: *mut Latch, milliseconds: i64) -> Status;
     pub fn aqs_latch_getcount(latch: *mut Latch, count: *mut u32) -> Status;
     pub fn aqs_latch_object(latch: *mut Latch) -> *mut Object;
 
@@ -89,6 +90,12 @@ extern "C" {
     pub fn aqs_object_waiters(object: *mut Object, count: *mut u32) -> Status;
 
     pub fn aqs_history_text(
+        object: *mut Object,
+        buffer: *mut c_char,
+        size: usize,
+        length: *mut usize,
+    ) -> Status;
+    pub fn aqs_history_names(
         object: *mut Object,
         buffer: *mut c_char,
         size: usize,

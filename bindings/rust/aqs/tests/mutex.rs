@@ -188,17 +188,14 @@ fn one_that_leaves_counts_no_entry_of_the_next_owner() {
 fn one_for_whom_there_is_no_seat_is_told() {
     let mutex = Mutex::with(0, Options::new().threads(1)).unwrap();
     let guard = mutex.lock();
-    let calls: [&(dyn Fn() + Sync); 4] = [
-        &|| drop(mutex.lock()),
-        &|| drop(mutex.enter()),
-        &|| drop(mutex.try_lock()),
-        &|| drop(mutex.try_lock_for(SHORT)),
-    ];
+    let calls: [&(dyn Fn() + Sync); 2] = [&|| drop(mutex.try_lock()), &|| drop(mutex.try_enter())];
     for call in calls {
         let said = thread::scope(|scope| scope.spawn(|| refusal(call)).join().unwrap());
         let why = "as many threads as the object was opened for hold it or wait for it";
         assert_eq!(said, format!("aqs: {why} (AQS_TOO_MANY_THREADS)"));
     }
+    // A call that may wait waits for a seat.
+    thread::scope(|scope| scope.spawn(|| assert!(mutex.try_lock_for(SHORT).is_none())).join().unwrap());
     // None of them has entered.
     assert!(refusal(|| drop(mutex.enter())).contains("has locked this mutex"));
     drop(guard);

@@ -81,6 +81,62 @@ fn conditions_hand_items_over() {
 }
 
 #[test]
+fn it_is_said_which_number_is_out_of_range() {
+    for (options, said) in [
+        (Options::new().threads(257), "threads must be 1 to 256, not 257"),
+        (Options::new().conditions(17), "conditions must be 1 to 16, not 17"),
+        (Options::new().most_entries(15), "history must be 16 to 4294967295, not 15"),
+    ] {
+        assert_eq!(Mutex::with(0, options).err(), Some(Error::OutOfRange));
+        assert_eq!(aqs::last_error(), said);
+    }
+    assert!(Mutex::with(0, Options::new().threads(0).most_entries(0)).is_ok());
+    assert_eq!(thread::spawn(aqs::last_error).join().unwrap(), "");
+}
+
+#[test]
+fn seats_have_the_names_of_their_threads() {
+    let mutex = Mutex::with(0, kept()).unwrap();
+    let guard = mutex.lock();
+    thread::scope(|scope| {
+        let waits = thread::Builder::new().name("waits-for-it".into());
+        waits.spawn_scoped(scope, || *mutex.lock() += 1).unwrap();
+        until(|| mutex.queue_length() == 1);
+        drop(guard);
+    });
+    let names = mutex.names().unwrap();
+    assert!(names.contains(" waits-for-it\n") && names.lines().count() == 2, "{names}");
+}
+
+#[test]
+fn a_bounded_buffer() {
+    const EACH: u64 = 20_000;
+    let (not_empty, not_full, buffer) = (Condvar::new(), Condvar::new(), Mutex::new(Vec::new()));
+    let sum: u64 = thread::scope(|scope| {
+        for _ in 0..3 {
+            scope.spawn(|| {
+                for item in 0..EACH {
+                    let mut items = buffer.lock();
+                    not_full.wait_while(&mut items, |items| items.len() == 8);
+                    items.push(item);
+                    not_empty.notify_one();
+                }
+            });
+        }
+        let take = || {
+            let mut items = buffer.lock();
+            not_empty.wait_while(&mut items, |items| items.is_empty());
+            not_full.notify_one();
+            items.pop().unwrap()
+        };
+        let takers: Vec<_> =
+            (0..3).map(|_| scope.spawn(move || (0..EACH).map(|_| take()).sum::<u64>())).collect();
+        takers.into_iter().map(|it| it.join().unwrap()).sum()
+    });
+    assert_eq!((sum, buffer.lock().len()), (3 * EACH * (EACH - 1) / 2, 0));
+}
+
+#[test]
 fn who_has_entered_enters_again() {
     let mutex = Mutex::new(5);
     let (one, two) = (mutex.enter(), mutex.enter());
@@ -456,7 +512,7 @@ fn a_history_begins_with_how_its_object_was_opened() {
         (Semaphore::with(-4, options).unwrap().history(), "semaphore strict seats 5 permits -4 cap 99"),
         (Latch::with(7, options).unwrap().history(), "latch seats 5 count 7 cap 99"),
         (Mutex::new(0).history(), "lock nonfair seats 256 conditions 16 cap 1024"),
-        (RwLock::new(0).history(), "rw nonfair seats 256 conditions 1 cap 1024"),
+        (RwLock::new(0).history(), "rw nonfair seats 256 conditions 16 cap 1024"),
     ];
     for (history, opened) in histories {
         assert_eq!(history.unwrap(), format!("aqs-history 1 {opened}\nend 0 0\n"));

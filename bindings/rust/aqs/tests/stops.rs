@@ -17,6 +17,8 @@ use support::until;
 
 /// A stopped thread may have a lock that others wait for. So it goes on after this time, whatever they do.
 const LONGEST_STOP: Duration = Duration::from_millis(60);
+/// A notify that may end beside a stopped thread has so much time for it.
+const PATIENCE: Duration = Duration::from_millis(300);
 /// A thread that nobody wakes waits for so long.
 const LOST: Duration = Duration::from_secs(20);
 
@@ -24,6 +26,8 @@ const LOST: Duration = Duration::from_secs(20);
 #[derive(Default)]
 struct Stop {
     at: usize,
+    /// How much longer than others it may last.
+    more: Duration,
     has_come: AtomicBool,
     may_go: AtomicBool,
     has_gone: AtomicBool,
@@ -70,7 +74,7 @@ extern "C" fn on_trap(_number: i32, _what: *const c_void, kept: *mut u64) {
     if INSTRUCTION.get() == stop.at {
         let begin = Instant::now();
         stop.has_come.store(true, SeqCst);
-        while !stop.may_go.load(SeqCst) && begin.elapsed() < LONGEST_STOP {
+        while !stop.may_go.load(SeqCst) && begin.elapsed() < LONGEST_STOP + stop.more {
             hint::spin_loop();
         }
         stop.has_gone.store(true, SeqCst);
@@ -154,6 +158,48 @@ fn an_owner_comes_and_goes_beside_a_notify() {
         assert!(took < LOST / 2, "stopped at {at}");
         if !stop.has_come() {
             assert!(at > 200);
+            return;
+        }
+    }
+}
+
+/// An owner that unlocks is stopped somewhere, and a notify comes meanwhile. Returns whether the notify ended before the
+/// stop.
+fn notified_while_it_unlocks(both: &Both, stop: &Stop) -> bool {
+    let never = Stop::default();
+    thread::scope(|scope| {
+        let waiter = both.waits(scope, &never);
+        until(|| both.sleep(1));
+        let owner = scope.spawn(|| {
+            let guard = both.mutex.lock();
+            stopped(stop, || drop(guard));
+        });
+        until(|| stop.has_come() || owner.is_finished());
+        let notifier = both.notifies(scope, &never);
+        let begin = Instant::now();
+        until(|| notifier.is_finished() || owner.is_finished() || begin.elapsed() > PATIENCE);
+        let is_first = notifier.is_finished() && !stop.is_over();
+        stop.ends();
+        assert_eq!(notifier.join().unwrap(), 1);
+        assert!(waiter.join().unwrap() < LOST / 2, "stopped at {}", stop.at);
+        is_first
+    })
+}
+
+/// An owner gives the mutex up for good while a notify is under way: it makes the signal, or the notify does.
+#[test]
+fn an_owner_unlocks_beside_a_notify() {
+    let both = Both::new();
+    let (mut first, mut later) = (0, 0);
+    for at in 1.. {
+        let stop = Stop { more: 10 * PATIENCE, ..Stop::at(at) };
+        match notified_while_it_unlocks(&both, &stop) {
+            true => (first, later) = (first + 1, 0),
+            false => later += 1,
+        }
+        // From where it has no owner, a notify waits for the unlock.
+        if later == 5 || !stop.has_come() {
+            assert!(first > 5 && later == 5, "{first} {later}");
             return;
         }
     }

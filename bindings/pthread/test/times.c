@@ -1,0 +1,304 @@
+/* How long threads wait and hold, and who waits for whom: times CASE. A case that hangs says so, and waits until it is
+   killed. Without a word the cases are listed. */
+#include "check.h"
+
+#include <errno.h>
+#include <pthread.h>
+#include <semaphore.h>
+#include <stdatomic.h>
+#include <stdlib.h>
+#include <string.h>
+#include <sys/prctl.h>
+
+static pthread_mutex_t first = PTHREAD_MUTEX_INITIALIZER;
+static pthread_mutex_t second = PTHREAD_MUTEX_INITIALIZER;
+static pthread_cond_t condition = PTHREAD_COND_INITIALIZER;
+static pthread_rwlock_t lock = PTHREAD_RWLOCK_INITIALIZER;
+static pthread_barrier_t both;
+
+static pthread_t started(void *(*run)(void *), void *with) {
+    pthread_t thread;
+    CHECK(pthread_create(&thread, NULL, run, with) == 0);
+    return thread;
+}
+
+static void join(pthread_t thread) { CHECK(pthread_join(thread, NULL) == 0); }
+
+static void say_that_it_hangs(void) {
+    printf("hangs\n");
+    fflush(stdout);
+}
+
+/* Known times -------------------------------------------------------------------------------------------- */
+
+enum { SHORT = 40000, LONG = 120000 };
+
+static void *wait_for_first(void *nothing) {
+    prctl(PR_SET_NAME, "the waiter");
+    pthread_barrier_wait(&both);
+    CHECK(pthread_mutex_lock(&first) == 0); /* a long wait */
+    usleep(SHORT);
+    CHECK(pthread_mutex_unlock(&first) == 0);
+    return nothing;
+}
+
+/* One hold of 120 ms, for which a thread waits that then holds for 40 ms. */
+static void a_wait_and_two_holds(void) {
+    CHECK(pthread_mutex_lock(&first) == 0); /* the first call */
+    pthread_t thread = started(wait_for_first, NULL);
+    pthread_barrier_wait(&both);
+    usleep(LONG);
+    CHECK(pthread_mutex_unlock(&first) == 0);
+    join(thread);
+}
+
+static void *read_for_long(void *nothing) {
+    CHECK(pthread_rwlock_rdlock(&lock) == 0);
+    usleep(SHORT);
+    CHECK(pthread_rwlock_rdlock(&lock) == 0 && pthread_rwlock_unlock(&lock) == 0);
+    CHECK(pthread_rwlock_rdlock(&lock) == 0);
+    pthread_barrier_wait(&both);
+    usleep(LONG);
+    CHECK(pthread_rwlock_unlock(&lock) == 0 && pthread_rwlock_unlock(&lock) == 0);
+    return nothing;
+}
+
+/* A reader with two holds at a time, and a writer that waits for both. */
+static void a_reader_and_a_writer(void) {
+    pthread_t thread = started(read_for_long, NULL);
+    pthread_barrier_wait(&both);
+    CHECK(pthread_rwlock_wrlock(&lock) == 0);
+    usleep(SHORT);
+    CHECK(pthread_rwlock_unlock(&lock) == 0);
+    join(thread);
+}
+
+/* A sleep on a condition is no hold, but there is one before it and one after it. */
+static void a_sleep_between_two_holds(void) {
+    struct timespec moment = after(CLOCK_REALTIME, LONG / 1000);
+    CHECK(pthread_mutex_lock(&first) == 0);
+    usleep(SHORT);
+    CHECK(pthread_cond_timedwait(&condition, &first, &moment) == ETIMEDOUT);
+    usleep(SHORT);
+    CHECK(pthread_mutex_unlock(&first) == 0);
+}
+
+static void *post_late(void *semaphore) {
+    usleep(LONG);
+    CHECK(sem_post(semaphore) == 0);
+    return NULL;
+}
+
+static void a_wait_for_a_permit(void) {
+    sem_t semaphore;
+    CHECK(sem_init(&semaphore, 0, 0) == 0);
+    pthread_t thread = started(post_late, &semaphore);
+    CHECK(sem_wait(&semaphore) == 0);
+    join(thread);
+    CHECK(sem_destroy(&semaphore) == 0);
+}
+
+static void *lock_twelve_times(void *nothing) {
+    for (int i = 0; i < 12; i++) {
+        pthread_barrier_wait(&both);
+        CHECK(pthread_mutex_lock(&first) == 0 && pthread_mutex_unlock(&first) == 0);
+        pthread_barrier_wait(&both);
+    }
+    return nothing;
+}
+
+/* Twelve waits: the sixth is the longest, and the first two are the shortest. */
+static void twelve_waits(void) {
+    pthread_t thread = started(lock_twelve_times, NULL);
+    for (int i = 0; i < 12; i++) {
+        CHECK(pthread_mutex_lock(&first) == 0);
+        pthread_barrier_wait(&both);
+        usleep(i < 2 ? 10000 : i == 5 ? LONG : 30000);
+        CHECK(pthread_mutex_unlock(&first) == 0);
+        pthread_barrier_wait(&both);
+    }
+    join(thread);
+}
+
+static void a_call_that_is_put_in_line(void) {
+    lock_in_line(&first); /* from here */
+    CHECK(pthread_mutex_unlock(&first) == 0);
+}
+
+/* The first is waited for, the second is held long, and the third is called often. */
+static void three_mutexes(void) {
+    static pthread_mutex_t third = PTHREAD_MUTEX_INITIALIZER;
+    for (int i = 0; i < 100; i++) CHECK(pthread_mutex_lock(&third) == 0 && pthread_mutex_unlock(&third) == 0);
+    CHECK(pthread_mutex_lock(&second) == 0);
+    a_wait_and_two_holds();
+    usleep(LONG);
+    CHECK(pthread_mutex_unlock(&second) == 0);
+}
+
+/* Circles ------------------------------------------------------------------------------------------------ */
+
+static void *lock_second_first(void *nothing) {
+    prctl(PR_SET_NAME, "second first");
+    CHECK(pthread_mutex_lock(&second) == 0); /* the first call of the second */
+    pthread_barrier_wait(&both);
+    CHECK(pthread_mutex_lock(&first) == 0); /* waits for the first */
+    return nothing;
+}
+
+static void two_mutexes_in_opposite_orders(void) {
+    CHECK(pthread_mutex_lock(&first) == 0); /* the first call of the first */
+    started(lock_second_first, NULL);
+    pthread_barrier_wait(&both);
+    say_that_it_hangs();
+    CHECK(pthread_mutex_lock(&second) == 0); /* waits for the second */
+}
+
+static void a_mutex_that_its_owner_locks(void) {
+    CHECK(pthread_mutex_lock(&first) == 0);
+    say_that_it_hangs();
+    CHECK(pthread_mutex_lock(&first) == 0);
+}
+
+static void a_reader_that_wants_to_write(void) {
+    CHECK(pthread_rwlock_rdlock(&lock) == 0);
+    say_that_it_hangs();
+    CHECK(pthread_rwlock_wrlock(&lock) == 0);
+}
+
+static void *read_and_lock(void *nothing) {
+    CHECK(pthread_rwlock_rdlock(&lock) == 0);
+    pthread_barrier_wait(&both);
+    CHECK(pthread_mutex_lock(&first) == 0);
+    return nothing;
+}
+
+static void *only_read(void *nothing) {
+    CHECK(pthread_rwlock_rdlock(&lock) == 0);
+    pthread_barrier_wait(&both);
+    for (;;) pause();
+    return nothing;
+}
+
+/* Two read. One of them waits for the mutex of a thread that waits to write. */
+static void a_circle_by_one_of_two_readers(void) {
+    CHECK(pthread_mutex_lock(&first) == 0);
+    started(only_read, NULL);
+    pthread_barrier_wait(&both);
+    started(read_and_lock, NULL);
+    pthread_barrier_wait(&both);
+    say_that_it_hangs();
+    CHECK(pthread_rwlock_wrlock(&lock) == 0);
+}
+
+static void *lock_second_and_first_for_a_time(void *nothing) {
+    struct timespec moment = after(CLOCK_REALTIME, 60000);
+    CHECK(pthread_mutex_lock(&second) == 0);
+    pthread_barrier_wait(&both);
+    pthread_mutex_timedlock(&first, &moment);
+    return nothing;
+}
+
+/* One of the two will give up. */
+static void no_circle_since_one_gives_up(void) {
+    CHECK(pthread_mutex_lock(&first) == 0);
+    started(lock_second_and_first_for_a_time, NULL);
+    pthread_barrier_wait(&both);
+    say_that_it_hangs();
+    CHECK(pthread_mutex_lock(&second) == 0);
+}
+
+static void *hold_first(void *nothing) {
+    CHECK(pthread_mutex_lock(&first) == 0);
+    pthread_barrier_wait(&both);
+    for (;;) pause();
+    return nothing;
+}
+
+/* The thread that holds the mutex isn't in the child. */
+static void a_child_without_the_owner(void) {
+    started(hold_first, NULL);
+    pthread_barrier_wait(&both);
+    if (fork() != 0)
+        for (;;) pause();
+    say_that_it_hangs();
+    CHECK(pthread_mutex_lock(&first) == 0);
+}
+
+static void *end_as_owner(void *nothing) {
+    prctl(PR_SET_NAME, "it ended");
+    CHECK(pthread_mutex_lock(&first) == 0);
+    return nothing;
+}
+
+static void an_owner_that_has_ended(void) {
+    join(started(end_as_owner, NULL));
+    say_that_it_hangs();
+    CHECK(pthread_mutex_lock(&first) == 0);
+}
+
+static void *rest(void *nothing) {
+    for (;;) pause();
+    return nothing;
+}
+
+static void one_thread_that_rests(void) {
+    CHECK(pthread_mutex_lock(&first) == 0 && pthread_mutex_unlock(&first) == 0);
+    say_that_it_hangs();
+    for (;;) pause();
+}
+
+static void two_threads_that_rest(void) {
+    started(rest, NULL);
+    one_thread_that_rests();
+}
+
+/* It ends by SIGTERM, in the midst of its calls. */
+static void calls_without_end(void) {
+    say_that_it_hangs();
+    for (;;) CHECK(pthread_mutex_lock(&first) == 0 && pthread_mutex_unlock(&first) == 0);
+}
+
+static void *use_second(void *nothing) {
+    for (;;) CHECK(pthread_mutex_lock(&second) == 0 && pthread_mutex_unlock(&second) == 0);
+    return nothing;
+}
+
+static void calls_of_two_threads_without_end(void) {
+    started(use_second, NULL);
+    calls_without_end();
+}
+
+#define CASE(name) {#name, name}
+static const struct {
+    const char *name;
+    void (*run)(void);
+} cases[] = {
+    CASE(a_wait_and_two_holds),
+    CASE(a_reader_and_a_writer),
+    CASE(a_sleep_between_two_holds),
+    CASE(a_wait_for_a_permit),
+    CASE(twelve_waits),
+    CASE(two_mutexes_in_opposite_orders),
+    CASE(a_mutex_that_its_owner_locks),
+    CASE(a_reader_that_wants_to_write),
+    CASE(a_circle_by_one_of_two_readers),
+    CASE(no_circle_since_one_gives_up),
+    CASE(a_child_without_the_owner),
+    CASE(an_owner_that_has_ended),
+    CASE(three_mutexes),
+    CASE(a_call_that_is_put_in_line),
+    CASE(one_thread_that_rests),
+    CASE(two_threads_that_rest),
+    CASE(calls_without_end),
+    CASE(calls_of_two_threads_without_end),
+};
+
+int main(int argc, char **argv) {
+    alarm(60);
+    CHECK(pthread_barrier_init(&both, NULL, 2) == 0);
+    for (size_t i = 0; i < sizeof cases / sizeof *cases; i++) {
+        if (argc == 1) printf("%s\n", cases[i].name);
+        else if (strcmp(argv[1], cases[i].name) == 0) cases[i].run();
+    }
+    return 0;
+}
