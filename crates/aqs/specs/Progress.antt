@@ -14,8 +14,8 @@ abbrev pub line_text : Option ℕ → ℕ → List ℕ
 line_text size read =
     codes "aqs: " ++ (decimal (read / 1000000) ++ (of_all size read ++ codes " MB read"))
 
--- The writer, and whether it has failed. A piece is written, or its first bytes if that fails. After a failure
--- nothing is written.
+-- The writer, and whether it has failed. A piece is written, or its first bytes if that fails. After a
+-- failure nothing is written.
 pub record Puts {E : Type 0} (held : E → Option (List ℕ)) (old : E × Bool) (piece : List ℕ) (new : E × Bool) :
     Type 0 where
   pub stopped : IsTrue old.1 → new ≡ old
@@ -28,8 +28,8 @@ PutsAll held old [] new = new ≡ old
 PutsAll {E} held old (piece ∷ pieces) new =
     (between : E × Bool) × Puts held old piece between × PutsAll held between pieces new
 
--- What wipes a line that is so long: the cursor goes back, spaces are written over it, at most 60, and the cursor
--- goes back again.
+-- What wipes a line that is so long: the cursor goes back, spaces are written over it, at most 60, and the
+-- cursor goes back again.
 abbrev pub wiping : ℕ → List (List ℕ)
 wiping n = (13 ∷ []) ∷ take (min n 60) (replicate 60 32) ∷ (13 ∷ []) ∷ []
 
@@ -58,8 +58,8 @@ MayShow held old new = (new ≡ old) ⊎ (IsTrue old.is_shown × Shows held old 
 abbrev pub more : ℕ → ℕ → ℕ
 more read count = min (read + count) (2 ^ 64 - 1)
 
--- The bytes are counted. Once more bytes were read than may be read without a line, it is written, and so many more
--- may be read.
+-- The bytes are counted. Once more bytes were read than may be read without a line, it is written, and so
+-- many more may be read.
 pub record Notes {E : Type 0} (held : E → Option (List ℕ)) (old : Progress E) (count : ℕ) (new : Progress E) :
     Type 0 where
   pub early : more old.read count ≤ old.next → new ≡ record old { read = more old.read count }

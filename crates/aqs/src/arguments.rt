@@ -1,17 +1,18 @@
 //! The command line.
 
+use crate::job::Job;
+use crate::page::Page;
 use clap::error::ErrorKind;
 use clap::{Arg, ArgAction, ArgMatches, Command, Error};
 use driver::choice::Choice;
 use driver::form::Form;
 use driver::notation::Notation;
 use history::number::number_of;
-use manual::page::Page;
 use script::limits::MOST_MILLISECONDS;
 use std::alloc::{AllocError, Global};
 use std::convert::AsStr;
 use tasks::fault::{Fault, RunOption};
-use tasks::task::{Job, Task};
+use tasks::task::Task;
 use workers::Keep;
 
 /// What a command line asks for.

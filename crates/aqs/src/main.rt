@@ -6,17 +6,17 @@
 //! writes its audit text. The exit status is 1 if the history isn't legal. `aqs draw [FILE]` writes a picture
 //! of a history as an SVG document, with the same status; with `--page` it writes a page of HTML that steps
 //! through the entries. `--names` names the file with names of seats and conditions, and `--from` and `--to`
-//! choose entries. `aqs explain [FILE]` explains the first entry that
-//! isn't legal, or the one of `--at`, with the same status. Of any other text it says where it is wrong, of a
-//! file that can't be read why, with status 1. `aqs summary [FILE]` sums a history up, seat by seat, with the
-//! status of its verdict. `aqs run [FILE]` reads a script and runs its threads. It writes the history of
-//! each of its objects, with the audit's lines on it; with `--object` the history of one object alone. `--dir`
-//! leaves the histories in a folder too, and `--unrecorded` lists the answers that no history records. With
-//! `--timeout` it says how the threads stand if they have not ended in time, with status 1. `aqs manual` and
-//! `aqs about` write pages. Without any words the program replays. With `--json` an audit, an explanation or a
-//! summary is one JSON object. With `-o FILE` what a command writes goes to a file. A fault is printed on standard
-//! error, in one line. Nothing has been written then, unless writing itself failed. While a long text is read, and
-//! standard error is a terminal, a line there says how much was read.
+//! choose entries. `aqs explain [FILE]` explains the first entry that isn't legal, or the one of `--at`, with
+//! the same status. Of any other text it says where it is wrong, of a file that can't be read why, with
+//! status 1. `aqs summary [FILE]` sums a history up, seat by seat, with the status of its verdict. `aqs run
+//! [FILE]` reads a script and runs its threads. It writes the history of each of its objects, with the
+//! audit's lines on it; with `--object` the history of one object alone. `--dir` leaves the histories in a
+//! folder too, and `--unrecorded` lists the answers that no history records. With `--timeout` it says how the
+//! threads stand if they have not ended in time, with status 1. `aqs manual` and `aqs about` write pages.
+//! Without any words the program replays. With `--json` an audit, an explanation or a summary is one JSON
+//! object. With `-o FILE` what a command writes goes to a file. A fault is printed on standard error, in one
+//! line. Nothing has been written then, unless writing itself failed. While a long text is read, and standard
+//! error is a terminal, a line there says how much was read.
 #![tactic(auto)]
 
 ghost use Rattle.std.specs.Prelude.{◌≡◌, ◌↔◌, Ok, false, IfErr, IfOk, IfSome, IsErrOf, IsTrue};
@@ -29,16 +29,20 @@ ghost use Rattle.tasks.specs.declared.fault.Fault.TheVariants.{Stream};
 mod arguments;
 mod folder;
 mod input;
+mod job;
 mod output;
+mod page;
 mod progress;
+mod texts;
 
 use crate::arguments::{Asked, RunOptions, arguments};
 use crate::folder::Left;
 use crate::input::{Input, Origin};
+use crate::job::Job;
 use crate::output::{Output, close, open};
+use crate::page::page_text;
 use crate::progress::Progress;
-use driver::notation::Notation;
-use naming::Names;
+use picture::naming::Names;
 use run_text::write_history;
 use script::Script;
 use std::alloc::Global;
@@ -57,18 +61,19 @@ use streams::source::Source;
 use streams::stream_fault::StreamFault;
 use streams::until_end::UntilEnd;
 use streams::watched::Watched;
-use tasks::as_json::{explain_as_json, tell_unread_as_json};
 use tasks::ending::status_of_end;
-use tasks::explain::{explain, tell_unread};
+use tasks::explain::{explain, tell_unread, write_told};
 use tasks::fault::{Fault, RunOption};
 use tasks::names::names_of;
 use tasks::perform::perform_with;
 use tasks::ran::Ran;
 use tasks::run_script::{run_script, script_of};
-use tasks::task::Job;
-use tasks::tell::tell;
 use tasks::timed::{Timed, run_within, tell_late};
 use workers::Keep;
+
+/// What is said on a terminal if only the program's name was given.
+const KEYBOARD: &[u8] =
+    b"aqs: reads a steps text from the keyboard; aqs manual says what else it does\n";
 
 /// Returns the names of the file that has them, or none.
 fn names_in<R: Files + AllocGlobal>(rt: &R, file: Option<&str>) -> Result<Names, Fault> {
@@ -98,10 +103,9 @@ fn work<R: AllocGlobal + Threads + Wait + Clock + Sync, S: Source, W: Sink>(
 {
     match job {
         Job::Answer(task) => perform_with(rt.alloc(), names, reader, writer, task),
-        Job::Explain(at, Notation::Lines) => explain(rt.alloc(), reader, writer, at),
-        Job::Explain(at, Notation::Json) => explain_as_json(rt.alloc(), reader, writer, at),
+        Job::Explain(at, notation) => explain(rt.alloc(), reader, writer, at, notation),
         Job::Run => run_script(rt, reader, writer),
-        Job::Tell(page) => tell(writer, page),
+        Job::Tell(page) => write_told(writer, page_text(page), 0),
     }
 }
 
@@ -144,10 +148,7 @@ fn unread<R: AllocGlobal, W: Sink>(
     };
     let reason = format!(in rt.alloc(); "{reason}")?;
     let name = file.unwrap_or("standard input");
-    match notation {
-        Notation::Lines => tell_unread(rt.alloc(), writer, name, &reason),
-        Notation::Json => tell_unread_as_json(rt.alloc(), writer, name, &reason),
-    }
+    tell_unread(rt.alloc(), writer, name, &reason, notation)
 }
 
 /// Returns the place of the object that is asked for.
@@ -271,15 +272,25 @@ fn answer<
     }
 }
 
+/// Says on a terminal that a steps text is read from the keyboard.
+fn tell_of_keyboard<I: IsTerminal, E: IsTerminal + Write>(given: &I, error: &mut E) {
+    if given.is_terminal() && error.is_terminal() {
+        let _ = error.write_all(KEYBOARD);
+    }
+}
+
 /// Does what the words ask for.
 fn run<
     R: Files + AllocGlobal + Threads + Wait + Clock + Sync + Send + Copy + 'static,
     S: AsStr,
-    I: Read + Drop,
+    I: IsTerminal + Read + Drop,
     O: Write + Drop,
     E: IsTerminal + Write + Drop,
->(rt: &R, words: &[S], given: I, output: O, error: E) -> Result<u8, Fault> {
+>(rt: &R, words: &[S], given: I, output: O, mut error: E) -> Result<u8, Fault> {
     let asked = arguments(rt.alloc(), words)?;
+    if words.len() < 2 {
+        tell_of_keyboard(&given, &mut error);
+    }
     let named = asked.output.as_ref().map(|name| name.as_str());
     let mut output: Output<O, R::File> = open(rt, output, named)?;
     let mut left = Left::new(rt.alloc());

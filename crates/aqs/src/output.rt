@@ -12,8 +12,8 @@ const UNWRITTEN: Fault = Fault::Stream(StreamFault::WriteFailed);
 /// How many names are tried for a file beside another one.
 const PARTS: u32 = 100;
 
-/// A file that is written anew. What is written goes to a file beside it, which takes its place when it is kept.
-/// Until then the file is as it was.
+/// A file that is written anew. What is written goes to a file beside it, which takes its place when it is
+/// kept. Until then the file is as it was.
 #[derive(Drop)]
 pub struct Draft<F> {
     written: F,

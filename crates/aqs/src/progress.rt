@@ -11,7 +11,8 @@ use streams::sink::Sink;
 use streams::watched::Watch;
 use streams::writing::write_all;
 
-/// The line is written when more bytes than this were read, and again each time that this many more were read.
+/// The line is written when more bytes than this were read, and again each time that this many more were
+/// read.
 const STEP: u64 = 50_000_000;
 
 /// The unit of the line.
@@ -20,8 +21,8 @@ const MEGABYTE: u64 = 1_000_000;
 /// What wipes a line, or as much of it as the line is long.
 const SPACES: [u8; 60] = [b' '; 60];
 
-/// How much of a text was read, and the line that says so on standard error. It is written over itself, and wiped at
-/// the end. If standard error is no terminal, nothing is written.
+/// How much of a text was read, and the line that says so on standard error. It is written over itself, and
+/// wiped at the end. If standard error is no terminal, nothing is written.
 #[derive(Drop)]
 pub struct Progress<E> {
     alloc: Global,
@@ -62,7 +63,8 @@ fn line_text(alloc: Global, size: Option<u64>, read: u64) -> Result<Vec<u8>, All
     Ok(line)
 }
 
-/// Writes a piece. Nothing depends on it, so it is left out if it can't be written, and all that comes after it.
+/// Writes a piece. Nothing depends on it, so it is left out if it can't be written, and all that comes after
+/// it.
 fn put<E: Write>(error: &mut Device<E>, piece: &[u8])
     ensures { Puts E.contents error.old piece.now error.new }
 {

@@ -189,7 +189,8 @@ pub extern "C" fn aqs_trim_now(alloc: Global, pass: &mut AqsPass, count: &mut u6
 /// `permits` is as it was.
 #[unsafe(no_mangle)]
 pub extern "C" fn aqs_available_now(alloc: Global, pass: &mut AqsPass, permits: &mut i64) -> u8
-    ensures { IsPassNumber permits_seen pass.old.held.value result permits.old pass.new.held.value permits.new }
+    ensures { IsPassNumber permits_seen pass.old.held.value result permits.old pass.new.held.value
+        permits.new }
 {
     match pass.take(alloc) {
         None => NO_PASS,

@@ -1,9 +1,10 @@
 //! Judging the entries of a history one after another.
 
-ghost use Rattle.std.specs.Prelude.{◌≡◌, ◌<◌, ◌∷◌, [], List, IfOk, IsOkUnless};
+ghost use Rattle.std.specs.Prelude.{◌≡◌, ◌<◌, ◌∷◌, ◌↔◌, [], List, IfOk, IsOkUnless, IsTrue};
 ghost use Rattle.history.specs.Base.{based};
 ghost use Rattle.history.specs.GoodBase.{IsGood};
 ghost use Rattle.history.specs.Header.{IsInRange};
+ghost use Rattle.history.specs.Legal.{IsLegal};
 ghost use Rattle.history.specs.Start.{Start, opening};
 ghost use Rattle.history.specs.declared.entry.Entry.{Entry};
 ghost use Rattle.audit.specs.Auditor.{CanFollow, HasJudged, IsAuditor};
@@ -96,6 +97,17 @@ impl Auditor {
             }
         }
         self.count += 1;
+    }
+
+    /// Returns whether all entries so far are legal.
+    #[inline(always)]
+    pub fn is_legal(&self) -> bool
+        ensures { (s : Start) (h : List Entry) → HasJudged s h self.now → IsTrue result ↔ IsLegal s h }
+    {
+        match self.wrong {
+            None => true,
+            Some(_) => false,
+        }
     }
 
     /// Returns the judgement on the entries so far.

@@ -7,7 +7,8 @@ ghost use Rattle.condition_queue.specs.Following.{IsMovable, line_behind, sleepe
 
 use crate::waiters::Waiters;
 use acquire_queue::queue::Queue;
-use deciding::arrivals::{coming_back, queued};
+use deciding::arrivals::queued;
+use history::arrival::coming_back;
 use history::entry::{Entry, Word};
 
 /// Updates the wait queue and the conditions' lists for one entry. It allocates nothing.

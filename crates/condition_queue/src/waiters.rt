@@ -10,7 +10,7 @@ ghost use Rattle.condition_queue.specs.Sleepers.{asleep_on, sleeper_of, sleeps_o
 
 use crate::sleeper::Sleeper;
 use acquire_queue::queue::Queue;
-use deciding::arrivals::coming_back;
+use history::arrival::coming_back;
 use history::fault::Fault;
 use node_arena::linked_lists::LinkedLists;
 use std::alloc::Global;

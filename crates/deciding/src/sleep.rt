@@ -9,6 +9,6 @@ pub struct LastSleep {
     pub condition: u8,
     /// The exclusive holds that it has again when it comes back.
     pub holds: u32,
-    /// How the sleep ended; `None` until it ended.
+    /// How the wait ended: `Signalled` from its beginning, until it lapses. `None` if it never slept.
     pub how: End,
 }

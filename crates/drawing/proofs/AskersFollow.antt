@@ -7,7 +7,7 @@ use Rattle.drawing.specs.Below.{Arrival, LinePlace, Entry, Header, Base, based, 
 use Rattle.history.proofs.LineLemmas.{line_at_first}
 use Rattle.drawing.specs.Askers.{askers}
 use Rattle.drawing.specs.Prelude.{barges, passes, one_if}
-use Rattle.drawing.specs.inner.Askers.{asks_or, marked, others}
+use Rattle.drawing.specs.inner.Askers.{asking_in, asks_or, others}
 
 -- what a mark counts
 pub as_number : (b : Bool) → bool_byte b ≡ one_if b
@@ -36,9 +36,9 @@ pub nobody_asks : (k : Header) (n : ℕ) → askers (opening k) [] n ≡ 0
 nobody_asks k zero = refl
 nobody_asks k (suc i) = ap (λ n. more n false) (nobody_asks k i)
 
-pub marked_few : (table : List Bool) (n : ℕ) → marked table n ≤ n
-marked_few table zero = omega arith
-marked_few table (suc i) = grind (arith, marked_few table i)
+pub asking_few : (table : List Bool) (n : ℕ) → asking_in table n ≤ n
+asking_few table zero = omega arith
+asking_few table (suc i) = grind (arith, asking_few table i)
 
 pub askers_few : (s : Start) (h : List Entry) (n : ℕ) → askers s h n ≤ n
 askers_few s h zero = omega arith
@@ -46,10 +46,10 @@ askers_few s h (suc i) = grind (arith, askers_few s h i)
 
 -- a table that says of each seat whether it waits counts those that do
 pub all_marked : (s : Start) (h : List Entry) (table : List Bool) (n : ℕ) →
-    ((i : ℕ) → i < n → get_or table i false ≡ is_some (begun s h i)) → marked table n ≡ askers s h n
+    ((i : ℕ) → i < n → get_or table i false ≡ is_some (begun s h i)) → asking_in table n ≡ askers s h n
 all_marked s h table zero is = refl
 all_marked s h table (suc i) is =
-    ap (λ b. more (marked table i) b) (is i (omega arith))
+    ap (λ b. more (asking_in table i) b) (is i (omega arith))
     ∙ ap (λ n. more n (is_some (begun s h i))) (all_marked s h table i (λ j lt. is j (omega (arith, lt))))
 
 -- one seat is not among those below it

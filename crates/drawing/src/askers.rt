@@ -9,12 +9,12 @@ ghost use Rattle.history.specs.Start.{Start, opening};
 ghost use Rattle.history.specs.declared.entry.Entry.{Entry};
 ghost use Rattle.history.specs.declared.header.Header.{Header};
 ghost use Rattle.drawing.specs.Askers.{AreAsking};
-ghost use Rattle.drawing.specs.inner.Askers.{asks_or, marked, others};
-ghost use Rattle.summing.specs.Counting.{is_queued};
+ghost use Rattle.drawing.specs.inner.Askers.{asking_in, asks_or, others};
 
 use history::base::{Base, LinePlace};
-use history::entry::{Entry, Word};
+use history::entry::Entry;
 use std::alloc::{AllocError, Global};
+use summing::words::is_queued;
 
 /// Which seats wait in the queue for a first acquire, and how many. One that comes back from a condition doesn't.
 #[derive(Drop)]
@@ -39,8 +39,8 @@ impl Askers {
         ensures { IfOk result (AreAsking (based base.now) []) }
     {
         let mut asking = vec![in alloc; false; base.header.seats as usize]?;
-        mark_asking(&mut asking, &base.line);
-        let count = marked(&asking);
+        note_asking(&mut asking, &base.line);
+        let count = asking_in(&asking);
         Ok(Askers { asking, count })
     }
 
@@ -67,20 +67,10 @@ impl Askers {
     }
 }
 
-/// Returns whether an acquire began to wait in the queue.
-fn is_queued(word: Word) -> bool
-    ensures { result ≡ is_queued word }
-{
-    match word {
-        Word::Queued => true,
-        _ => false,
-    }
-}
-
-/// Marks those of a queue that wait for a first acquire, and no other of the queue.
-fn mark_asking(asking: &mut Vec<bool>, line: &[LinePlace])
+/// Notes those of a queue that wait for a first acquire, and no other of the queue.
+fn note_asking(asking: &mut Vec<bool>, line: &[LinePlace])
     requires { AllByRecursion (λ p. p.who.seat < length asking.old.items) line.now }
-    ensures marked { (i : ℕ) → slice_index_or asking.new.items i false
+    ensures asking { (i : ℕ) → slice_index_or asking.new.items i false
         ≡ asks_or (slice_index_or asking.old.items i false) (place_of i (map (λ p. p.who) line.now)) }
     ensures seats { length asking.new.items ≡ length asking.old.items }
 {
@@ -90,9 +80,9 @@ fn mark_asking(asking: &mut Vec<bool>, line: &[LinePlace])
     }
 }
 
-/// Returns how many places of a table are marked.
-fn marked(table: &[bool]) -> u64
-    ensures { result ≡ marked table.now (length table.now) }
+/// Returns how many seats of a table wait.
+fn asking_in(table: &[bool]) -> u64
+    ensures { result ≡ asking_in table.now (length table.now) }
 {
     let mut count = 0;
     for place in 0..table.len() {

@@ -6,14 +6,14 @@ ghost use Rattle.history.specs.declared.entry.Entry.{Entry};
 ghost use Rattle.drawing.specs.Askers.{AreAsking};
 ghost use Rattle.drawing.specs.Barging.{barges};
 ghost use Rattle.drawing.specs.Standings.{AreStanding};
-ghost use Rattle.summing.specs.Counting.{is_take};
 ghost use Rattle.summing.specs.Passing.{takes_again, takes_anew};
 
 use crate::askers::Askers;
 use crate::standings::Standings;
 use deciding::checks::is_lock;
-use history::entry::{Entry, Mode, Word};
+use history::entry::{Entry, Mode};
 use history::header::Object;
+use summing::words::is_take;
 
 /// Returns whether an entry acquires at once while another seat waits in the queue for a first acquire. The state is
 /// the one before the entry. A lock that is acquired again passes nobody.
@@ -43,14 +43,4 @@ fn takes_again(standings: &Standings, object: Object, entry: Entry) -> bool
 {
     is_lock(object)
         && (standings.held(entry.seat, Mode::X) > 0 || standings.held(entry.seat, entry.mode) > 0)
-}
-
-/// Returns whether an acquire took at once.
-fn is_take(word: Word) -> bool
-    ensures { result ≡ is_take word }
-{
-    match word {
-        Word::Got | Word::TryGot => true,
-        _ => false,
-    }
 }

@@ -1,47 +1,52 @@
--- What is written for a history that was judged.
-use Rattle.std.proofs.Common.{◌≡◌, ℕ, List, Option, None, Some, Result, IfSome, reverse, subst, sym, IfErr, IsErrOf}
-use Rattle.driver.specs.Below.{Entry, Base, based, IsHistoryText, history_form, Judgement, Verdict, IsJudgement, verdict_of, StreamFault, WriteFailed}
-use Rattle.driver.specs.Prelude.{IsFaultOf, IsToldOf}
+-- What is told of a history that was judged.
+use Rattle.std.proofs.Common.{◌≡◌, ℕ, List, Option, None, Some, Result, IfSome, subst, sym, IfErr, IsErrOf, refl}
+use Rattle.driver.specs.Below.{Entry, history_form, Verdict, verdict_of, StreamFault, WriteFailed}
+use Rattle.driver.specs.declared.judged.Judged.{Judged}
+use Rattle.driver.specs.declared.telling.Telling.{Telling}
+use Rattle.driver.specs.Prelude.{IsFaultOf, IsToldOf, Tells}
+use Rattle.driver.specs.inner.Judged.{IsJudged, IsJudgedOf}
 use Rattle.driver.proofs.Judging.{verdict_is}
 
--- this is the text for its verdict
-pub is_verdict_text : (text_for : Base → List Entry → Verdict → List ℕ) (left : Option (List ℕ)) (b : Base)
-    (entries : List Entry) (j : Judgement) (verdict : Verdict) (text : List ℕ) →
-    IfSome left (λ t. IsHistoryText t b (reverse entries)) → IsJudgement (based b) entries j →
-    verdict ≡ verdict_of j → text ≡ text_for b entries (verdict_of j) →
-    IfSome left (λ t. IsToldOf text_for t verdict (λ written. text ≡ written))
-is_verdict_text text_for None b entries j verdict text is judged same written = tt
-is_verdict_text text_for (Some t) b entries j verdict text is judged same written =
-    subst (λ (v : Verdict). IsToldOf text_for t v (λ all. text ≡ all)) (sym same)
+-- this is told for its verdict
+pub is_told : (telling : Telling) (left : Option (List ℕ)) (j : Judged) (verdict : Verdict) (text : List ℕ) →
+    IsJudgedOf telling left j → verdict ≡ verdict_of j.judgement →
+    ((h : List Entry) → IsJudged telling h j → Tells telling j.base h (verdict_of j.judgement) text) →
+    IfSome left (λ t. IsToldOf telling t verdict (λ told. text ≡ told))
+is_told telling None j verdict text is same tells = tt
+is_told telling (Some t) j verdict text is same tells =
+    subst (λ (v : Verdict). IsToldOf telling t v (λ told. text ≡ told)) (sym same)
     (record {
-      base = b;
-      entries = entries;
-      is = is;
-      judged = verdict_is b entries j judged;
-      written = written;
+      base = j.base;
+      entries = is.history;
+      told = text;
+      is = is.is;
+      judged = verdict_is j.base is.history j.judgement is.judged.judged;
+      tells = tells is.history is.judged;
+      written = refl;
     })
 
 -- what is written, said in another way
-pub rewritten : (text_for : Base → List Entry → Verdict → List ℕ) (left : Option (List ℕ)) (verdict : Verdict)
+pub rewritten : (telling : Telling) (left : Option (List ℕ)) (verdict : Verdict)
     (all : List ℕ) (Written : List ℕ → Type 0) →
-    IfSome left (λ text. IsToldOf text_for text verdict (λ written. all ≡ written)) → Written all →
-    IfSome left (λ text. IsToldOf text_for text verdict Written)
-rewritten text_for None verdict all Written a w = tt
-rewritten text_for (Some text) verdict all Written a w =
+    IfSome left (λ text. IsToldOf telling text verdict (λ told. all ≡ told)) → Written all →
+    IfSome left (λ text. IsToldOf telling text verdict Written)
+rewritten telling None verdict all Written a w = tt
+rewritten telling (Some text) verdict all Written a w =
     record {
       base = a.base;
       entries = a.entries;
+      told = a.told;
       is = a.is;
       judged = a.judged;
+      tells = a.tells;
       written = subst Written a.written w;
     }
 
-pub some_verdict : (text_for : Base → List Entry → Verdict → List ℕ) (left : Option (List ℕ))
-    (verdict : Verdict) (Written : List ℕ → Type 0) →
-    IfSome left (λ text. IsToldOf text_for text verdict Written) →
-    IfSome left (λ text. (v : Verdict) × IsToldOf text_for text v Written)
-some_verdict text_for None verdict Written a = tt
-some_verdict text_for (Some text) verdict Written a = (verdict, a)
+pub some_verdict : (telling : Telling) (left : Option (List ℕ)) (verdict : Verdict) (Written : List ℕ → Type 0) →
+    IfSome left (λ text. IsToldOf telling text verdict Written) →
+    IfSome left (λ text. (v : Verdict) × IsToldOf telling text v Written)
+some_verdict telling None verdict Written a = tt
+some_verdict telling (Some text) verdict Written a = (verdict, a)
 
 -- no fault of a text or of its source is one of writing
 pub not_of_writing : {T : Type 0} (text left : Option (List ℕ)) (r : Result T StreamFault) →

@@ -3,8 +3,8 @@ use Rattle.std.proofs.Common.{◌≡◌, ℕ, ◌-◌, ◌≤◌, true, List, []
 use Rattle.std.specs.Io.KnownBytes.{Keeps, IsAtEnd, prepend_known}
 use Rattle.driver.specs.Below.{Header, Base, or_opening, MOST_FOLDED, IsBaseOf, Start, ended, TextFault, CutShort, Begins, MOST_LINES, BaseLine, Head, Place, base_line, base_lines, head_of, history_form, AreEntriesRead, HasShortLine, IsBaseLineNext, IsBaseLineTaken, LacksBaseLine, LinesRead, Based, Line, GoodBeginsSo, IsToldBase, StreamFault, Text, Memory, IsOfReading, IsTooLong, StaysAhead}
 use Rattle.history.proofs.OpeningBase.{based_opening}
-use Rattle.line_text.proofs.OneReading.{lacks, same_lines}
-use Rattle.line_text.proofs.UnderWay.{last_bytes}
+use Rattle.streams.proofs.OneReading.{lacks, same_lines}
+use Rattle.streams.proofs.UnderWay.{last_bytes}
 use Rattle.history_text.proofs.BaseTextRead.{line_begins, place_behind, whole_begins}
 use Rattle.history_text.proofs.HeadWritten.{sum_calls}
 use Rattle.history_text.proofs.HistoryLawful.{lawful}

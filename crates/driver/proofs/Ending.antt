@@ -1,9 +1,9 @@
 -- What a stream leaves that doesn't answer its text.
-use Rattle.std.proofs.Common.{◌≡◌, ◌⊎◌, ℕ, List, [], Option, Result, Err, IfSome, OnOk, arith}
+use Rattle.std.proofs.Common.{◌≡◌, ◌⊎◌, ◌↔◌, ℕ, Bool, false, List, [], Option, Result, Ok, Err, IfSome, OnOk, IsErrOf, IsTrue, arith}
 use Rattle.std.proofs.KnownBytes.{Keeps-refl}
 use Rattle.std.specs.Result.{IfErr}
 use Rattle.std.specs.Io.KnownBytes.{IsAtEnd}
-use Rattle.driver.specs.Below.{Form, StreamFault, Memory, IsReadNoFurther, IsReadOut, IsReadTo, Streams, IsOfReading, IsToldFor, IsTooLong}
+use Rattle.driver.specs.Below.{Form, StreamFault, Memory, ReadFailed, WriteFailed, IsReadNoFurther, IsReadOut, IsReadTo, Streams, IsOfReading, IsToldFor, IsTooLong}
 use Rattle.driver.specs.Prelude.{Writes, IsFaultOf, IsPartLeft, Progress, WereRead}
 use Rattle.driver.specs.inner.TextReader.{IsFaultBehind}
 use Rattle.driver.proofs.ReadingAhead.{too_long}
@@ -50,3 +50,18 @@ pub fault_streams : {H I T : Type 0} (form : Form H I) (Answers : List ℕ → T
     (text left held : Option (List ℕ)) (fault returned : StreamFault) → IsFaultOf form text left fault →
     IsToldFor fault returned → Streams form Answers text held held (Err returned)
 fault_streams form Answers text left held fault returned err same = grind (arith, Keeps-refl held)
+
+-- and no write of it failed
+pub fault_unwritten : {H I : Type 0} (T : Type 0) (form : Form H I) (text left : Option (List ℕ))
+    (fault returned : StreamFault) (failed : Bool) → IsFaultOf form text left fault → IsToldFor fault returned →
+    failed ≡ false → IsErrOf {T = T} (Err returned) WriteFailed ↔ IsTrue failed
+fault_unwritten T form text left fault returned failed err same still = grind arith
+
+-- what was read of an answer, and the writes of it
+pub read_still : {T U : Type 0} (x : T) (r : Result U StreamFault) (failed : Bool) →
+    IsErrOf (Ok x) ReadFailed ↔ IsTrue failed → (IsErrOf r ReadFailed → ⊥) → IsErrOf r ReadFailed ↔ IsTrue failed
+read_still x r failed was unread = grind arith
+
+pub written_unread : (held after : Option (List ℕ)) (all : List ℕ) (r : Result (Unit {0}) StreamFault) →
+    Writes held r after all → IsErrOf r ReadFailed → ⊥
+written_unread held after all r w is = grind arith

@@ -2,9 +2,9 @@
 use Rattle.std.proofs.Common.{◌≡◌, ℕ, ◌+◌, ◌-◌, ◌<◌, ◌≤◌, ◌^◌, List, [], ◌∷◌, ◌++◌, length, drop, Option, None, Some, Result, Ok, Err, IfSome, refl, sym, ap, subst, ◌∙◌, arith, append_assoc, append-nil, length-append}
 use Rattle.std.specs.Io.KnownBytes.{Keeps, IsAtEnd, prepend_known}
 use Rattle.driver.specs.Below.{Entry, Header, Base, MOST_FOLDED, IsInRange, ended, LINE_BYTES, TextFault, BadLine, CutShort, Begins, IsText, AreRead, SoFar, Head, Place, entry_line, head_of, IsHistoryText, history_form, AreEntriesRead, IsEntryBehind, LacksBaseLine, behind, Line, lines_on, StreamFault, Text, ReadFailed, WriteFailed, Memory, IsReadNoFurther, IsOfReading, IsTooLong, StaysAhead, room}
-use Rattle.line_text.proofs.Growing.{broken}
-use Rattle.line_text.proofs.LongLines.{uncut}
-use Rattle.line_text.proofs.UnderWay.{last_bytes}
+use Rattle.streams.proofs.Growing.{broken}
+use Rattle.streams.proofs.LongLines.{uncut}
+use Rattle.streams.proofs.UnderWay.{last_bytes}
 use Rattle.history_text.proofs.BaseLineLemmas.{base_short}
 use Rattle.history_text.proofs.EntriesRead.{read_all, read_one}
 use Rattle.history_text.proofs.HistoryItems.{length-on}

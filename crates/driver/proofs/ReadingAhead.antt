@@ -4,11 +4,11 @@ use Rattle.std.proofs.KnownBytes.{Keeps-refl, Keeps-trans}
 use Rattle.std.specs.Result.{IsErr}
 use Rattle.std.specs.Io.KnownBytes.{Keeps, IsAtEnd, prepend_known}
 use Rattle.driver.specs.Below.{ended, LINE_BYTES, TextFault, BadHeader, BadLine, CutShort, Form, lines_of, Begins, IsText, IsReading, HasShortLines, SoFar, AreRead, IsAhead, IsLineBehind, StreamFault, Text, ReadFailed, WriteFailed, Memory, IsReadNoFurther, IsOfReading, IsTooLong, Grows, StaysAhead, room}
-use Rattle.line_text.proofs.Growing.{broken}
-use Rattle.line_text.proofs.Lawful.{IsLawful}
-use Rattle.line_text.proofs.LongLines.{header_cut, line_cut, uncut}
-use Rattle.line_text.proofs.Following.{begins_more, without, begins_without, with_rest, fault_stays, text_goes_on}
-use Rattle.line_text.proofs.UnderWay.{last_bytes, one_further, read_on, shorter}
+use Rattle.streams.proofs.Growing.{broken}
+use Rattle.streams.proofs.Lawful.{IsLawful}
+use Rattle.streams.proofs.LongLines.{header_cut, line_cut, uncut}
+use Rattle.streams.proofs.Following.{begins_more, without, begins_without, with_rest, fault_stays, text_goes_on}
+use Rattle.streams.proofs.UnderWay.{last_bytes, one_further, read_on, shorter}
 use Rattle.driver.specs.TextReader.{Progress, reader_at, WereRead, IsFaultOf, IsNext, IsPartLeft, KeepsPlace}
 use Rattle.driver.specs.inner.TextReader.{IsAfterEnd}
 

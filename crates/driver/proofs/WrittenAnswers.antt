@@ -2,7 +2,7 @@
 use Rattle.std.proofs.Common.{◌≡◌, ℕ, List, Option, None, Some, Result, Ok, Err, subst}
 use Rattle.std.specs.Io.KnownBytes.{Appends}
 use Rattle.driver.specs.Below.{Act, IsText, StepsHeader, steps_form, StreamFault, Text, ReadFailed, WriteFailed, Memory, AppendsFront}
-use Rattle.driver.specs.Prelude.{Form, AllAnswers, Writes, answers_text, IsLawful, Replayed, Replays, answer_text, behind_acts}
+use Rattle.driver.specs.Prelude.{Form, AllAnswers, Writes, answers_text, IsLawful, Replayed, WritesReplay, answer_text, behind_acts}
 use Rattle.driver.specs.inner.ReplayStream.{AreAnswersTo}
 
 pub replayed : (form : Form) (text : List ℕ) (h : StepsHeader) (acts : List Act) (written : List ℕ) →
@@ -26,7 +26,7 @@ rewritten form text all Written r w =
 -- the answers are written
 pub replays : (form : Form) (left old new : Option (List ℕ)) (answers : AllAnswers)
     (r : Result (Unit {0}) StreamFault) → AreAnswersTo left answers →
-    Writes old r new (answers_text form answers) → Replays form left old new r
+    Writes old r new (answers_text form answers) → WritesReplay form left old new r
 replays form None old new answers (Ok done) are w = tt
 replays form (Some text) old new answers (Ok done) are w =
     rewritten form text _ (Appends old new) (are form) w

@@ -1,10 +1,11 @@
 -- What is written for what is read.
-use Rattle.std.specs.Prelude.{◌≡◌, ℕ, List, Option, Result}
+use Rattle.std.specs.Prelude.{◌≡◌, ℕ, Bool, List, Option, Result}
 use Rattle.driver.specs.Below.{Act, Outcome, Entry, Base, based, IsLegal, AreSeated, IsInOrder, IsFairOrder, history_text, IsText, steps_form, StepsHeader, StreamFault, IsReadOut, Streams}
 use Rattle.driver.specs.declared.form.Form.{Form}
 use Rattle.driver.specs.declared.form.Form.TheVariants.{Replay, History}
 use Rattle.driver.specs.Answers.{AllAnswers, answers_text}
 use Rattle.driver.specs.ReplayText.{behind_acts, replay_text}
+use Rattle.driver.specs.Streaming.{Streamed}
 use Rattle.driver.specs.TextReader.{Progress, OfText}
 
 -- the history text after these acts, with the base of the last trim
@@ -40,11 +41,16 @@ IsAnswerBehind form p answer = OfText steps_form p (λ t. Replayed form t (λ wr
 abbrev pub AreAnswersBehind : Progress StepsHeader Act → AllAnswers → Type 0
 AreAnswersBehind p answers = (form : Form) → IsAnswerBehind form p (answers_text form answers)
 
--- what a replay leaves
-abbrev pub Replays : Form → Option (List ℕ) → Option (List ℕ) → Option (List ℕ) →
+-- what a replay writes
+abbrev pub WritesReplay : Form → Option (List ℕ) → Option (List ℕ) → Option (List ℕ) →
     Result (Unit {0}) StreamFault → Type 0
-Replays form = Streams steps_form (λ text done Written. Replayed form text Written)
+WritesReplay form = Streams steps_form (λ text done Written. Replayed form text Written)
 
 -- how far a replay reads
 abbrev pub StepsReadOut : Option (List ℕ) → Result (Unit {0}) StreamFault → Option (List ℕ) → Type 0
 StepsReadOut = IsReadOut steps_form
+
+-- what a replay leaves
+abbrev pub Replays : Form → Option (List ℕ) → Option (List ℕ) → Result (Unit {0}) StreamFault →
+    Option (List ℕ) → Option (List ℕ) → Bool → Bool → Type 0
+Replays form = Streamed steps_form (λ text done Written. Replayed form text Written)

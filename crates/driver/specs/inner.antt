@@ -1,11 +1,10 @@
 -- What only contracts of private functions cite: no promise of the crate rests on it.
 pub mod BaseReader
-pub mod ExplainStream
+pub mod Choice
 pub mod HistoryReader
 pub mod Judged
 pub mod Logged
 pub mod ReplayStream
 pub mod StepReader
-pub mod Summed
+pub mod Telling
 pub mod TextReader
-pub mod VerdictText

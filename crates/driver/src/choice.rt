@@ -1,7 +1,7 @@
 //! Which entries of a history are drawn.
 
 ghost use Rattle.std.specs.Prelude.{◌≡◌};
-ghost use Rattle.driver.specs.Choice.{end_of, first_of, is_cut, is_summed, kept_of};
+ghost use Rattle.driver.specs.inner.Choice.{end_chosen, first_of, is_cut, is_summed, kept_of};
 
 use crate::limits::{UNCHOSEN, UNSUMMED};
 
@@ -29,7 +29,7 @@ impl Choice {
     /// Returns how many unfolded entries are before the end of those to draw, if `folded` entries were
     /// folded.
     pub(crate) fn end(self, folded: u64) -> u64
-        ensures { result ≡ end_of self folded }
+        ensures { result ≡ end_chosen self folded }
     {
         match self.to {
             Some(number) => number.saturating_add(1).saturating_sub(folded),

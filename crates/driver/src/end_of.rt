@@ -3,10 +3,10 @@
 ghost use Rattle.std.specs.Prelude.{◌≡◌, ◌<◌, ◌≤◌, ◌+◌, ◌^◌, ◌↔◌, false, length, None, Ok, IsTrue, IsErrOf};
 ghost use Rattle.std.specs.Io.KnownBytes.{IsAtEnd, Keeps, prepend_known};
 ghost use Rattle.driver.specs.inner.TextReader.{IsAfterEnd};
-ghost use Rattle.line_text.specs.declared.limits.TheConstants.{LINE_BYTES};
+ghost use Rattle.streams.specs.declared.limits.TheConstants.{LINE_BYTES};
 ghost use Rattle.streams.specs.Window.{room};
 
-use line_text::fault::TextFault;
+use streams::fault::TextFault;
 use streams::source::Source;
 use streams::stream_fault::StreamFault;
 use streams::window::Window;

@@ -1,9 +1,10 @@
 //! From bytes to bytes: a stream function reads a text and writes another.
 //!
 //! It reads all, and reserves all memory, before it writes. So nothing is written for a text that is refused.
-//! A replay performs each line as it is read, and keeps the answers in short form until they are written. An
-//! audit and a summary judge each line as it is read, and keep no entry. A drawing keeps the entries up to the
-//! last one that it draws, or all if none were chosen, and an explanation those up to the one that it explains.
+//! A replay performs each line as it is read, and keeps the answers in short form until they are written. All
+//! that is told of a history comes from one stream, which judges each line as it is read. An audit and a summary
+//! keep no entry. A drawing keeps the entries up to the last one that it draws, or all if none were chosen, and an
+//! explanation those up to the one that it explains.
 //! The contracts refer to the bytes of sources and sinks, if these are known.
 #![tactic(auto)]
 
@@ -12,22 +13,23 @@ pub mod answers;
 pub mod audit_json;
 pub mod audit_stream;
 pub mod audit_text;
+mod audited;
 mod base_reader;
 pub mod choice;
-pub mod draw_stream;
+mod drawn;
 mod end_of;
-pub mod explain_stream;
+mod explained;
 pub mod form;
 pub mod history_reader;
 mod judged;
 pub mod limits;
 pub mod line_writer;
 pub mod notation;
-pub mod page_stream;
+mod paged;
 pub mod remark;
 pub mod replay;
 pub mod replay_stream;
 pub mod step_reader;
-pub mod summary_stream;
 mod summed;
-mod verdict_text;
+pub mod tell_stream;
+pub mod telling;

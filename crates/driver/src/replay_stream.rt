@@ -4,7 +4,7 @@ ghost use Rattle.std.specs.Prelude.{◌≡◌, ◌↔◌, false, IsTrue, IfErr, 
 ghost use Rattle.std.specs.Io.KnownBytes.{IsAtEnd};
 ghost use Rattle.driver.specs.ReplayStream.{AreAnswersBehind, Replays};
 ghost use Rattle.driver.specs.inner.ReplayStream.{AreAnswersTo};
-ghost use Rattle.streams.specs.Streams.{IsReadNoFurther, IsReadOut};
+ghost use Rattle.streams.specs.Streams.{IsReadNoFurther};
 ghost use Rattle.streams.specs.declared.stream_fault.StreamFault.TheVariants.{Memory};
 ghost use Rattle.driver.specs.StepReader.{progress};
 ghost use Rattle.driver.specs.TextReader.{IsFaultOf};
@@ -42,10 +42,8 @@ pub fn replay_stream<R: Source, W: Sink>(
 ) -> Result<(), StreamFault>
     requires reader { R.failed reader.old ≡ false }
     requires writer { W.failed writer.old ≡ false }
-    ensures replays { Replays form (R.left reader.old) (W.held writer.old) (W.held writer.new) result }
-    ensures end { IsReadOut steps_form (R.left reader.old) result (R.left reader.new) }
-    ensures read { IsErrOf result StreamFault.ReadFailed ↔ IsTrue (R.failed reader.new) }
-    ensures write { IsErrOf result StreamFault.WriteFailed ↔ IsTrue (W.failed writer.new) }
+    ensures { Replays form (R.left reader.old) (W.held writer.old) result (R.left reader.new)
+        (W.held writer.new) (R.failed reader.new) (W.failed writer.new) }
 {
     match answers_to(alloc, reader) {
         Ok(answers) => answers.write(alloc, writer, form),

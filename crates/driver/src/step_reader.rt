@@ -18,13 +18,13 @@ ghost use Rattle.streams.specs.declared.stream_fault.StreamFault.TheVariants.{Me
 
 use crate::end_of::end_of;
 use frame::acts::Act;
-use line_text::fault::TextFault;
 use std::alloc::Global;
 use std::marker::Model;
 use steps::MOST_ACTS;
 use steps::common_step::{Common, common_step};
 use steps::header::StepsHeader;
 use steps::next_line::{header_of, next_line};
+use streams::fault::TextFault;
 use streams::source::Source;
 use streams::stream_fault::StreamFault;
 use streams::window::Window;

@@ -1,12 +1,14 @@
-//! A barrier at which three threads wait for one another five times.
+//! A barrier at which three threads wait for one another five times, and a pool of two counters that three
+//! threads share.
 //!
-//! Proved: a thread goes on only after the gathering at which it arrived has ended.
+//! Proved: a thread goes on from the barrier only after the gathering at which it arrived has ended.
 #![tactic(auto)]
 
 ghost use Rattle.locks.specs.Calling.{CanLock};
 
 mod barrier;
 mod gathering;
+mod pool;
 
 use barrier::Barrier;
 use locks::{Fault, Pass, ThreadParking, three_passes};
@@ -130,7 +132,8 @@ fn main(rt: HostRuntime) -> io::Result<()> {
                 last,
                 gave_up,
             },
-        ) => println!(rt; "{passed} went on, {last} of them as the last, and {gave_up} gave up"),
-        Err(fault) => println!(rt; "not gathered: {fault}"),
+        ) => println!(rt; "{passed} went on, {last} of them as the last, and {gave_up} gave up")?,
+        Err(fault) => println!(rt; "not gathered: {fault}")?,
     }
+    pool::show(&rt)
 }

@@ -3,7 +3,7 @@
 ghost use Rattle.std.specs.Prelude.{◌≡◌, [], Some, IfOk};
 ghost use Rattle.std.specs.Io.KnownBytes.{Appends};
 ghost use Rattle.audit.specs.declared.verdict.Verdict.TheVariants.{Legal};
-ghost use Rattle.driver.specs.AuditStream.{Audited};
+ghost use Rattle.driver.specs.Telling.{Audited};
 ghost use Rattle.driver.specs.ReplayStream.{Replayed};
 
 use audit::verdict::Verdict;

@@ -1,7 +1,10 @@
-//! A first program: two threads add to one number that a lock guards.
+//! Two threads add to one number that a lock guards.
 #![tactic(auto)]
 
 ghost use Rattle.locks.specs.Calling.{CanLock};
+
+mod number;
+mod proved;
 
 use locks::{Fault, Mutex, Pass, ThreadParking, two_passes};
 use std::alloc::Global;
@@ -44,8 +47,8 @@ fn sum<R: Threads + Wait + Clock + Sync>(rt: &R, alloc: Global) -> Result<u64, F
 }
 
 fn main(rt: HostRuntime) -> io::Result<()> {
-    match sum(&rt, rt.alloc()) {
-        Ok(sum) => println!(rt; "{sum}"),
-        Err(fault) => println!(rt; "no sum: {fault}"),
+    match (sum(&rt, rt.alloc()), proved::sum(&rt, rt.alloc())) {
+        (Ok(sum), Ok(proved)) => println!(rt; "{sum}\n{proved}"),
+        (Err(fault), _) | (_, Err(fault)) => println!(rt; "no sum: {fault}"),
     }
 }

@@ -54,7 +54,8 @@ impl Accounts {
 
     /// Takes the amount from one account, or returns false if that has less.
     fn withdraw(&mut self, from: Side, amount: u64) -> bool
-        ensures taken { result ≡ true → self.new.left + self.new.right + amount ≡ self.old.left + self.old.right }
+        ensures taken { result ≡ true → self.new.left + self.new.right + amount ≡ self.old.left +
+            self.old.right }
         ensures not_taken { result ≡ false → self.new ≡ self.old }
     {
         match from {

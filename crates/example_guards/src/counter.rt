@@ -24,6 +24,9 @@ use std::{io, thread};
 
 const THREADS: u16 = 4;
 
+/// How often the threads count together, if the command line names no number.
+const TIMES: u32 = 20_000;
+
 /// The most entries of the history.
 const CAP: u32 = 1000;
 
@@ -377,12 +380,23 @@ fn print<R: Print>(rt: &R, summary: &Summary) -> io::Result<()> {
     )
 }
 
-/// Lets the four threads together count `times` times, and prints the outcome.
+/// Reads how often the threads count. It is the word after the name of the program.
+fn asked(words: &[String]) -> u32 {
+    let times = words
+        .get(1)
+        .and_then(|word| word.as_str().parse::<u32>().ok());
+    match times {
+        Some(times) => times,
+        None => TIMES,
+    }
+}
+
+/// Lets the four threads together count as often as the words ask, and prints the outcome.
 pub fn run<R: Print + AllocGlobal + Threads + Wait + Clock + Sync>(
     rt: &R,
-    times: u32,
+    words: &[String],
 ) -> io::Result<()> {
-    match count_named(rt, rt.alloc(), times / u32::from(THREADS)) {
+    match count_named(rt, rt.alloc(), asked(words) / u32::from(THREADS)) {
         Ok(summary) => print(rt, &summary),
         Err(failure) => println!(rt; "{failure}: the number was given up"),
     }

@@ -1,16 +1,25 @@
-//! Programs over locks that guard a value.
+//! Programs over locks, from a first lock to pools and workers.
+//!
+//! Locks that guard a value:
 //!
 //! - `buffer`: a queue with two places, which a lock guards. One thread puts, another takes.
-//! - `table`: two rows that a read-write lock guards. A writer changes both, and no reader sees only one
-//!   changed.
 //! - `read_mostly_table`: a table that a read-write lock guards, and writers that downgrade to readers.
 //! - `counter`: a number that four threads count up. What they counted and what they left add up to what was
-//!   asked for.
+//!   asked for. `counter 10000000` takes no more memory than `counter 20000`.
 //! - `bank`: two accounts, between which two threads pay. The lock keeps the invariant that their sum is 1000.
+//! - `connection_pool`: clients that share connections of a pool.
 //!
-//! `example_guards` runs all five. `example_guards TIMES` runs only the counter, and the four threads
-//! together count TIMES times: 10000000 takes no more memory than 20000. A program that fails gives up what
-//! it holds, and says so.
+//! Locks, latches and monitors that guard none:
+//!
+//! - `first_lock`: a fair lock, and an acquire that gives up after 50 milliseconds.
+//! - `bounded_buffer`: a monitor with two conditions between a thread that puts and a thread that takes.
+//! - `endless_lock`: four threads at a lock that runs on past the cap of its history.
+//! - `history_in_parts`: a lock whose history is printed in parts.
+//! - `small_calls`: the callers of the pages `CALLING.md`, each called once.
+//! - `latch_workers`: workers that start together at one latch. The foreman waits for them at another.
+//!
+//! `example_guards` runs these one after another, and `example_guards NAME` runs the one of this name. A
+//! program that fails gives up what it holds, and says so.
 #![tactic(auto)]
 
 ghost use Rattle.std.specs.Prelude.{◌≡◌};
@@ -20,11 +29,16 @@ mod accounts;
 mod adding;
 mod bank;
 mod bounded;
+mod bounded_buffer;
 mod buffer;
+mod connection_pool;
 mod counter;
+mod endless_lock;
+mod first_lock;
+mod history_in_parts;
+mod latch_workers;
 mod read_mostly_table;
-mod rows;
-mod table;
+mod small_calls;
 mod working;
 
 use history::fault::Fault;
@@ -56,27 +70,47 @@ impl From<Fault> for Failure {
     }
 }
 
-/// How often the threads count if nothing is asked for.
-const TIMES: u32 = 20_000;
-
-/// Runs all five programs, one after another.
-fn run_all<R: Print + AllocGlobal + Threads + Wait + Clock + Sync>(rt: &R) -> io::Result<()> {
+/// Runs all programs, one after another.
+fn run_all<R: Print + Eprint + AllocGlobal + Threads + Wait + Clock + Sync>(
+    rt: &R,
+    words: &[String],
+) -> io::Result<()> {
     buffer::run(rt)?;
-    table::run(rt)?;
     read_mostly_table::run(rt)?;
-    counter::run(rt, TIMES)?;
-    bank::run(rt)
+    counter::run(rt, words)?;
+    bank::run(rt)?;
+    first_lock::run(rt)?;
+    bounded_buffer::run(rt)?;
+    endless_lock::run(rt, words)?;
+    history_in_parts::run(rt, words)?;
+    small_calls::run(rt)?;
+    connection_pool::run(rt)?;
+    latch_workers::run(rt)
+}
+
+/// Runs the program that the first word names, or all if there is no word.
+fn run<R: Print + Eprint + AllocGlobal + Threads + Wait + Clock + Sync>(
+    rt: &R,
+    words: &[String],
+) -> io::Result<()> {
+    match words.first().map(|word| word.as_str()) {
+        None => run_all(rt, words),
+        Some("buffer") => buffer::run(rt),
+        Some("read_mostly_table") => read_mostly_table::run(rt),
+        Some("counter") => counter::run(rt, words),
+        Some("bank") => bank::run(rt),
+        Some("first_lock") => first_lock::run(rt),
+        Some("bounded_buffer") => bounded_buffer::run(rt),
+        Some("endless_lock") => endless_lock::run(rt, words),
+        Some("history_in_parts") => history_in_parts::run(rt, words),
+        Some("small_calls") => small_calls::run(rt),
+        Some("connection_pool") => connection_pool::run(rt),
+        Some("latch_workers") => latch_workers::run(rt),
+        Some(other) => eprintln!(rt; "example_guards: no program {other}"),
+    }
 }
 
 fn main(rt: HostRuntime) -> io::Result<()> {
     let words = env::args(&rt)?.skip(1).collect::<Vec<String>>(rt.alloc())?;
-    match words.first().map(|word| word.as_str()) {
-        None => run_all(&rt),
-        Some(word) => match word.parse::<u32>() {
-            Ok(times) => counter::run(&rt, times),
-            Err(_) => eprintln!(rt;
-                "example_guards: how often? {word} is no number below 4294967296"
-            ),
-        },
-    }
+    run(&rt, &words)
 }

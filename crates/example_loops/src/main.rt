@@ -4,11 +4,17 @@
 //! - `rounds`: a number of rounds, and the lock in each of them.
 //! - `changed`: until the value has changed. The loop keeps the guard, and waits on a condition.
 //! - `told`: until another thread says that it is over, and the lock in each round.
+//!
+//! The module `queue` has all of them: a queue of jobs, at which one thread submits and two threads work.
 #![tactic(auto)]
 
 mod changed;
+mod jobs;
+mod queue;
 mod rounds;
+mod submitting;
 mod told;
+mod working;
 
 use locks::{Fault, Mutex, Policy, ThreadParking, WhenFull, two_passes};
 use std::alloc::Global;
@@ -62,7 +68,8 @@ fn main(rt: HostRuntime) -> io::Result<()> {
         Err(fault) => println!(rt; "not exchanged: {fault}")?,
     }
     match work(&rt, rt.alloc()) {
-        Ok(agree) => println!(rt; "each round of work was seen: {agree}"),
-        Err(fault) => println!(rt; "not worked: {fault}"),
+        Ok(agree) => println!(rt; "each round of work was seen: {agree}")?,
+        Err(fault) => println!(rt; "not worked: {fault}")?,
     }
+    queue::show_both(&rt)
 }

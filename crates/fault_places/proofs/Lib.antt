@@ -1,4 +1,1 @@
-mod Columns
-mod LineLemmas
-mod Parts
-mod Told
+pub mod Counted

@@ -1,10 +1,1 @@
-pub mod Columns
-pub mod HeaderShapes
-pub mod LineReport
-pub mod Lines
-pub mod Names
 pub mod Reports
-pub mod ScriptPlaces
-pub mod Shapes
-pub mod Spelling
-pub mod StepLines

@@ -1,143 +1,197 @@
 //! Where a script is wrong.
 
-ghost use Rattle.std.specs.Prelude.{◌≡◌, ◌≢◌, ◌++◌, IfOk, OnOk};
-ghost use Rattle.fault_places.specs.ScriptPlaces.{IsToldOf, call_place, object_place, script_place, thread_place};
-ghost use Rattle.script.specs.declared.fault.ScriptFault.TheVariants.{OutOfMemory};
+ghost use Rattle.std.specs.Prelude.{IfOk};
+ghost use Rattle.fault_places.specs.Reports.{IsPlaceOf};
+ghost use Rattle.script.specs.declared.fault.ScriptFault.{ScriptFault};
 
-use crate::in_call::put_call;
-use crate::in_object::put_object;
-use crate::line_report::put_named;
 use crate::lines::{behind_lines, line_ahead};
-use crate::spelling::put_quoted;
-use history::number::put_number;
+use crate::reader::{Calls, Reader, is_script_with};
+use crate::spelling::{Ending, quoted};
+use crate::wrong::{Place, Said, Wrong, wrong_words};
 use script::ScriptFault;
 use serde_json::{Error, Value};
 use std::alloc::{AllocError, Global};
 
 /// A script with one object and one thread.
-const SCRIPT: &[u8] = b"{\"objects\": [[\"door\", \"lock fair seats 1 conditions 0 cap 16\"]], \
+const SCRIPT: &str = "{\"objects\": [[\"door\", \"lock fair seats 1 conditions 0 cap 16\"]], \
     \"threads\": [{\"repeat\": 1, \"calls\": [\"door acquire x 1\", \"door give x 1\"]}]}";
 
-/// What is expected of a script.
-const A_SCRIPT: &[u8] =
-    b"an object with the keys objects and threads alone: lists with 1 to 64 and 1 to 256 members";
+const TOP: &str =
+    "an object with the keys objects and threads alone: lists with 1 to 64 and 1 to 256 members";
 
-/// What is expected of a thread.
-const A_THREAD: &[u8] =
-    b"an object with the keys repeat and calls alone: a whole number from 1 to 1000000, \
+const THREAD: &str =
+    "an object with the keys repeat and calls alone: a whole number from 1 to 1000000, \
     and a list of at most 10000 texts";
 
-/// A thread with two calls.
-const THREAD: &[u8] = b"{\"repeat\": 1, \"calls\": [\"door acquire x 1\", \"door give x 1\"]}";
+const CALLS: &str = "{\"repeat\": 1, \"calls\": [\"door acquire x 1\", \"door give x 1\"]}";
 
-/// Appends where a script with this fault is wrong, as far as the fault tells it. A failed allocation is no fault
-/// of the script.
-fn put_script_place(out: &mut Vec<u8>, fault: ScriptFault) -> Result<(), AllocError>
-    ensures place { OnOk result (out.new.items ≡ out.old.items ++ script_place fault) }
-    ensures fault { OnOk result (fault ≢ OutOfMemory) }
-{
-    match fault {
-        ScriptFault::NotJson => out.extend_from_slice(b"wrong at line "),
-        ScriptFault::BadTop => out.extend_from_slice(b"wrong at the top"),
-        ScriptFault::BadObject(object) => put_object_place(out, object as u64),
-        ScriptFault::BadThread(thread) => put_thread_place(out, thread as u64),
-        ScriptFault::BadCall(thread, call) => put_call_place(out, thread as u64, call as u64),
-        ScriptFault::OutOfMemory => Err(AllocError),
+const NAME: &str = "a name of 1 to 32 characters of a to z, 0 to 9 and -, other than interrupt";
+
+/// Which member of an object's list is wrong, in which column, and what is said of it.
+type Told = (Option<u8>, Option<u64>, Said);
+
+/// Returns what is said of a part that has another form.
+fn instead(alloc: Global, expected: &'static str, example: &str) -> Result<Told, AllocError> {
+    let example = Some(String::from_str(alloc, example)?);
+    Ok((
+        None,
+        None,
+        Said {
+            found: None,
+            expected,
+            example,
+        },
+    ))
+}
+
+/// Returns what is said of the words of a part.
+fn told_of_words(
+    alloc: Global,
+    member: Option<u8>,
+    reader: Reader<'_>,
+    words: &str,
+) -> Result<Told, AllocError> {
+    let (column, said) = wrong_words(alloc, &reader, words.as_bytes(), Ending::Part)?;
+    Ok((member, Some(column), said))
+}
+
+/// Returns the members of a list that a key of a value has.
+fn list_of<'a>(value: &'a Value, key: &str) -> &'a [Value] {
+    match value.get(key).and_then(Value::as_array) {
+        Some(list) => list.as_slice(),
+        None => &[],
     }
 }
 
-/// Appends the place of an object.
-fn put_object_place(out: &mut Vec<u8>, object: u64) -> Result<(), AllocError>
-    ensures { OnOk result (out.new.items ≡ out.old.items ++ object_place object) }
-{
-    put_named(out, b"wrong at objects[", object)?;
-    out.extend_from_slice(b"]")
+/// Returns the name and the object of a member of a script.
+fn pair_of(member: Option<&Value>) -> Option<(&str, &str)> {
+    match member?.as_array()?.as_slice() {
+        [name, part] => Some((name.as_str()?, part.as_str()?)),
+        _ => None,
+    }
 }
 
-/// Appends the place of a thread.
-fn put_thread_place(out: &mut Vec<u8>, thread: u64) -> Result<(), AllocError>
-    ensures { OnOk result (out.new.items ≡ out.old.items ++ thread_place thread) }
-{
-    put_named(out, b"wrong at threads[", thread)?;
-    out.extend_from_slice(b"]")
+/// Returns what is said of an object.
+fn told_of_object(alloc: Global, value: &Value, place: usize) -> Result<Told, AllocError> {
+    let threads = list_of(value, "threads").len() as u64;
+    let objects = list_of(value, "objects");
+    let Some((name, part)) = pair_of(objects.get(place)) else {
+        let example = format!(in alloc;
+            "[\"door\", \"lock fair seats {threads} conditions 0 cap 16\"]"
+        )?;
+        return instead(alloc, "a list of two texts: a name and an object", &example);
+    };
+    let names = Calls { objects, threads };
+    if !is_script_with(alloc, name.as_bytes(), b"")? {
+        return bad_name(alloc, &names, place, name, NAME);
+    }
+    if (0..place).any(|other| names.name(other) == name) {
+        return bad_name(
+            alloc,
+            &names,
+            place,
+            name,
+            "a name that no object before has",
+        );
+    }
+    told_of_words(alloc, Some(1), Reader::Object(threads), part)
 }
 
-/// Appends the place of a call of a thread.
-fn put_call_place(out: &mut Vec<u8>, thread: u64, call: u64) -> Result<(), AllocError>
-    ensures { OnOk result (out.new.items ≡ out.old.items ++ call_place thread call) }
-{
-    put_named(out, b"wrong at threads[", thread)?;
-    put_named(out, b"].calls[", call)?;
-    Ok(out.push(b']')?)
+/// Returns what is said of a name, with one that none of the first objects has.
+fn bad_name(
+    alloc: Global,
+    names: &Calls<'_>,
+    count: usize,
+    name: &str,
+    expected: &'static str,
+) -> Result<Told, AllocError> {
+    let mut example = String::new(alloc);
+    for number in 0..=count {
+        example = format!(in alloc; "object-{number}")?;
+        if !(0..count).any(|place| names.name(place) == example.as_str()) {
+            break;
+        }
+    }
+    let found = Some(quoted(alloc, name.as_bytes())?);
+    Ok((
+        Some(0),
+        Some(1),
+        Said {
+            found,
+            expected,
+            example: Some(example),
+        },
+    ))
 }
 
-/// Appends what was expected in place of a value, and an example.
-fn put_instead(out: &mut Vec<u8>, expected: &[u8], example: &[u8]) -> Result<(), AllocError> {
-    out.extend_from_slice(b"\nexpected ")?;
-    out.extend_from_slice(expected)?;
-    out.extend_from_slice(b"\nexample ")?;
-    out.extend_from_slice(example)?;
-    Ok(out.push(b'\n')?)
-}
-
-/// Appends what is wrong at its place with a script that is JSON.
-fn put_found(
-    out: &mut Vec<u8>,
+/// Returns what is said of a call.
+fn told_of_call(
     alloc: Global,
     value: &Value,
-    fault: ScriptFault,
-) -> Result<(), AllocError> {
-    match fault {
-        ScriptFault::BadObject(object) => put_object(out, alloc, value, object),
-        ScriptFault::BadThread(_) => put_instead(out, A_THREAD, THREAD),
-        ScriptFault::BadCall(thread, call) => put_call(out, alloc, value, thread, call),
-        _ => put_instead(out, A_SCRIPT, SCRIPT),
+    thread: usize,
+    call: usize,
+) -> Result<Told, AllocError> {
+    let threads = list_of(value, "threads");
+    let calls = Calls {
+        objects: list_of(value, "objects"),
+        threads: threads.len() as u64,
+    };
+    let call = threads
+        .get(thread)
+        .and_then(|it| list_of(it, "calls").get(call));
+    match call.and_then(Value::as_str) {
+        Some(text) => told_of_words(alloc, None, Reader::Call(calls), text),
+        None => {
+            let example = format!(in alloc; "\"{} acquire x 1\"", calls.name(0))?;
+            instead(alloc, "a text", &example)
+        }
     }
 }
 
-/// Appends in which line and column a text that is no JSON stops to be JSON, and what stands there.
-fn put_no_json(out: &mut Vec<u8>, text: &[u8], error: &Error) -> Result<(), AllocError> {
+/// Returns in which line and column a text stops to be JSON, and what stands there.
+fn no_json(alloc: Global, text: &[u8], error: &Error) -> Result<Wrong, AllocError>
+    ensures { IfOk result (λ wrong. (fault : ScriptFault) → IsPlaceOf fault wrong.place) }
+{
     let (line, column) = (error.line().max(1), error.column().max(1));
     let begun = behind_lines(text, line as u64 - 1).unwrap_or(b"");
     let rest = &begun[(column - 1).min(begun.len())..];
-    put_number(out, line as u64)?;
-    put_named(out, b" column ", column as u64)?;
-    out.extend_from_slice(b"\nfound ")?;
-    if error.is_eof() || rest.is_empty() {
-        out.extend_from_slice(b"the end of the text")?;
+    let found = if error.is_eof() || rest.is_empty() {
+        String::from_str(alloc, "the end of the text")?
     } else {
-        put_quoted(out, line_ahead(rest).0)?;
-    }
-    put_instead(out, b"a script, which is a JSON text", SCRIPT)
+        quoted(alloc, line_ahead(rest).0)?
+    };
+    let (_, _, said) = instead(alloc, "a script, which is a JSON text", SCRIPT)?;
+    Ok(Wrong {
+        place: Place::Line(line as u64, column as u64),
+        said: Said {
+            found: Some(found),
+            ..said
+        },
+    })
 }
 
-/// Returns what follows the place in what is said of a script.
-fn found_in_script(alloc: Global, text: &[u8], fault: ScriptFault) -> Result<Vec<u8>, AllocError> {
-    let mut found = Vec::new(alloc);
-    match Value::from_slice(alloc, text) {
-        Ok(value) => put_found(&mut found, alloc, &value, fault)?,
+/// Returns what is wrong with a script that has this fault.
+pub(crate) fn wrong_in_script(
+    alloc: Global,
+    text: &[u8],
+    fault: ScriptFault,
+) -> Result<Wrong, AllocError>
+    ensures { IfOk result (λ wrong. IsPlaceOf fault wrong.place) }
+{
+    let value = match Value::from_slice(alloc, text) {
+        Ok(value) => value,
         Err(error) if error.is_memory() => return Err(AllocError),
-        Err(error) => put_no_json(&mut found, text, &error)?,
-    }
-    Ok(found)
-}
-
-/// Returns the place of a script with this fault, and what was found there.
-fn script_text(alloc: Global, fault: ScriptFault, found: &[u8]) -> Result<Vec<u8>, AllocError>
-    ensures text { IfOk result (λ told. told.items ≡ script_place fault ++ found.now) }
-    ensures fault { OnOk result (fault ≢ OutOfMemory) }
-{
-    let mut told = Vec::new(alloc);
-    put_script_place(&mut told, fault)?;
-    told.extend_from_slice(found)?;
-    Ok(told)
-}
-
-/// Returns what is said of a script with this fault.
-pub fn told_of_script(alloc: Global, text: &[u8], fault: ScriptFault) -> Result<Vec<u8>, AllocError>
-    ensures { IfOk result (λ told. IsToldOf fault told.items) }
-{
-    let found = found_in_script(alloc, text, fault)?;
-    let told = script_text(alloc, fault, &found)?;
-    Ok(told)
+        Err(error) => return no_json(alloc, text, &error),
+    };
+    let (member, column, said) = match fault {
+        ScriptFault::OutOfMemory => return Err(AllocError),
+        ScriptFault::BadObject(object) => told_of_object(alloc, &value, object)?,
+        ScriptFault::BadThread(_) => instead(alloc, THREAD, CALLS)?,
+        ScriptFault::BadCall(thread, call) => told_of_call(alloc, &value, thread, call)?,
+        _ => instead(alloc, TOP, SCRIPT)?,
+    };
+    Ok(Wrong {
+        place: Place::Part(fault, member, column),
+        said,
+    })
 }

@@ -1,27 +1,16 @@
 //! Where a text is wrong: the line and the word, what is expected there, and an example of a right line.
 //!
-//! A right line has one of some shapes, which are lists of slots. Each slot takes some words. The wrong word
-//! of a line is the first one that no right line has after the words before it (`specs/`).
+//! The readers of the texts tell the wrong line. They are asked for the word too: the first words of the line
+//! are put before the end of an example, and the line that this gives is read (`reach`).
 #![tactic(auto)]
 
-mod base_shapes;
-mod base_sums;
-mod call_shapes;
-mod entry_shapes;
-mod header_shapes;
-mod in_call;
+mod examples;
 mod in_history;
-mod in_object;
 mod in_script;
 mod in_steps;
-mod line_report;
 mod lines;
-pub mod names;
+mod reach;
+mod reader;
 pub mod report;
-mod script_values;
-mod script_words;
-pub mod shape;
-pub mod slot;
 mod spelling;
-mod step_shapes;
-mod wrong;
+pub mod wrong;

@@ -60,7 +60,8 @@ impl<T: Drop, I: Keeps<T>> Pool<T, I> {
         ensures called { Called pass.old pass.new }
         ensures items { IfOk result (λ items. length items ≡ n) }
         ensures kept { IfOk result (λ items. All I.invariant items) }
-        ensures returned { CallReturns self.now.when_full (fetches (P.did parking.now) n Plain) pass.old pass.new
+        ensures returned { CallReturns self.now.when_full (fetches (P.did parking.now) n Plain) pass.old
+            pass.new
             (with_yes result) }
     {
         self.fetch(rt, parking, pass, n, How::Plain)
@@ -79,7 +80,8 @@ impl<T: Drop, I: Keeps<T>> Pool<T, I> {
         ensures called { Called pass.old pass.new }
         ensures items { IfOk result (λ got. IfSome got (λ items. length items ≡ n)) }
         ensures kept { IfOk result (λ got. IfSome got (λ items. All I.invariant items)) }
-        ensures returned { CallReturns self.now.when_full (tries_fetch (P.did parking.now) n) pass.old pass.new
+        ensures returned { CallReturns self.now.when_full (tries_fetch (P.did parking.now) n) pass.old
+            pass.new
             (yes_if_some result) }
     {
         self.take(rt, parking, pass, PoolCall::Try(n))
@@ -100,7 +102,8 @@ impl<T: Drop, I: Keeps<T>> Pool<T, I> {
         ensures called { Called pass.old pass.new }
         ensures items { IfOk result (λ got. IfSome got (λ items. length items ≡ n)) }
         ensures kept { IfOk result (λ got. IfSome got (λ items. All I.invariant items)) }
-        ensures returned { CallReturns self.now.when_full (fetches (P.did parking.now) n (Timed ms)) pass.old pass.new
+        ensures returned { CallReturns self.now.when_full (fetches (P.did parking.now) n (Timed ms)) pass.old
+            pass.new
             (yes_if_some result) }
     {
         self.take(rt, parking, pass, PoolCall::Acquire(n, How::Timed(ms)))
@@ -230,7 +233,8 @@ impl<T: Drop, I: Keeps<T>> Pool<T, I> {
         requires can { CanCall self.now.lock (P.seats parking.now) pass.old }
         ensures called { Called pass.old pass.new }
         ensures kept { IfOk result (λ got. IfSome got (λ item. I.invariant item)) }
-        ensures returned { CallReturns self.now.when_full (tries_fetch (P.did parking.now) 1) pass.old pass.new
+        ensures returned { CallReturns self.now.when_full (tries_fetch (P.did parking.now) 1) pass.old
+            pass.new
             (yes_if_some result) }
     {
         match self.try_acquire(rt, parking, pass, 1) {
@@ -251,7 +255,8 @@ impl<T: Drop, I: Keeps<T>> Pool<T, I> {
         requires can { CanCall self.now.lock (P.seats parking.now) pass.old }
         ensures called { Called pass.old pass.new }
         ensures kept { IfOk result (λ got. IfSome got (λ item. I.invariant item)) }
-        ensures returned { CallReturns self.now.when_full (fetches (P.did parking.now) 1 (Timed ms)) pass.old pass.new
+        ensures returned { CallReturns self.now.when_full (fetches (P.did parking.now) 1 (Timed ms)) pass.old
+            pass.new
             (yes_if_some result) }
     {
         match self.try_acquire_for(rt, parking, pass, 1, ms) {

@@ -90,12 +90,15 @@ impl<'a, T: Drop, P: Parking, R: Wait + Clock, I: Keeps<T>, H: Hooks + Drop> Gua
     /// so test again what was waited for. `Ok(true)`, or a fault: only a timed wait returns `Ok(false)`. This is
     /// `Condition.await()` of Java SE 8.
     pub fn wait(&mut self, condition: u8) -> Result<bool, Fault>
-        requires guards { Guards self.old.lock.now (P.seats self.old.parking.now) self.old.pass.now self.old.slot }
+        requires guards { Guards self.old.lock.now (P.seats self.old.parking.now) self.old.pass.now
+            self.old.slot }
         requires kept { Kept I.invariant self.old.slot }
         ensures same_reference { self.new.pass.ghost_name ≡ self.old.pass.ghost_name }
         ensures same { IsSame self.old.pass.now self.new.pass.now }
-        ensures same_lock { (self.new.lock.now ≡ self.old.lock.now) × (self.new.parking.now ≡ self.old.parking.now) }
-        ensures guards { Guards self.new.lock.now (P.seats self.new.parking.now) self.new.pass.now self.new.slot }
+        ensures same_lock { (self.new.lock.now ≡ self.old.lock.now) ×
+            (self.new.parking.now ≡ self.old.parking.now) }
+        ensures guards { Guards self.new.lock.now (P.seats self.new.parking.now) self.new.pass.now
+            self.new.slot }
         ensures kept { Kept I.invariant self.new.slot }
         ensures keeps { holds self.new.pass.now ≡ holds self.old.pass.now }
         ensures value { IfErr result (λ fault. fault ≢ Interrupted → self.new.slot ≡ self.old.slot) }
@@ -111,12 +114,15 @@ impl<'a, T: Drop, P: Parking, R: Wait + Clock, I: Keeps<T>, H: Hooks + Drop> Gua
     /// [`wait`](Guard::wait), for `ms` milliseconds at most. Returns whether it was signalled. This is
     /// `Condition.await(time, unit)`.
     pub fn wait_for(&mut self, condition: u8, ms: u32) -> Result<bool, Fault>
-        requires guards { Guards self.old.lock.now (P.seats self.old.parking.now) self.old.pass.now self.old.slot }
+        requires guards { Guards self.old.lock.now (P.seats self.old.parking.now) self.old.pass.now
+            self.old.slot }
         requires kept { Kept I.invariant self.old.slot }
         ensures same_reference { self.new.pass.ghost_name ≡ self.old.pass.ghost_name }
         ensures same { IsSame self.old.pass.now self.new.pass.now }
-        ensures same_lock { (self.new.lock.now ≡ self.old.lock.now) × (self.new.parking.now ≡ self.old.parking.now) }
-        ensures guards { Guards self.new.lock.now (P.seats self.new.parking.now) self.new.pass.now self.new.slot }
+        ensures same_lock { (self.new.lock.now ≡ self.old.lock.now) ×
+            (self.new.parking.now ≡ self.old.parking.now) }
+        ensures guards { Guards self.new.lock.now (P.seats self.new.parking.now) self.new.pass.now
+            self.new.slot }
         ensures kept { Kept I.invariant self.new.slot }
         ensures keeps { holds self.new.pass.now ≡ holds self.old.pass.now }
         ensures value { IfErr result (λ fault. fault ≢ Interrupted → self.new.slot ≡ self.old.slot) }
@@ -132,12 +138,15 @@ impl<'a, T: Drop, P: Parking, R: Wait + Clock, I: Keeps<T>, H: Hooks + Drop> Gua
     /// [`wait_for`](Guard::wait_for) until a moment on the clock of the parking, which `parking.now(rt)`
     /// shows. Java's `Condition.awaitUntil` takes a date instead.
     pub fn wait_until(&mut self, condition: u8, moment: u64) -> Result<bool, Fault>
-        requires guards { Guards self.old.lock.now (P.seats self.old.parking.now) self.old.pass.now self.old.slot }
+        requires guards { Guards self.old.lock.now (P.seats self.old.parking.now) self.old.pass.now
+            self.old.slot }
         requires kept { Kept I.invariant self.old.slot }
         ensures same_reference { self.new.pass.ghost_name ≡ self.old.pass.ghost_name }
         ensures same { IsSame self.old.pass.now self.new.pass.now }
-        ensures same_lock { (self.new.lock.now ≡ self.old.lock.now) × (self.new.parking.now ≡ self.old.parking.now) }
-        ensures guards { Guards self.new.lock.now (P.seats self.new.parking.now) self.new.pass.now self.new.slot }
+        ensures same_lock { (self.new.lock.now ≡ self.old.lock.now) ×
+            (self.new.parking.now ≡ self.old.parking.now) }
+        ensures guards { Guards self.new.lock.now (P.seats self.new.parking.now) self.new.pass.now
+            self.new.slot }
         ensures kept { Kept I.invariant self.new.slot }
         ensures keeps { holds self.new.pass.now ≡ holds self.old.pass.now }
         ensures value { IfErr result (λ fault. fault ≢ Interrupted → self.new.slot ≡ self.old.slot) }
@@ -152,12 +161,15 @@ impl<'a, T: Drop, P: Parking, R: Wait + Clock, I: Keeps<T>, H: Hooks + Drop> Gua
     /// [`wait`](Guard::wait), but an interrupt doesn't end it, and stays pending. `Ok(true)`, or a fault. This is
     /// `Condition.awaitUninterruptibly()`.
     pub fn wait_uninterruptibly(&mut self, condition: u8) -> Result<bool, Fault>
-        requires guards { Guards self.old.lock.now (P.seats self.old.parking.now) self.old.pass.now self.old.slot }
+        requires guards { Guards self.old.lock.now (P.seats self.old.parking.now) self.old.pass.now
+            self.old.slot }
         requires kept { Kept I.invariant self.old.slot }
         ensures same_reference { self.new.pass.ghost_name ≡ self.old.pass.ghost_name }
         ensures same { IsSame self.old.pass.now self.new.pass.now }
-        ensures same_lock { (self.new.lock.now ≡ self.old.lock.now) × (self.new.parking.now ≡ self.old.parking.now) }
-        ensures guards { Guards self.new.lock.now (P.seats self.new.parking.now) self.new.pass.now self.new.slot }
+        ensures same_lock { (self.new.lock.now ≡ self.old.lock.now) ×
+            (self.new.parking.now ≡ self.old.parking.now) }
+        ensures guards { Guards self.new.lock.now (P.seats self.new.parking.now) self.new.pass.now
+            self.new.slot }
         ensures kept { Kept I.invariant self.new.slot }
         ensures keeps { holds self.new.pass.now ≡ holds self.old.pass.now }
         ensures value { IfErr result (λ fault. fault ≢ Interrupted → self.new.slot ≡ self.old.slot) }
@@ -177,13 +189,16 @@ impl<'a, T: Drop, P: Parking, R: Wait + Clock, I: Keeps<T>, H: Hooks + Drop> Gua
         condition: u8,
         predicate: F,
     ) -> Result<(), Fault>
-        requires guards { Guards self.old.lock.now (P.seats self.old.parking.now) self.old.pass.now self.old.slot }
+        requires guards { Guards self.old.lock.now (P.seats self.old.parking.now) self.old.pass.now
+            self.old.slot }
         requires kept { Kept I.invariant self.old.slot }
         requires callable { F.IsAlwaysCallable predicate }
         ensures same_reference { self.new.pass.ghost_name ≡ self.old.pass.ghost_name }
         ensures same { IsSame self.old.pass.now self.new.pass.now }
-        ensures same_lock { (self.new.lock.now ≡ self.old.lock.now) × (self.new.parking.now ≡ self.old.parking.now) }
-        ensures guards { Guards self.new.lock.now (P.seats self.new.parking.now) self.new.pass.now self.new.slot }
+        ensures same_lock { (self.new.lock.now ≡ self.old.lock.now) ×
+            (self.new.parking.now ≡ self.old.parking.now) }
+        ensures guards { Guards self.new.lock.now (P.seats self.new.parking.now) self.new.pass.now
+            self.new.slot }
         ensures kept { Kept I.invariant self.new.slot }
         ensures keeps { holds self.new.pass.now ≡ holds self.old.pass.now }
         ensures over { IfOk result (λ _. Sees (FnReturnsAt F.Fn predicate) self.new.slot false) }
@@ -213,13 +228,16 @@ impl<'a, T: Drop, P: Parking, R: Wait + Clock, I: Keeps<T>, H: Hooks + Drop> Gua
         ms: u32,
         predicate: F,
     ) -> Result<bool, Fault>
-        requires guards { Guards self.old.lock.now (P.seats self.old.parking.now) self.old.pass.now self.old.slot }
+        requires guards { Guards self.old.lock.now (P.seats self.old.parking.now) self.old.pass.now
+            self.old.slot }
         requires kept { Kept I.invariant self.old.slot }
         requires callable { F.IsAlwaysCallable predicate }
         ensures same_reference { self.new.pass.ghost_name ≡ self.old.pass.ghost_name }
         ensures same { IsSame self.old.pass.now self.new.pass.now }
-        ensures same_lock { (self.new.lock.now ≡ self.old.lock.now) × (self.new.parking.now ≡ self.old.parking.now) }
-        ensures guards { Guards self.new.lock.now (P.seats self.new.parking.now) self.new.pass.now self.new.slot }
+        ensures same_lock { (self.new.lock.now ≡ self.old.lock.now) ×
+            (self.new.parking.now ≡ self.old.parking.now) }
+        ensures guards { Guards self.new.lock.now (P.seats self.new.parking.now) self.new.pass.now
+            self.new.slot }
         ensures kept { Kept I.invariant self.new.slot }
         ensures keeps { holds self.new.pass.now ≡ holds self.old.pass.now }
         ensures over { IfOk result (λ is_over. Sees (FnReturnsAt F.Fn predicate) self.new.slot (not is_over)) }
@@ -228,7 +246,8 @@ impl<'a, T: Drop, P: Parking, R: Wait + Clock, I: Keeps<T>, H: Hooks + Drop> Gua
             (WaitsWhile (FnReturnsAt F.Fn predicate) (AwaitsUntil (P.did self.old.parking.now)
             self.old.lock.now.when_full condition (moment_after begun ms)))
             (owner self.old.pass.now self.old.slot) (owner self.new.pass.now self.new.slot)) }
-        ensures failed { IfErr result (λ fault. (begun : _) × P.did self.old.parking.now (showed begun) × WaitFailed
+        ensures failed { IfErr result
+            (λ fault. (begun : _) × P.did self.old.parking.now (showed begun) × WaitFailed
             (WaitsWhile (FnReturnsAt F.Fn predicate) (AwaitsUntil (P.did self.old.parking.now)
             self.old.lock.now.when_full condition (moment_after begun ms)))
             (owner self.old.pass.now self.old.slot) (owner self.new.pass.now self.new.slot) fault) }
@@ -245,13 +264,16 @@ impl<'a, T: Drop, P: Parking, R: Wait + Clock, I: Keeps<T>, H: Hooks + Drop> Gua
         moment: u64,
         predicate: F,
     ) -> Result<bool, Fault>
-        requires guards { Guards self.old.lock.now (P.seats self.old.parking.now) self.old.pass.now self.old.slot }
+        requires guards { Guards self.old.lock.now (P.seats self.old.parking.now) self.old.pass.now
+            self.old.slot }
         requires kept { Kept I.invariant self.old.slot }
         requires callable { F.IsAlwaysCallable predicate }
         ensures same_reference { self.new.pass.ghost_name ≡ self.old.pass.ghost_name }
         ensures same { IsSame self.old.pass.now self.new.pass.now }
-        ensures same_lock { (self.new.lock.now ≡ self.old.lock.now) × (self.new.parking.now ≡ self.old.parking.now) }
-        ensures guards { Guards self.new.lock.now (P.seats self.new.parking.now) self.new.pass.now self.new.slot }
+        ensures same_lock { (self.new.lock.now ≡ self.old.lock.now) ×
+            (self.new.parking.now ≡ self.old.parking.now) }
+        ensures guards { Guards self.new.lock.now (P.seats self.new.parking.now) self.new.pass.now
+            self.new.slot }
         ensures kept { Kept I.invariant self.new.slot }
         ensures keeps { holds self.new.pass.now ≡ holds self.old.pass.now }
         ensures over { IfOk result (λ is_over. Sees (FnReturnsAt F.Fn predicate) self.new.slot (not is_over)) }
@@ -281,11 +303,14 @@ impl<'a, T: Drop, P: Parking, R: Wait + Clock, I: Keeps<T>, H: Hooks + Drop> Gua
     /// Moves the first waiter of the condition into the wait queue of the lock, if there is one. The guard keeps the
     /// value. This is `Condition.signal()`.
     pub fn signal(&mut self, condition: u8) -> Result<(), Fault>
-        requires guards { Guards self.old.lock.now (P.seats self.old.parking.now) self.old.pass.now self.old.slot }
+        requires guards { Guards self.old.lock.now (P.seats self.old.parking.now) self.old.pass.now
+            self.old.slot }
         ensures same_reference { self.new.pass.ghost_name ≡ self.old.pass.ghost_name }
         ensures same { IsSame self.old.pass.now self.new.pass.now }
-        ensures same_lock { (self.new.lock.now ≡ self.old.lock.now) × (self.new.parking.now ≡ self.old.parking.now) }
-        ensures guards { Guards self.new.lock.now (P.seats self.new.parking.now) self.new.pass.now self.new.slot }
+        ensures same_lock { (self.new.lock.now ≡ self.old.lock.now) ×
+            (self.new.parking.now ≡ self.old.parking.now) }
+        ensures guards { Guards self.new.lock.now (P.seats self.new.parking.now) self.new.pass.now
+            self.new.slot }
         ensures keeps { holds self.new.pass.now ≡ holds self.old.pass.now }
         ensures signalled { CallReturnsDone self.old.lock.now.when_full
             (signals (P.did self.old.parking.now) false condition)
@@ -302,11 +327,14 @@ impl<'a, T: Drop, P: Parking, R: Wait + Clock, I: Keeps<T>, H: Hooks + Drop> Gua
     /// Moves all waiters of the condition into the wait queue of the lock, in order. The guard keeps the value. This
     /// is `Condition.signalAll()`.
     pub fn signal_all(&mut self, condition: u8) -> Result<(), Fault>
-        requires guards { Guards self.old.lock.now (P.seats self.old.parking.now) self.old.pass.now self.old.slot }
+        requires guards { Guards self.old.lock.now (P.seats self.old.parking.now) self.old.pass.now
+            self.old.slot }
         ensures same_reference { self.new.pass.ghost_name ≡ self.old.pass.ghost_name }
         ensures same { IsSame self.old.pass.now self.new.pass.now }
-        ensures same_lock { (self.new.lock.now ≡ self.old.lock.now) × (self.new.parking.now ≡ self.old.parking.now) }
-        ensures guards { Guards self.new.lock.now (P.seats self.new.parking.now) self.new.pass.now self.new.slot }
+        ensures same_lock { (self.new.lock.now ≡ self.old.lock.now) ×
+            (self.new.parking.now ≡ self.old.parking.now) }
+        ensures guards { Guards self.new.lock.now (P.seats self.new.parking.now) self.new.pass.now
+            self.new.slot }
         ensures keeps { holds self.new.pass.now ≡ holds self.old.pass.now }
         ensures signalled { CallReturnsDone self.old.lock.now.when_full
             (signals (P.did self.old.parking.now) true condition)
@@ -320,11 +348,14 @@ impl<'a, T: Drop, P: Parking, R: Wait + Clock, I: Keeps<T>, H: Hooks + Drop> Gua
     /// Acquires the lock once more: `Ok(true)`, or a fault. `Err(TooManyHolds)` with 2147483647 holds. This is
     /// `ReentrantLock.lock()` by its owner.
     pub fn again(&mut self) -> Result<bool, Fault>
-        requires guards { Guards self.old.lock.now (P.seats self.old.parking.now) self.old.pass.now self.old.slot }
+        requires guards { Guards self.old.lock.now (P.seats self.old.parking.now) self.old.pass.now
+            self.old.slot }
         ensures same_reference { self.new.pass.ghost_name ≡ self.old.pass.ghost_name }
         ensures same { IsSame self.old.pass.now self.new.pass.now }
-        ensures same_lock { (self.new.lock.now ≡ self.old.lock.now) × (self.new.parking.now ≡ self.old.parking.now) }
-        ensures guards { Guards self.new.lock.now (P.seats self.new.parking.now) self.new.pass.now self.new.slot }
+        ensures same_lock { (self.new.lock.now ≡ self.old.lock.now) ×
+            (self.new.parking.now ≡ self.old.parking.now) }
+        ensures guards { Guards self.new.lock.now (P.seats self.new.parking.now) self.new.pass.now
+            self.new.slot }
         ensures gains { holds self.new.pass.now ≡ holds self.old.pass.now + gained result }
         ensures acquired { CallReturns self.old.lock.now.when_full
             (acquires (P.did self.old.parking.now) Plain)
@@ -337,14 +368,18 @@ impl<'a, T: Drop, P: Parking, R: Wait + Clock, I: Keeps<T>, H: Hooks + Drop> Gua
 
     /// Releases one of several holds. It can't fail.
     pub fn leave(&mut self)
-        requires guards { Guards self.old.lock.now (P.seats self.old.parking.now) self.old.pass.now self.old.slot }
+        requires guards { Guards self.old.lock.now (P.seats self.old.parking.now) self.old.pass.now
+            self.old.slot }
         requires several { 1 < holds self.old.pass.now }
         ensures same_reference { self.new.pass.ghost_name ≡ self.old.pass.ghost_name }
         ensures same { IsSame self.old.pass.now self.new.pass.now }
-        ensures same_lock { (self.new.lock.now ≡ self.old.lock.now) × (self.new.parking.now ≡ self.old.parking.now) }
-        ensures guards { Guards self.new.lock.now (P.seats self.new.parking.now) self.new.pass.now self.new.slot }
+        ensures same_lock { (self.new.lock.now ≡ self.old.lock.now) ×
+            (self.new.parking.now ≡ self.old.parking.now) }
+        ensures guards { Guards self.new.lock.now (P.seats self.new.parking.now) self.new.pass.now
+            self.new.slot }
         ensures loses { holds self.new.pass.now + 1 ≡ holds self.old.pass.now }
-        ensures recorded { IsRecorded (P.did self.old.parking.now) self.old.pass.now (Give X 1) self.new.pass.now }
+        ensures recorded { IsRecorded (P.did self.old.parking.now) self.old.pass.now (Give X 1)
+            self.new.pass.now }
         ensures value { self.new.slot ≡ self.old.slot }
     {
         let pass = &mut *self.pass;
@@ -358,7 +393,8 @@ impl<'a, T: Drop, P: Parking, R: Wait + Clock, I: Keeps<T>, H: Hooks + Drop> Gua
         requires kept { Kept I.invariant self.slot }
         ensures free { holds self.exit.0.now ≡ 0 }
         ensures called { Called self.entry.pass.now self.exit.0.now }
-        ensures recorded { IsRecorded (P.did self.entry.parking.now) self.entry.pass.now (Give X 1) self.exit.0.now }
+        ensures recorded { IsRecorded (P.did self.entry.parking.now) self.entry.pass.now (Give X 1)
+            self.exit.0.now }
     {}
 }
 
@@ -370,7 +406,8 @@ impl<T: Drop, P: Parking, R: Wait + Clock, I: Keeps<T>, H: Hooks + Drop> Drop
         requires kept { Kept I.invariant self.slot }
         ensures free { holds self.exit.0.now ≡ 0 }
         ensures called { Called self.entry.pass.now self.exit.0.now }
-        ensures recorded { IsRecorded (P.did self.entry.parking.now) self.entry.pass.now (Give X 1) self.exit.0.now }
+        ensures recorded { IsRecorded (P.did self.entry.parking.now) self.entry.pass.now (Give X 1)
+            self.exit.0.now }
     {
         let Guard {
             pass,

@@ -40,7 +40,8 @@ impl<T: Drop, I: Keeps<T>> Pool<T, I> {
             → FnOnceReturnsAtMut F.FnOnce work before answer after → I.invariant after }
         ensures called { Called pass.old pass.new }
         ensures lent { IsLent self.now.when_full (P.did parking.now)
-            (λ before answer after. FnOnceReturnsAtMut F.FnOnce work before answer after) pass.old pass.new result }
+            (λ before answer after. FnOnceReturnsAtMut F.FnOnce work before answer after) pass.old pass.new
+            result }
     {
         let mut item = match self.acquire_one(rt, parking, pass) {
             Ok(item) => item,

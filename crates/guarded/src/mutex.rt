@@ -242,9 +242,7 @@ impl<T: Drop, I: Keeps<T>, H: Hooks + Drop> Mutex<T, I, H> {
     pub fn view(&self) -> View<'_, H, Slot<T, I>>
         ensures { result.monitor.now ≡ self.now.lock }
     {
-        View {
-            monitor: &self.monitor,
-        }
+        View::of(&self.monitor)
     }
 }
 
@@ -300,7 +298,8 @@ impl<T: Drop, I: Keeps<T>, H: Hooks + Drop> Mutex<T, I, H> {
             Locked self.now.when_full (call_of (P.did parking.now) asked) pass.old slot pass.new) }
         ensures kept { IfOk result (λ slot. Kept I.invariant slot) }
         ensures not_locked { IfErr result (λ fault.
-            NotLocked self.now.when_full (call_of (P.did parking.now) asked) pass.old (missed_as_no fault) pass.new) }
+            NotLocked self.now.when_full (call_of (P.did parking.now) asked) pass.old (missed_as_no fault)
+            pass.new) }
     {
         let mut slot = Slot::Empty;
         let reply = self.call(rt, parking, pass, &mut slot, asked);
@@ -395,7 +394,8 @@ impl<T: Drop, I: Keeps<T>, H: Hooks + Drop> Mutex<T, I, H> {
         ensures same { IsSame pass.old pass.new }
         ensures guards { Guards self.now (P.seats parking.now) pass.new slot.new }
         ensures kept { Kept I.invariant slot.new }
-        ensures awaited { CallReturns self.now.when_full (awaits (P.did parking.now) condition how) pass.old pass.new result }
+        ensures awaited { CallReturns self.now.when_full (awaits (P.did parking.now) condition how) pass.old
+            pass.new result }
         ensures keeps { holds pass.new ≡ holds pass.old }
         ensures stays { IfErr result (λ fault. fault ≢ Interrupted → slot.new ≡ slot.old) }
     {
@@ -412,7 +412,8 @@ impl<T: Drop, I: Keeps<T>, H: Hooks + Drop> Mutex<T, I, H> {
         requires can { CanCall self.now.lock (P.seats parking.now) pass.old }
         requires has { 0 < holds pass.old }
         ensures same { IsSame pass.old pass.new }
-        ensures acquired { CallReturns self.now.when_full (acquires (P.did parking.now) Plain) pass.old pass.new result }
+        ensures acquired { CallReturns self.now.when_full (acquires (P.did parking.now) Plain) pass.old
+            pass.new result }
         ensures gains { holds pass.new ≡ holds pass.old + gained result }
     {
         let mut lent = Slot::Lent(PhantomData);

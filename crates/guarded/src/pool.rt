@@ -235,9 +235,7 @@ impl<T: Drop, I: Keeps<T>> Pool<T, I> {
     pub fn view(&self) -> View<'_, SemaphoreHooks, Shelf<T, I>>
         ensures { result.monitor.now ≡ self.now.lock }
     {
-        View {
-            monitor: &self.monitor,
-        }
+        View::of(&self.monitor)
     }
 }
 
@@ -292,7 +290,8 @@ impl<T: Drop, I: Keeps<T>> Pool<T, I> {
         ensures called { Called pass.old pass.new }
         ensures items { IfOk result (λ got. IfSome got (λ items. length items ≡ asked_by asked)) }
         ensures kept { IfOk result (λ got. IfSome got (λ items. All I.invariant items)) }
-        ensures returned { CallReturns self.now.when_full (pool_call (P.did parking.now) asked) pass.old pass.new
+        ensures returned { CallReturns self.now.when_full (pool_call (P.did parking.now) asked) pass.old
+            pass.new
             (yes_if_some result) }
         ensures answers { Answers asked (yes_if_some result) }
     {
@@ -331,7 +330,8 @@ impl<T: Drop, I: Keeps<T>> Pool<T, I> {
         ensures called { Called pass.old pass.new }
         ensures items { IfOk result (λ items. length items ≡ n) }
         ensures kept { IfOk result (λ items. All I.invariant items) }
-        ensures returned { CallReturns self.now.when_full (fetches (P.did parking.now) n how) pass.old pass.new
+        ensures returned { CallReturns self.now.when_full (fetches (P.did parking.now) n how) pass.old
+            pass.new
             (with_yes result) }
     {
         match self.take(rt, parking, pass, PoolCall::Acquire(n, how)) {

@@ -71,7 +71,8 @@ impl<T: Drop, I: Keeps<T>, H: Hooks + Drop> Mutex<T, I, H> {
     ) -> Result<(), TryLockFault>
         requires can { CanLock self.now (P.seats parking.now) pass.old }
         ensures called { Called pass.old pass.new }
-        ensures returned { CallReturns self.now.when_full (reading_of (P.did parking.now) asked) pass.old pass.new
+        ensures returned { CallReturns self.now.when_full (reading_of (P.did parking.now) asked) pass.old
+            pass.new
             (yes_unless_missed result) }
         ensures gains { GainsReads pass.old (yes_unless_missed result) pass.new }
     {
@@ -116,7 +117,8 @@ impl<T: Drop, I: Keeps<T>, H: Hooks + Drop> Mutex<T, I, H> {
         requires can { CanCall self.now.lock (P.seats parking.now) pass.old }
         requires has { 0 < holds pass.old }
         ensures same { IsSame pass.old pass.new }
-        ensures returned { CallReturns self.now.when_full (reads_by (P.did parking.now) Plain) pass.old pass.new result }
+        ensures returned { CallReturns self.now.when_full (reads_by (P.did parking.now) Plain) pass.old
+            pass.new result }
         ensures gains { GainsReads pass.old result pass.new }
     {
         let mut lent = Slot::Lent(PhantomData);
@@ -155,7 +157,8 @@ impl<T: Drop, I: Keeps<T>, H: Hooks + Drop> Mutex<T, I, H> {
         ensures looked { IsLook pass.old pass.new }
         ensures reads { reads pass.new ≡ reads pass.old }
         ensures keeps { holds pass.new ≡ holds pass.old }
-        ensures saw { Saw I.invariant (λ value answer. FnOnceReturnsAt F.FnOnce look value answer) pass.new result }
+        ensures saw { Saw I.invariant (λ value answer. FnOnceReturnsAt F.FnOnce look value answer) pass.new
+            result }
     {
         let seen = self.monitor.look_with(
             rt,

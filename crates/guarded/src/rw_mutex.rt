@@ -133,7 +133,8 @@ impl<T: Drop> RwMutex<T> {
         cap: u32,
     ) -> Result<(RwMutex<T>, Vec<Pass>), (T, Fault)>
         requires { IsInRange (header_of (ReadWrite policy) seats conditions cap) }
-        ensures header { IfOk result (λ r. r.0.lock.header ≡ header_of (ReadWrite policy) seats conditions cap) }
+        ensures header { IfOk result
+            (λ r. r.0.lock.header ≡ header_of (ReadWrite policy) seats conditions cap) }
         ensures when_full { IfOk result (λ r. r.0.when_full ≡ when_full) }
         ensures passes { IfOk result (λ r.
             r.1.items ≡ opening_passes r.0.lock (blank r.0.lock.header) 0 seats) }
@@ -191,7 +192,8 @@ impl<T: Drop, I: Keeps<T>> RwMutex<T, I> {
     ) -> Result<(RwMutex<T, I>, Vec<Pass>), (T, Fault)>
         requires range { IsInRange (header_of (ReadWrite policy) seats conditions cap) }
         requires kept { I.invariant value }
-        ensures header { IfOk result (λ r. r.0.lock.header ≡ header_of (ReadWrite policy) seats conditions cap) }
+        ensures header { IfOk result
+            (λ r. r.0.lock.header ≡ header_of (ReadWrite policy) seats conditions cap) }
         ensures when_full { IfOk result (λ r. r.0.when_full ≡ when_full) }
         ensures passes { IfOk result (λ r.
             r.1.items ≡ opening_passes r.0.lock (blank r.0.lock.header) 0 seats) }
@@ -391,7 +393,8 @@ impl<T: Drop, I: Keeps<T>> RwMutex<T, I> {
     ) -> Result<(), Fault>
         requires can { CanLock self.now (P.seats parking.now) pass.old }
         ensures called { Called pass.old pass.new }
-        ensures returned { CallReturns self.now.when_full (reads_by (P.did parking.now) Plain) pass.old pass.new
+        ensures returned { CallReturns self.now.when_full (reads_by (P.did parking.now) Plain) pass.old
+            pass.new
             (with_yes result) }
         ensures gains { GainsReads pass.old (with_yes result) pass.new }
     {
@@ -408,7 +411,8 @@ impl<T: Drop, I: Keeps<T>> RwMutex<T, I> {
     ) -> Result<(), Fault>
         requires can { CanLock self.now (P.seats parking.now) pass.old }
         ensures called { Called pass.old pass.new }
-        ensures returned { CallReturns self.now.when_full (reads_by (P.did parking.now) Interruptible) pass.old pass.new
+        ensures returned { CallReturns self.now.when_full (reads_by (P.did parking.now) Interruptible)
+            pass.old pass.new
             (with_yes result) }
         ensures gains { GainsReads pass.old (with_yes result) pass.new }
     {
@@ -445,7 +449,8 @@ impl<T: Drop, I: Keeps<T>> RwMutex<T, I> {
     ) -> Result<(), TryLockFault>
         requires can { CanLock self.now (P.seats parking.now) pass.old }
         ensures called { Called pass.old pass.new }
-        ensures returned { CallReturns self.now.when_full (reads_by (P.did parking.now) (Timed ms)) pass.old pass.new
+        ensures returned { CallReturns self.now.when_full (reads_by (P.did parking.now) (Timed ms)) pass.old
+            pass.new
             (yes_unless_missed result) }
         ensures gains { GainsReads pass.old (yes_unless_missed result) pass.new }
     {
@@ -484,7 +489,8 @@ impl<T: Drop, I: Keeps<T>> RwMutex<T, I> {
         ensures looked { IsLook pass.old pass.new }
         ensures reads { reads pass.new ≡ reads pass.old }
         ensures keeps { holds pass.new ≡ holds pass.old }
-        ensures saw { Saw I.invariant (λ value answer. FnOnceReturnsAt F.FnOnce look value answer) pass.new result }
+        ensures saw { Saw I.invariant (λ value answer. FnOnceReturnsAt F.FnOnce look value answer) pass.new
+            result }
     {
         self.mutex.look(rt, pass, look)
     }
@@ -513,11 +519,14 @@ impl<T: Drop, P: Parking, R: Wait + Clock, I: Keeps<T>> Guard<'_, T, P, R, I, Rw
     /// Acquires a read hold beside the write hold: `Ok(true)`, or a fault. This is `ReadLock.lock()` by the owner
     /// of the write lock.
     pub fn read(&mut self) -> Result<bool, Fault>
-        requires guards { Guards self.old.lock.now (P.seats self.old.parking.now) self.old.pass.now self.old.slot }
+        requires guards { Guards self.old.lock.now (P.seats self.old.parking.now) self.old.pass.now
+            self.old.slot }
         ensures same_reference { self.new.pass.ghost_name ≡ self.old.pass.ghost_name }
         ensures same { IsSame self.old.pass.now self.new.pass.now }
-        ensures same_lock { (self.new.lock.now ≡ self.old.lock.now) × (self.new.parking.now ≡ self.old.parking.now) }
-        ensures guards { Guards self.new.lock.now (P.seats self.new.parking.now) self.new.pass.now self.new.slot }
+        ensures same_lock { (self.new.lock.now ≡ self.old.lock.now) ×
+            (self.new.parking.now ≡ self.old.parking.now) }
+        ensures guards { Guards self.new.lock.now (P.seats self.new.parking.now) self.new.pass.now
+            self.new.slot }
         ensures returned { CallReturns self.old.lock.now.when_full
             (reads_by (P.did self.old.parking.now) Plain)
             self.old.pass.now self.new.pass.now result }
@@ -537,6 +546,7 @@ impl<T: Drop, P: Parking, R: Wait + Clock, I: Keeps<T>> Guard<'_, T, P, R, I, Rw
         ensures free { holds self.exit.0.now ≡ 0 }
         ensures reads { reads self.exit.0.now ≡ reads self.entry.pass.now }
         ensures called { Called self.entry.pass.now self.exit.0.now }
-        ensures recorded { IsRecorded (P.did self.entry.parking.now) self.entry.pass.now (Give X 1) self.exit.0.now }
+        ensures recorded { IsRecorded (P.did self.entry.parking.now) self.entry.pass.now (Give X 1)
+            self.exit.0.now }
     {}
 }

@@ -29,7 +29,8 @@ impl<T: Drop, I: Keeps<T>, H: Hooks + Drop> Mutex<T, I, H> {
     ) -> Result<Entry, Fault>
         requires can { CanCall self.now.lock (P.seats parking.now) pass.old }
         ensures called { Called pass.old pass.new }
-        ensures signalled { signals (P.did parking.now) all condition self.now.when_full pass.old result pass.new }
+        ensures signalled { signals (P.did parking.now) all condition self.now.when_full pass.old result
+            pass.new }
         ensures keeps { holds pass.new ≡ holds pass.old }
     {
         let when_full = self.when_full;

@@ -27,6 +27,14 @@ pub struct View<'m, H: Hooks + Drop, L: Load> {
     pub(crate) monitor: &'m Monitor<H, L>,
 }
 
+impl<'m, H: Hooks + Drop, L: Load> View<'m, H, L> {
+    pub(crate) fn of(monitor: &'m Monitor<H, L>) -> Self
+        ensures { result.monitor.now ≡ monitor.now }
+    {
+        View { monitor }
+    }
+}
+
 impl<H: Hooks + Drop, L: Load> View<'_, H, L> {
     /// The holds of a thread in a mode.
     pub fn holds<R: Wait>(&self, rt: &R, pass: &mut Pass, seat: u16, mode: Mode) -> u128

@@ -5,11 +5,10 @@ ghost use Rattle.history.specs.declared.entry.Word.TheVariants.{Await, Lapse, Qu
 ghost use Rattle.history.specs.Base.{holds_of, or_awake, sleep_on};
 ghost use Rattle.history.specs.Counts.{beyond};
 ghost use Rattle.history.specs.Entry.{ends_arrival};
-ghost use Rattle.history.specs.Line.{coming_back};
 ghost use Rattle.history.specs.NextBase.{count_then, joins_from, seat_then, signalled_on, sleepers_then, stays_there};
 ghost use Rattle.history.specs.Object.{is_semaphore};
 
-use crate::arrival::Arrival;
+use crate::arrival::{Arrival, coming_back};
 use crate::base::{LinePlace, SeatBase, Sleeper};
 use crate::entries::ends_call;
 use crate::entry::{End, Entry, Mode, Word};
@@ -112,18 +111,6 @@ fn queued(entry: Entry) -> LinePlace
         condition: 0,
         holds: 0,
         how: End::None,
-    }
-}
-
-/// Returns a waiter that comes back from a condition: it asks for X and 1.
-fn coming_back(seat: u16) -> Arrival
-    ensures { result ≡ coming_back seat }
-{
-    Arrival {
-        seat,
-        mode: Mode::X,
-        n: 1,
-        back: true,
     }
 }
 

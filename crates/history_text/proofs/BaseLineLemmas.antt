@@ -11,9 +11,9 @@ use Rattle.history.proofs.Owners.{most_fits}
 use Rattle.history.proofs.Plain.{ArePlain, words_again}
 use Rattle.history.proofs.Readers.{same_value}
 use Rattle.history.proofs.WideNumbers.{wide_at_again, wide_plain}
-use Rattle.line_text.proofs.Lawful.{Lacks}
-use Rattle.line_text.proofs.Lists.{head_is}
-use Rattle.line_text.proofs.WholeLines.{line_lacks}
+use Rattle.streams.proofs.Lawful.{Lacks}
+use Rattle.streams.proofs.Lists.{head_is}
+use Rattle.streams.proofs.WholeLines.{line_lacks}
 use Rattle.history_text.specs.Prelude.{BaseLine, Folded, Released, CountedDown, Seat, Stands, Sleeps, IsBaseLine, stood_by, base_line, base_words, waiting_by, base_line_at, beside_at, folded_at, has_at, sleeps_at, stands_at, MayFollow, MayHold, BaseSums, HasLine, counts_line, entry_line}
 use Rattle.history_text.specs.declared.base_line.TheConstants.{LAST_SEAT}
 use Rattle.history_text.proofs.Amounts.{few_conditions}

@@ -2,7 +2,7 @@
 use Rattle.std.proofs.Common.{◌≡◌, ◌≢◌, ℕ, ◌+◌, ◌≤◌, true, List, [], ◌∷◌, ◌++◌, length, map, Err, sym, ap, subst, ◌∙◌, arith, inl}
 use Rattle.std.proofs.lemmas.List.{length-map}
 use Rattle.history_text.specs.Below.{IsInRange, HasNoBreak, BadLine, Begins, IsReading}
-use Rattle.line_text.proofs.OneReading.{lacks, same_lines}
+use Rattle.streams.proofs.OneReading.{lacks, same_lines}
 use Rattle.history_text.specs.Prelude.{BaseLine, Head, IsBaseLine, base_line, history_form, IsBaseLineNext, LacksBaseLine, LinesRead, Based, Entered, Line, SomeBeginsSo, line_text, GoodBeginsSo, GoodHas, SomeHas, end_of}
 use Rattle.history_text.proofs.BaseLineLemmas.{base_no_end, base_no_entry, same_base_line}
 use Rattle.history_text.proofs.HistoryItems.{good_whole, next_based, next_entry, same_based}

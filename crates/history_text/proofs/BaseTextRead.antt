@@ -2,7 +2,7 @@
 use Rattle.std.proofs.Common.{◌≡◌, ℕ, ◌≤◌, true, List, [], ◌∷◌, ◌++◌, length, map, refl, sym, ap, subst, ◌∙◌, arith}
 use Rattle.std.proofs.lemmas.List.{map-append}
 use Rattle.history_text.specs.Below.{Base, MOST_FOLDED, ended, Begins}
-use Rattle.line_text.proofs.Growing.{broken, one_more}
+use Rattle.streams.proofs.Growing.{broken, one_more}
 use Rattle.history_text.specs.Prelude.{BaseLine, Head, Place, base_line, base_lines, calls_sum, history_form, AreEntriesRead, LacksBaseLine, Based, Line, GoodBeginsSo, IsToldBase}
 use Rattle.history_text.proofs.HeadWritten.{sum_few}
 use Rattle.history_text.proofs.HistoryItems.{alone_lines, base_alone, based_item, calls_on, told_some}

@@ -4,8 +4,8 @@ use Rattle.history_text.specs.Below.{End, Mode, Word, HasWords, IsWritten, ended
 use Rattle.history.specs.declared.entry.End.TheVariants as end
 use Rattle.history.specs.declared.entry.Word.TheVariants as word
 use Rattle.history.specs.inner.EntryWords.{IsAsked}
-use Rattle.line_text.specs.Once.{AsksOnce}
-use Rattle.line_text.proofs.AskingOnce.{asked_behind}
+use Rattle.streams.specs.Once.{AsksOnce}
+use Rattle.streams.proofs.AskingOnce.{asked_behind}
 use Rattle.history_text.specs.CommonEntry.{once}
 use Rattle.history_text.specs.inner.CommonEntry.{BeginsWith, asked_name}
 

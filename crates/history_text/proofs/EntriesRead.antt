@@ -1,7 +1,7 @@
 -- Entries are read behind a base, one after another.
 use Rattle.std.proofs.Common.{◌≡◌, ℕ, ◌+◌, ◌<◌, List, [], ◌∷◌, ◌++◌, length, Ok, None, Some, refl, sym, ap, subst, ◌∙◌, arith, length-append}
 use Rattle.history_text.specs.Below.{Entry, Base, ended, Begins, Header, IsBaseOf}
-use Rattle.line_text.proofs.Growing.{broken, one_more}
+use Rattle.streams.proofs.Growing.{broken, one_more}
 use Rattle.history_text.specs.Prelude.{Head, Place, entry_line, IsHistoryText, history_form, AreEntriesRead, IsEntryBehind, behind, Entered, calls_told, lines_on, sum_of}
 use Rattle.history_text.proofs.HistoryItems.{ends_on, entry_item, on_push, one_entry, sum-append}
 

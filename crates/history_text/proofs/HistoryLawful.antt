@@ -5,9 +5,9 @@ use Rattle.history_text.specs.Below.{Entry, Header, entry_words, IsInRange, part
 use Rattle.history.proofs.Lists.{ended_calls_le}
 use Rattle.history.proofs.Numbers.{digits_alone}
 use Rattle.history.proofs.Plain.{words_again}
-use Rattle.line_text.proofs.Lawful.{Lacks, IsLawful}
-use Rattle.line_text.proofs.Lists.{head_is, same_behind}
-use Rattle.line_text.proofs.WholeLines.{line_lacks, header_whole, header_one}
+use Rattle.streams.proofs.Lawful.{Lacks, IsLawful}
+use Rattle.streams.proofs.Lists.{head_is, same_behind}
+use Rattle.streams.proofs.WholeLines.{line_lacks, header_whole, header_one}
 use Rattle.history_text.specs.Prelude.{BaseLine, Head, IsBaseLine, HasLine, entry_line, counts_line, name_of, Based, Entered, Line, SomeBeginsSo, SomeHas, calls_told, end_of, entries_told, line_text, lines_on, sum_of, history_form, GoodBeginsSo}
 use Rattle.history_text.proofs.BaseLineLemmas.{base_lacks, base_no_end, base_no_entry, same_base_line}
 use Rattle.history_text.proofs.EntryLemmas.{line_plain, entry_line-words, same_entry, counts_plain, counts_line-words}

@@ -3,7 +3,7 @@ use Rattle.std.proofs.Common.{◌≡◌, ⊎_elim, ℕ, ltb, if◌then◌else◌
 use Rattle.std.specs.List.{AllByRecursion}
 use Rattle.std.proofs.lemmas.List.Elements.{All-from_recursion}
 use Rattle.history_text.specs.Below.{Entry, Header, Base, opening_base, HistoryView, base_on, IsBaseOf, IsInRange, TextFault, Reading}
-use Rattle.line_text.proofs.OneReading.{one}
+use Rattle.streams.proofs.OneReading.{one}
 use Rattle.history_text.specs.Prelude.{Head, HasLine, head_of, lines_told, Fits, IsHistoryReading, IsHistoryText, IsRead, history_form, Line, lines_on, base_by}
 use Rattle.history_text.proofs.BaseRetold.{good_is_told}
 use Rattle.history_text.proofs.HistoryItems.{base_lines_again, base_lines_in, entries_again, entries_of, some_entries}

@@ -3,9 +3,9 @@ use Rattle.std.proofs.Common.{◌≡◌, ◌≢◌, ℕ, ◌+◌, ◌<◌, Bool,
 use Rattle.std.proofs.lemmas.Bool.{eqb-false}
 use Rattle.std.proofs.lemmas.List.{nil_from_length}
 use Rattle.history_text.specs.Below.{Entry, Header, Base, IsInRange, part_of, HasNoBreak, ended, TextFault, BadHeader, BadLine, CutShort, Begins, IsReading}
-use Rattle.line_text.specs.HeaderLine.{LacksHeader}
-use Rattle.line_text.proofs.Growing.{at_end}
-use Rattle.line_text.proofs.OneReading.{lacks, no_line, same_lines}
+use Rattle.streams.specs.HeaderLine.{LacksHeader}
+use Rattle.streams.proofs.Growing.{at_end}
+use Rattle.streams.proofs.OneReading.{lacks, no_line, same_lines}
 use Rattle.history_text.specs.Prelude.{Head, Place, HasLine, counts_line, entry_line, name_of, history_form, AreEntriesRead, IsEntryBehind, Based, Entered, Line, SomeBeginsSo, end_of, line_text, lines_on}
 use Rattle.history_text.proofs.HistoryItems.{ends_on, entries_again, entries_of, entries_on, length-on, next_based, next_entry, none_behind}
 use Rattle.history_text.proofs.HistoryLawful.{good_line, numbered_so}

@@ -3,7 +3,7 @@ use Rattle.std.proofs.Common.{◌≡◌, ℕ, ◌<◌, ◌≤◌, ◌^◌, Bool,
 use Rattle.history_text.specs.Below.{LAST_CONDITION, MOST_AMOUNT, End, Entry, Mode, X, Word, Back, Queued, Header, LinePlace, IsWritten, entry_words, spelt, IsInRange, ended, part_of, HasShortLines}
 use Rattle.history.specs.declared.entry.End.TheVariants as end
 use Rattle.history.specs.declared.entry.Word.TheVariants as word
-use Rattle.line_text.proofs.Lengths.{AreShort, decimal_short, header_short, line_length, mode_short}
+use Rattle.streams.proofs.Lengths.{AreShort, decimal_short, header_short, line_length, mode_short}
 use Rattle.history_text.specs.Prelude.{Head, waiting_by, HasLine, counts_line, entry_line, head_line, name_of, Based, Entered, Line, SomeBeginsSo, calls_told, entries_told, line_text, sum_of, history_form}
 use Rattle.history_text.proofs.BaseLineLemmas.{base_short}
 use Rattle.history_text.proofs.EntryLemmas.{counts_line-words, entry_line-words}

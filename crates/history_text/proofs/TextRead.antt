@@ -4,8 +4,8 @@ use Rattle.std.proofs.lemmas.Bool.{false≢true}
 use Rattle.std.proofs.lemmas.List.{append_cancel_left}
 use Rattle.std.specs.Result.{IsErr, IsErrAnd}
 use Rattle.history_text.specs.Below.{Header, Base, HistoryView, or_opening, ended, ReadFault, lines_of, Begins}
-use Rattle.line_text.specs.declared.fault.ReadFault.TheVariants.{OutOfMemory, Text}
-use Rattle.line_text.proofs.UnderWay.{left_over}
+use Rattle.streams.specs.declared.fault.ReadFault.TheVariants.{OutOfMemory, Text}
+use Rattle.streams.proofs.UnderWay.{left_over}
 use Rattle.history_text.specs.Prelude.{Head, Place, head_line, lines_on, Reads, history_form, AreEntriesRead, IsBaseAhead}
 use Rattle.history_text.specs.inner.NextLine.{AreAllRead}
 

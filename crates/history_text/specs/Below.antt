@@ -1,4 +1,4 @@
--- What history_text cites of the crates below, passed on from one place: names of history and line_text.
+-- What history_text cites of the crates below, passed on from one place: names of history and streams.
 -- Declares nothing.
 pub use Rattle.history.specs.declared.arrival.Arrival.{Arrival}
 pub use Rattle.history.specs.declared.base.LinePlace.{LinePlace}
@@ -44,10 +44,10 @@ pub use Rattle.history.specs.Start.{Start}
 pub use Rattle.history.specs.Steps.{plain, gave, signals, at_most_one, at_least_none, idle_entry, back, lapse, queued_entry, sleeping_entry, phase_entry, entry_for}
 pub use Rattle.history.specs.Text.{HasNoBreak, ended, line_of, words_of}
 pub use Rattle.history.specs.Waiting.{times, seats_of, asleep, IsOneWait}
-pub use Rattle.line_text.specs.declared.fault.ReadFault.{ReadFault}
-pub use Rattle.line_text.specs.declared.fault.TextFault.{TextFault}
-pub use Rattle.line_text.specs.declared.fault.TextFault.TheVariants.{BadHeader, BadLine, CutShort}
-pub use Rattle.line_text.specs.declared.limits.TheConstants.{LINE_BYTES}
-pub use Rattle.line_text.specs.Form.{Form, lines_of, AreItems, text_of}
-pub use Rattle.line_text.specs.Reading.{Begins, IsText, Reading, IsReading}
-pub use Rattle.line_text.specs.Short.{HasShortLines}
+pub use Rattle.streams.specs.declared.fault.ReadFault.{ReadFault}
+pub use Rattle.streams.specs.declared.fault.TextFault.{TextFault}
+pub use Rattle.streams.specs.declared.fault.TextFault.TheVariants.{BadHeader, BadLine, CutShort}
+pub use Rattle.streams.specs.declared.limits.TheConstants.{LINE_BYTES}
+pub use Rattle.streams.specs.Form.{Form, lines_of, AreItems, text_of}
+pub use Rattle.streams.specs.Reading.{Begins, IsText, Reading, IsReading}
+pub use Rattle.streams.specs.Short.{HasShortLines}

@@ -1,7 +1,7 @@
 -- History texts: their form, and what reading one returns.
 use Rattle.std.specs.Prelude.{◌≡◌, ℕ, ◌≤◌, List, [], ◌∷◌, ◌++◌, length, reverse, All, None, Result, Ok, Err}
 use Rattle.history_text.specs.Below.{Entry, Header, Base, HistoryView, base_on, IsBaseOf, IsInRange, whole_pages, ReadFault, Form, IsReading, IsText, Reading}
-use Rattle.line_text.specs.Reading as reading
+use Rattle.streams.specs.Reading as reading
 use Rattle.history_text.specs.declared.place.Head.{Head}
 use Rattle.history_text.specs.EntryLines.{HasLine}
 use Rattle.history_text.specs.HistoryLines.{head_line, head_of}

@@ -23,7 +23,7 @@ use Rattle.std.specs.Prelude.{
   Err,
 }
 use Rattle.history_text.specs.Below.{Entry, Header, Base, or_opening, ends_call, MOST_FOLDED, HasNoBreak, ended, ReadFault, LINE_BYTES, TextFault, Begins, IsReading}
-use Rattle.line_text.specs.Reading as reading
+use Rattle.streams.specs.Reading as reading
 use Rattle.history_text.specs.declared.base_line.BaseLine.{BaseLine}
 use Rattle.history_text.specs.declared.place.Head.{Head}
 use Rattle.history_text.specs.declared.place.Place.{Place}

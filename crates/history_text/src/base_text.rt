@@ -7,8 +7,8 @@ ghost use Rattle.history_text.specs.NextLine.{IsBaseAhead, IsEarly};
 use crate::base_under_way::BaseUnderWay;
 use crate::place::{Head, Place};
 use history::base::Base;
-use line_text::fault::ReadFault;
 use std::alloc::Global;
+use streams::fault::ReadFault;
 
 /// Reads the base lines after the first line of a text. Returns the base, the reader's position after it and
 /// the number of bytes left. The base is None if the text has no such lines.

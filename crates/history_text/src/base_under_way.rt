@@ -9,7 +9,7 @@ ghost use Rattle.history.specs.declared.fault.Fault.TheVariants.{OutOfMemory};
 ghost use Rattle.history.specs.Base.{sleepers_of};
 ghost use Rattle.history.specs.Header.{IsInRange};
 ghost use Rattle.history.specs.Text.{HasNoBreak};
-ghost use Rattle.line_text.specs.declared.fault.TextFault.TheVariants.{CutShort};
+ghost use Rattle.streams.specs.declared.fault.TextFault.TheVariants.{CutShort};
 ghost use Rattle.history_text.specs.declared.base_line.BaseLine.TheVariants.{Seat, Sleeps, Stands};
 ghost use Rattle.history_text.specs.declared.base_under_way.TheConstants.{MOST_LINES};
 ghost use Rattle.history_text.specs.BaseLines.{base_lines};
@@ -27,10 +27,10 @@ use history::fault::Fault;
 use history::header::Header;
 use history::limits::MOST_SEATS;
 use history::text::first_line;
-use line_text::fault::TextFault;
-use line_text::limits::LINE_BYTES;
 use std::alloc::Global;
 use std::marker::Model;
+use streams::fault::TextFault;
+use streams::limits::LINE_BYTES;
 
 /// The most lines of a base: the first one, one for each seat, and one for each waiter.
 pub const MOST_LINES: u64 = 1 + 2 * MOST_SEATS as u64;

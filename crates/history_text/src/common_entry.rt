@@ -9,9 +9,9 @@ use crate::spelt_number::SpeltNumber;
 use history::entry::{End, Entry, Mode, Word};
 use history::fault::Fault;
 use history::text::behind;
-use line_text::at_once::{behind_byte, behind_four, behind_three};
-use line_text::once::mode_of_once;
-use line_text::seat::seat_of;
+use streams::at_once::{behind_byte, behind_four, behind_three};
+use streams::once::mode_of_once;
+use streams::seat::seat_of;
 
 /// Returns the word that begins the text, and what follows it and a space, if a mode and an amount follow
 /// such a word.

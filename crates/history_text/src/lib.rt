@@ -39,4 +39,4 @@ pub use crate::law::{
     what_is_read_fits, written_is_read,
 };
 pub use crate::reading::read_text;
-pub use line_text::fault::{ReadFault, TextFault};
+pub use streams::fault::{ReadFault, TextFault};

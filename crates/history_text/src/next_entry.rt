@@ -4,10 +4,10 @@ ghost use Rattle.std.specs.Prelude.{◌≡◌, ◌+◌, ◌<◌, ◌≤◌, ◌^
 ghost use Rattle.history.specs.declared.limits.TheConstants.{MOST_FOLDED};
 ghost use Rattle.history.specs.Header.{IsInRange};
 ghost use Rattle.history.specs.Text.{HasNoBreak};
-ghost use Rattle.line_text.specs.Reading.{Begins, IsReading};
-ghost use Rattle.line_text.specs.declared.fault.TextFault.{TextFault};
-ghost use Rattle.line_text.specs.declared.fault.TextFault.TheVariants.{CutShort};
-ghost use Rattle.line_text.specs.HeaderLine.{LacksHeader};
+ghost use Rattle.streams.specs.Reading.{Begins, IsReading};
+ghost use Rattle.streams.specs.declared.fault.TextFault.{TextFault};
+ghost use Rattle.streams.specs.declared.fault.TextFault.TheVariants.{CutShort};
+ghost use Rattle.streams.specs.HeaderLine.{LacksHeader};
 ghost use Rattle.history_text.specs.HistoryText.{history_form};
 ghost use Rattle.history_text.specs.NextLine.{IsEntryBehind};
 
@@ -19,8 +19,8 @@ use crate::spelt_number::SpeltNumber;
 use history::entry::Entry;
 use history::header::Header;
 use history::text::first_line;
-use line_text::fault::TextFault;
-use line_text::header_line::first_header;
+use streams::fault::TextFault;
+use streams::header_line::first_header;
 
 /// Reads the first line of a text, and returns it with what follows.
 pub fn head_of(text: &[u8]) -> Result<(Head, &[u8]), TextFault>

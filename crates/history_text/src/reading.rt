@@ -14,8 +14,8 @@ use crate::spelt_number::SpeltNumber;
 use history::base::Base;
 use history::entries::History;
 use history::header::Header;
-use line_text::fault::ReadFault;
 use std::alloc::Global;
+use streams::fault::ReadFault;
 
 /// Returns the header and the history that a text spells, or its first fault, or lack of memory.
 ///

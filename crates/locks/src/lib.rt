@@ -8,44 +8,7 @@
 //! from a fresh clone to a program of your own. The types are described in `CALLING.md` of the crates that
 //! define them: `guarded`, `monitor_fronts`, `monitor`, `permit` and `history`.
 //!
-//! ## A program
-//!
-//! Two threads add to one number. These are two functions of the crate `example_first`.
-//!
-//! ```rust
-//! /// Adds to the number, and returns what it is then. At the end of its scope the guard unlocks.
-//! fn add<R: Wait + Clock>(
-//!     rt: &R,
-//!     parking: &ThreadParking,
-//!     number: &Mutex<u64>,
-//!     pass: &mut Pass,
-//!     more: u64,
-//! ) -> Result<u64, Fault>
-//!     requires { CanLock number.now parking.now pass.old }
-//!     ensures { CanLock number.now parking.now pass.new }
-//! {
-//!     let mut guard = Mutex::lock(pass, number, rt, parking)?;
-//!     let value = guard.value_mut();
-//!     *value = value.saturating_add(more);
-//!     Ok(*value)
-//! }
-//!
-//! /// Opens a lock that guards 0, lets two threads add, and locks again to read the sum.
-//! fn sum<R: Threads + Wait + Clock + Sync>(rt: &R, alloc: Global) -> Result<u64, Fault> {
-//!     let parking = ThreadParking::open(rt, alloc, 2)?;
-//!     let (number, passes) = Mutex::new(alloc, 0u64, 2)?;
-//!     let (mut one, mut two) = two_passes(passes);
-//!     let (a, b) = thread::join_mut(
-//!         rt,
-//!         &mut || add(rt, &parking, &number, &mut one, 40),
-//!         &mut || add(rt, &parking, &number, &mut two, 2),
-//!     );
-//!     a?;
-//!     b?;
-//!     let guard = Mutex::lock(&mut one, &number, rt, &parking)?;
-//!     Ok(*guard.value())
-//! }
-//! ```
+//! ## What a caller's contract says
 //!
 //! `CanLock` says what `Mutex::lock` asks of a caller: the pass is one of this lock's, it does not hold the
 //! lock, and the parking has a place for each thread. It is a word of `Rattle.locks.specs.Calling`, with the
@@ -100,10 +63,9 @@
 //!
 //! ## What it costs
 //!
-//! - *Time.* On four processors, 17 to 20 million pairs of lock and unlock a second with one thread. With more,
-//!   10 to 16 million of a non-fair lock and 0.5 to 3 of a fair one. A non-fair lock makes 0.2 to 0.5 times as
-//!   many as Java's `ReentrantLock` that keeps a history too, by the medians. `docs/PERFORMANCE.md` says how
-//!   they were measured: without a value under the lock.
+//! - *Time.* On four processors some 17 million pairs of lock and unlock a second with one thread. A non-fair
+//!   lock makes 0.2 to 0.5 times as many as Java's `ReentrantLock` that keeps a history too, by the medians
+//!   (`docs/PERFORMANCE.md`).
 //! - *Moving the value.* A `Mutex` moves its value out and in at each pair. Put a large value into a
 //!   `Box`.
 //! - *Memory.* 12 bytes an entry, in pages of 1,024 entries. A pair that waits for nobody takes two entries,

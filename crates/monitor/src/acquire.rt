@@ -94,9 +94,11 @@ impl<H: Hooks + Drop, L: Load> Monitor<H, L> {
         requires carries { L.carries load.old (holds_of pass.old) }
         requires brings { Brings L.is_counted (L.amount load.old) 0 }
         ensures called { Called pass.old pass.new }
-        ensures acquired { IsCallIn when_full (P.did parking.now) pass.old (Acquire mode n) how result pass.new }
+        ensures acquired { IsCallIn when_full (P.did parking.now) pass.old (Acquire mode n) how result
+            pass.new }
         ensures carries { L.carries load.new (holds_of pass.new) }
-        ensures moves { Moves L.fit L.is_counted L.amount load.old (free_of pass.old) load.new (free_of pass.new) }
+        ensures moves { Moves L.fit L.is_counted L.amount load.old (free_of pass.old) load.new
+            (free_of pass.new) }
         ensures stays { was_refused result ≡ true → load.new ≡ load.old }
     {
         self.make(
@@ -129,7 +131,8 @@ impl<H: Hooks + Drop, L: Load> Monitor<H, L> {
         ensures called { Called pass.old pass.new }
         ensures made { IsCallIn when_full (P.did parking.now) pass.old request how result pass.new }
         ensures carries { L.carries load.new (holds_of pass.new) }
-        ensures moves { Moves L.fit L.is_counted L.amount load.old (free_of pass.old) load.new (free_of pass.new) }
+        ensures moves { Moves L.fit L.is_counted L.amount load.old (free_of pass.old) load.new
+            (free_of pass.new) }
         ensures stays { was_refused result ≡ true → load.new ≡ load.old }
     {
         if let Some(interrupts) = Interrupts::at_entry(parking, pass, how) {
@@ -175,7 +178,8 @@ impl<H: Hooks + Drop, L: Load> Monitor<H, L> {
         ensures made { IsCallIn when_full (P.did parking.now) pass.old request how result pass.new }
         ensures settled { IsSettled result }
         ensures carries { L.carries load.new (holds_of pass.new) }
-        ensures moves { Moves L.fit L.is_counted L.amount load.old (free_of pass.old) load.new (free_of pass.new) }
+        ensures moves { Moves L.fit L.is_counted L.amount load.old (free_of pass.old) load.new
+            (free_of pass.new) }
         ensures stays { was_refused result ≡ true → load.new ≡ load.old }
     {
         pass.is_true();

@@ -60,7 +60,8 @@ impl<H: Hooks + Drop, L: Load> Monitor<H, L> {
         ensures stepped { IsStepFirst when_full pass.old step result pass.new }
         ensures woken { WasWoken self.now }
         ensures carries { L.carries load.new (holds_of pass.new) }
-        ensures moves { Moves L.fit L.is_counted L.amount load.old (free_of pass.old) load.new (free_of pass.new) }
+        ensures moves { Moves L.fit L.is_counted L.amount load.old (free_of pass.old) load.new
+            (free_of pass.new) }
         ensures stays { LeavesHoldsFirst result → load.new ≡ load.old }
     {
         match self.step_at_once(pass, load, step, when_full) {
@@ -89,7 +90,8 @@ impl<H: Hooks + Drop, L: Load> Monitor<H, L> {
         ensures stepped { IsStepIn when_full pass.old step result pass.new }
         ensures woken { WasWoken self.now }
         ensures carries { L.carries load.new (holds_of pass.new) }
-        ensures moves { Moves L.fit L.is_counted L.amount load.old (free_of pass.old) load.new (free_of pass.new) }
+        ensures moves { Moves L.fit L.is_counted L.amount load.old (free_of pass.old) load.new
+            (free_of pass.new) }
         ensures stays { leaves_holds result ≡ true → load.new ≡ load.old }
     {
         self.step_with(rt, pass, load, step, when_full)
@@ -114,7 +116,8 @@ impl<H: Hooks + Drop, L: Load> Monitor<H, L> {
         ensures busy { IsBusy result → load.new ≡ load.old }
         ensures woken { Wakes result (WasWoken self.now) }
         ensures carries { L.carries load.new (holds_of pass.new) }
-        ensures moves { Moves L.fit L.is_counted L.amount load.old (free_of pass.old) load.new (free_of pass.new) }
+        ensures moves { Moves L.fit L.is_counted L.amount load.old (free_of pass.old) load.new
+            (free_of pass.new) }
         ensures stays { LeavesHolds result → load.new ≡ load.old }
     {
         let Some(mut held) = self.lock.lock_now(&mut pass.token) else {

@@ -86,9 +86,11 @@ impl<H: Hooks + Drop, L: Load> Monitor<H, L> {
         requires brings { Brings L.is_counted (L.amount load.old) 0 }
         requires fit { L.fit load.old }
         ensures called { Called pass.old pass.new }
-        ensures awaited { IsCallIn when_full (P.did parking.now) pass.old (AwaitOn condition) how result pass.new }
+        ensures awaited { IsCallIn when_full (P.did parking.now) pass.old (AwaitOn condition) how result
+            pass.new }
         ensures carries { L.carries load.new (holds_of pass.new) }
-        ensures moves { Moves L.fit L.is_counted L.amount load.old (free_of pass.old) load.new (free_of pass.new) }
+        ensures moves { Moves L.fit L.is_counted L.amount load.old (free_of pass.old) load.new
+            (free_of pass.new) }
         ensures stays { was_refused result ≡ true → load.new ≡ load.old }
     {
         self.make(

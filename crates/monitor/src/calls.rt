@@ -125,7 +125,8 @@ impl<H: Hooks + Drop, L: Load> Monitor<H, L> {
     ) -> Result<Entry, Fault>
         requires can { CanCall self.now (P.seats parking.now) pass.old }
         ensures called { Called pass.old pass.new }
-        ensures signalled { IsEnteredIn when_full (P.did parking.now) pass.old (Signal condition) result pass.new }
+        ensures signalled { IsEnteredIn when_full (P.did parking.now) pass.old (Signal condition) result
+            pass.new }
         ensures woken { WasWoken self.now }
     {
         pass.is_true();
@@ -159,7 +160,8 @@ impl<H: Hooks + Drop, L: Load> Monitor<H, L> {
     ) -> Result<Entry, Fault>
         requires can { CanCall self.now (P.seats parking.now) pass.old }
         ensures called { Called pass.old pass.new }
-        ensures signalled { IsEnteredIn when_full (P.did parking.now) pass.old (SignalAll condition) result pass.new }
+        ensures signalled { IsEnteredIn when_full (P.did parking.now) pass.old (SignalAll condition) result
+            pass.new }
         ensures woken { WasWoken self.now }
     {
         pass.is_true();

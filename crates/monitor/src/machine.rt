@@ -316,7 +316,8 @@ impl<H: Hooks + Drop, L: Load> Monitor<H, L> {
         ensures begun { IsBegunIn when_full pass.old request how moment interrupted result pass.new }
         ensures woken { WasWoken self.now }
         ensures carries { L.carries load.new (holds_of pass.new) }
-        ensures moves { Moves L.fit L.is_counted L.amount load.old (free_of pass.old) load.new (free_of pass.new) }
+        ensures moves { Moves L.fit L.is_counted L.amount load.old (free_of pass.old) load.new
+            (free_of pass.new) }
         ensures stays { IsRefusal result.next → load.new ≡ load.old }
     {
         let step = request.step(how, interrupted);
@@ -343,7 +344,8 @@ impl<H: Hooks + Drop, L: Load> Monitor<H, L> {
         ensures busy { IfNone result (pass.new ≡ pass.old) }
         ensures begun { IfSome result (λ turn. IsBegun pass.old request how moment interrupted turn pass.new) }
         ensures carries { L.carries load.new (holds_of pass.new) }
-        ensures moves { Moves L.fit L.is_counted L.amount load.old (free_of pass.old) load.new (free_of pass.new) }
+        ensures moves { Moves L.fit L.is_counted L.amount load.old (free_of pass.old) load.new
+            (free_of pass.new) }
     {
         let step = request.step(how, interrupted);
         let Some(answer) = answer_of(self.step_quietly(pass, load, step)) else {
@@ -369,7 +371,8 @@ impl<H: Hooks + Drop, L: Load> Monitor<H, L> {
         ensures gone_on { IsGoneOn pass.old waiting woke result pass.new }
         ensures woken { WasWoken self.now }
         ensures carries { L.carries load.new (holds_of pass.new) }
-        ensures moves { Moves L.fit L.is_counted L.amount load.old (free_of pass.old) load.new (free_of pass.new) }
+        ensures moves { Moves L.fit L.is_counted L.amount load.old (free_of pass.old) load.new
+            (free_of pass.new) }
     {
         pass.is_true();
         let step = waiting.step(woke);
@@ -393,7 +396,8 @@ impl<H: Hooks + Drop, L: Load> Monitor<H, L> {
         ensures busy { IfNone result (pass.new ≡ pass.old) }
         ensures gone_on { IfSome result (λ turn. IsGoneOn pass.old waiting woke turn pass.new) }
         ensures carries { L.carries load.new (holds_of pass.new) }
-        ensures moves { Moves L.fit L.is_counted L.amount load.old (free_of pass.old) load.new (free_of pass.new) }
+        ensures moves { Moves L.fit L.is_counted L.amount load.old (free_of pass.old) load.new
+            (free_of pass.new) }
     {
         pass.is_true();
         let step = waiting.step(woke);

@@ -53,7 +53,8 @@ impl<H: Hooks + Drop, L: Load> Monitor<H, L> {
         ensures stepped { IsStepIn when_full pass.old step result pass.new }
         ensures woken { WasWoken self.now }
         ensures carries { L.carries load.new (holds_of pass.new) }
-        ensures moves { Moves L.fit L.is_counted L.amount load.old (free_of pass.old) load.new (free_of pass.new) }
+        ensures moves { Moves L.fit L.is_counted L.amount load.old (free_of pass.old) load.new
+            (free_of pass.new) }
         ensures stays { leaves_holds result ≡ true → load.new ≡ load.old }
     {
         let held = self.lock.lock(rt, &mut pass.token);

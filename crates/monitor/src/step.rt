@@ -68,7 +68,8 @@ impl<H: Hooks + Drop, L: Load> Monitor<H, L> {
         ensures stepped { IsStepNow pass.old step result pass.new }
         ensures woken { WasWoken self.now }
         ensures carries { L.carries load.new (holds_of pass.new) }
-        ensures moves { Moves L.fit L.is_counted L.amount load.old (free_of pass.old) load.new (free_of pass.new) }
+        ensures moves { Moves L.fit L.is_counted L.amount load.old (free_of pass.old) load.new
+            (free_of pass.new) }
     {
         let answer = self.step_quietly(pass, load, step);
         self.lock.wake();
@@ -85,7 +86,8 @@ impl<H: Hooks + Drop, L: Load> Monitor<H, L> {
         ensures called { Called pass.old pass.new }
         ensures stepped { IsStepNow pass.old step result pass.new }
         ensures carries { L.carries load.new (holds_of pass.new) }
-        ensures moves { Moves L.fit L.is_counted L.amount load.old (free_of pass.old) load.new (free_of pass.new) }
+        ensures moves { Moves L.fit L.is_counted L.amount load.old (free_of pass.old) load.new
+            (free_of pass.new) }
     {
         let Some(held) = self.lock.lock_now(&mut pass.token) else {
             return Ok(Now::Busy);
@@ -124,7 +126,8 @@ impl<H: Hooks + Drop, L: Load> Monitor<H, L> {
         ensures entered { IsEnteredIn when_full (P.did parking.now) pass.old step result pass.new }
         ensures woken { WasWoken self.now }
         ensures carries { L.carries load.new (holds_of pass.new) }
-        ensures moves { Moves L.fit L.is_counted L.amount load.old (free_of pass.old) load.new (free_of pass.new) }
+        ensures moves { Moves L.fit L.is_counted L.amount load.old (free_of pass.old) load.new
+            (free_of pass.new) }
         ensures stays { was_refused result ≡ true → load.new ≡ load.old }
     {
         match self.step_first(rt, pass, load, step, when_full) {

@@ -71,7 +71,8 @@ impl<H: Hooks + Drop, L: Load> Monitor<H, L> {
         ensures waited { IsReply (P.did parking.now) pass.old waiting.stage waiting.limits result pass.new }
         ensures settled { IsSettled result }
         ensures carries { L.carries load.new (holds_of pass.new) }
-        ensures moves { Moves L.fit L.is_counted L.amount load.old (free_of pass.old) load.new (free_of pass.new) }
+        ensures moves { Moves L.fit L.is_counted L.amount load.old (free_of pass.old) load.new
+            (free_of pass.new) }
     {
         pass.is_true();
         let mut interrupts = Interrupts::none(pass.seat());

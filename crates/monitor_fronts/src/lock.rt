@@ -15,6 +15,7 @@ ghost use Rattle.monitor_fronts.specs.Returned.{ReturnedAs, done_of, whether_of}
 
 use crate::returned::{done, whether};
 use crate::until::milliseconds_left;
+use frame::hooks::Hooks;
 use history::entry::{Entry, Mode};
 use history::fault::Fault;
 use history::step::Step;
@@ -179,7 +180,15 @@ impl<'m> ReentrantLock<'m> {
             (Awaits self.now.when_full (P.did parking.now) condition Interruptible pass.old pass.new) result }
         ensures keeps { holds pass.new ≡ holds pass.old }
     {
-        done(self.wait_as(rt, parking, pass, condition, How::Interruptible))
+        done(wait_as(
+            self.monitor,
+            rt,
+            parking,
+            pass,
+            condition,
+            How::Interruptible,
+            self.when_full,
+        ))
     }
 
     /// `Condition.awaitUninterruptibly()` of the condition of this number.
@@ -196,7 +205,15 @@ impl<'m> ReentrantLock<'m> {
             (Awaits self.now.when_full (P.did parking.now) condition Plain pass.old pass.new) result }
         ensures keeps { holds pass.new ≡ holds pass.old }
     {
-        done(self.wait_as(rt, parking, pass, condition, How::Plain))
+        done(wait_as(
+            self.monitor,
+            rt,
+            parking,
+            pass,
+            condition,
+            How::Plain,
+            self.when_full,
+        ))
     }
 
     /// `Condition.await(time, unit)` of the condition of this number: whether it was signalled within `ms`
@@ -215,7 +232,15 @@ impl<'m> ReentrantLock<'m> {
             (Awaits self.now.when_full (P.did parking.now) condition (Timed ms) pass.old pass.new) result }
         ensures keeps { holds pass.new ≡ holds pass.old }
     {
-        whether(self.wait_as(rt, parking, pass, condition, How::Timed(ms)))
+        whether(wait_as(
+            self.monitor,
+            rt,
+            parking,
+            pass,
+            condition,
+            How::Timed(ms),
+            self.when_full,
+        ))
     }
 
     /// [`wait_for`](ReentrantLock::wait_for) until a moment on the clock of the parking, which
@@ -297,31 +322,6 @@ impl<'m> ReentrantLock<'m> {
         )
     }
 
-    // An await, which makes room if this front trims.
-    fn wait_as<P: Parking, R: Wait + Clock>(
-        &self,
-        rt: &R,
-        parking: &P,
-        pass: &mut Pass,
-        condition: u8,
-        how: How,
-    ) -> Result<Entry, Fault>
-        requires can { CanCall self.now.monitor.now (P.seats parking.now) pass.old }
-        ensures called { Called pass.old pass.new }
-        ensures awaited { Awaits self.now.when_full (P.did parking.now) condition how pass.old pass.new result }
-        ensures keeps { holds pass.new ≡ holds pass.old }
-    {
-        self.monitor.await_on_with(
-            rt,
-            parking,
-            pass,
-            &mut Empty {},
-            condition,
-            how,
-            self.when_full,
-        )
-    }
-
     // A step that doesn't wait, which makes room if this front trims.
     fn enter<P: Parking, R: Wait + Clock>(
         &self,
@@ -340,4 +340,23 @@ impl<'m> ReentrantLock<'m> {
         self.monitor
             .enter(rt, parking, pass, &mut Empty {}, step, self.when_full)
     }
+}
+
+// An await, which makes room if the front trims.
+pub(crate) fn wait_as<H: Hooks + Drop, P: Parking, R: Wait + Clock>(
+    monitor: &Monitor<H>,
+    rt: &R,
+    parking: &P,
+    pass: &mut Pass,
+    condition: u8,
+    how: How,
+    when_full: WhenFull,
+) -> Result<Entry, Fault>
+    requires can { CanCall monitor.now (P.seats parking.now) pass.old }
+    ensures called { Called pass.old pass.new }
+    ensures awaited { Awaits when_full (P.did parking.now) condition how pass.old pass.new result }
+    ensures keeps { holds pass.new ≡ holds pass.old }
+{
+    let load = &mut Empty {};
+    monitor.await_on_with(rt, parking, pass, load, condition, how, when_full)
 }

@@ -14,6 +14,7 @@ ghost use Rattle.monitor_fronts.specs.FrontCalls.{Acquires, Awaits, LastsUntil, 
 ghost use Rattle.monitor_fronts.specs.Holding.{AddsIn, TakesIn, holds, with_yes};
 ghost use Rattle.monitor_fronts.specs.Returned.{ReturnedAs, done_of, whether_of};
 
+use crate::lock::wait_as;
 use crate::returned::{done, whether};
 use crate::until::milliseconds_left;
 use history::entry::{Entry, Mode};
@@ -179,7 +180,15 @@ impl<'m> ReadWriteLock<'m> {
             (Awaits self.now.when_full (P.did parking.now) condition Interruptible pass.old pass.new) result }
         ensures keeps { holds pass.new ≡ holds pass.old }
     {
-        done(self.wait_as(rt, parking, pass, condition, How::Interruptible))
+        done(wait_as(
+            self.monitor,
+            rt,
+            parking,
+            pass,
+            condition,
+            How::Interruptible,
+            self.when_full,
+        ))
     }
 
     /// `Condition.awaitUninterruptibly()` of the condition of this number.
@@ -196,7 +205,15 @@ impl<'m> ReadWriteLock<'m> {
             (Awaits self.now.when_full (P.did parking.now) condition Plain pass.old pass.new) result }
         ensures keeps { holds pass.new ≡ holds pass.old }
     {
-        done(self.wait_as(rt, parking, pass, condition, How::Plain))
+        done(wait_as(
+            self.monitor,
+            rt,
+            parking,
+            pass,
+            condition,
+            How::Plain,
+            self.when_full,
+        ))
     }
 
     /// `Condition.await(time, unit)` of the condition of this number: whether it was signalled within `ms`
@@ -215,7 +232,15 @@ impl<'m> ReadWriteLock<'m> {
             (Awaits self.now.when_full (P.did parking.now) condition (Timed ms) pass.old pass.new) result }
         ensures keeps { holds pass.new ≡ holds pass.old }
     {
-        whether(self.wait_as(rt, parking, pass, condition, How::Timed(ms)))
+        whether(wait_as(
+            self.monitor,
+            rt,
+            parking,
+            pass,
+            condition,
+            How::Timed(ms),
+            self.when_full,
+        ))
     }
 
     /// [`write_wait_for`](ReadWriteLock::write_wait_for) until a moment on the clock of the parking, which
@@ -387,7 +412,8 @@ impl<'m> ReadWriteLock<'m> {
     ) -> Result<Entry, Fault>
         requires can { CanCall self.now.monitor.now (P.seats parking.now) pass.old }
         ensures called { Called pass.old pass.new }
-        ensures acquired { Acquires self.now.when_full (P.did parking.now) mode 1 how pass.old pass.new result }
+        ensures acquired { Acquires self.now.when_full (P.did parking.now) mode 1 how pass.old pass.new
+            result }
         ensures gains { AddsIn mode pass.old (whether_of result) pass.new }
     {
         self.monitor.acquire_with(
@@ -397,31 +423,6 @@ impl<'m> ReadWriteLock<'m> {
             &mut Empty {},
             mode,
             1,
-            how,
-            self.when_full,
-        )
-    }
-
-    // An await, which makes room if this front trims.
-    fn wait_as<P: Parking, R: Wait + Clock>(
-        &self,
-        rt: &R,
-        parking: &P,
-        pass: &mut Pass,
-        condition: u8,
-        how: How,
-    ) -> Result<Entry, Fault>
-        requires can { CanCall self.now.monitor.now (P.seats parking.now) pass.old }
-        ensures called { Called pass.old pass.new }
-        ensures awaited { Awaits self.now.when_full (P.did parking.now) condition how pass.old pass.new result }
-        ensures keeps { holds pass.new ≡ holds pass.old }
-    {
-        self.monitor.await_on_with(
-            rt,
-            parking,
-            pass,
-            &mut Empty {},
-            condition,
             how,
             self.when_full,
         )

@@ -1,2 +1,2 @@
 pub mod Appending
-mod RowsFollow
+mod LinesFollow

@@ -1,14 +1,5 @@
-pub mod Below
-pub mod View
-pub mod Rows
-pub mod Layout
-pub mod Pieces
 pub mod Names
-pub mod Titles
-pub mod Bars
-pub mod Marks
-pub mod Grid
-pub mod Curve
-pub mod Head
-pub mod Document
+pub mod Lines
+pub mod Reading
+pub mod Escaping
 pub mod inner

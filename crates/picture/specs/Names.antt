@@ -1,31 +1,28 @@
--- The numbers of seats and conditions, with the names that were given to them.
-use Rattle.std.specs.Prelude.{ℕ, ◌==◌, if◌then◌else◌, List, [], ◌∷◌, ◌++◌, codes, length}
-use Rattle.std.specs.List.{flat_map}
-use Rattle.naming.specs.declared.whom.Whom.TheVariants.{Seat, Condition}
-use Rattle.naming.specs.Names.{Given, name_of, names_a_seat}
-use Rattle.picture.specs.Pieces.{named}
+-- Names that were given.
+use Rattle.std.specs.Prelude.{ℕ, ◌==◌, Bool, true, false, ◌||◌, if◌then◌else◌, List, [], ◌∷◌}
+use Rattle.picture.specs.declared.naming.whom.Whom.{Whom}
+use Rattle.picture.specs.declared.naming.whom.Whom.TheVariants.{Seat, Condition}
 
--- a byte of a name inside an element
-abbrev pub escaped_byte : ℕ → List ℕ
-escaped_byte byte =
-    if byte == 38 then codes "&amp;" else if byte == 60 then codes "&lt;" else if byte == 62 then codes "&gt;"
-    else byte ∷ []
+-- to whom, and which name, in the order of the lines
+abbrev pub Given : Type 0
+Given = List (Whom × List ℕ)
 
-abbrev pub escaped : List ℕ → List ℕ
-escaped name = flat_map escaped_byte name
+abbrev pub is_same : Whom → Whom → Bool
+is_same (Seat i) (Seat j) = i == j
+is_same (Seat i) (Condition c) = false
+is_same (Condition c) (Seat i) = false
+is_same (Condition c) (Condition d) = c == d
 
--- a number with its name, if it has one
-abbrev pub told : List ℕ → ℕ → List ℕ → List ℕ
-told words number name =
-    if length name == 0 then named words number
-    else named words number ++ codes " (" ++ escaped name ++ codes ")"
+abbrev pub is_seat : Whom → Bool
+is_seat (Seat i) = true
+is_seat (Condition c) = false
 
-abbrev pub seat_words : Given → List ℕ → ℕ → List ℕ
-seat_words names words i = told words i (name_of names (Seat i))
+-- the name of a seat or a condition; no bytes if it was given none
+abbrev pub name_of : Given → Whom → List ℕ
+name_of [] whom = []
+name_of (x ∷ xs) whom = if is_same x.0 whom then x.1 else name_of xs whom
 
-abbrev pub condition_words : Given → List ℕ → ℕ → List ℕ
-condition_words names words c = told words c (name_of names (Condition c))
-
--- the left edge of the entries; the names of seats need more room than their numbers
-abbrev pub left_of : Given → ℕ
-left_of names = if names_a_seat names then 200 else 72
+-- a seat was given a name
+abbrev pub names_a_seat : Given → Bool
+names_a_seat [] = false
+names_a_seat (x ∷ xs) = is_seat x.0 || names_a_seat xs

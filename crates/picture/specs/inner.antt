@@ -1,11 +1,18 @@
--- What only contracts of private functions cite: no promise of the crate rests on it.
-use Rattle.std.specs.Prelude.{◌+◌, ◌<◌, ◌≤◌, ◌^◌}
-use Rattle.picture.specs.declared.layout.Layout.{Layout}
+-- What only contracts of private functions cite.
+use Rattle.std.specs.Prelude.{ℕ, Bool, true, false, List, Option, Some, None}
+use Rattle.std.specs.Borrow.{Bor}
+use Rattle.picture.specs.declared.naming.whom.Whom.{Whom}
+use Rattle.picture.specs.Names.{Given}
 
--- a layout with at most as many entries as a history can have, and as many rows as a header can have seats
-pub record IsLayout (l : Layout) : Type 0 where
-  pub few : l.from + l.shown < 2 ^ 32
-  pub left : l.left ≤ 200
-  pub step : l.step ≤ 20
-  pub top : l.top ≤ 180
-  pub rows : l.rows < 2 ^ 16
+-- names that are borrowed from a text
+abbrev pub borrowed : Option (Bor (List ℕ)) → Option (List ℕ)
+borrowed None = None
+borrowed (Some name) = Some name.now
+
+abbrev pub pointed : Option (Whom × Bor (List ℕ)) → Option (Whom × List ℕ)
+pointed None = None
+pointed (Some naming) = Some (naming.0, naming.1.now)
+
+abbrev pub given_if : Bool → Given → Option Given
+given_if true given = Some given
+given_if false given = None

@@ -1,208 +1,168 @@
 //! The rows of the seats, the scale below them, and the place of an illegal entry.
 
-ghost use Rattle.std.specs.Prelude.{◌≡◌, ◌<◌, ◌≤◌, ◌+◌, ◌^◌, ◌++◌, OnOk, zero};
-ghost use Rattle.picture.specs.inner.{IsLayout};
-ghost use Rattle.picture.specs.Rows.{AreRanks};
-ghost use Rattle.picture.specs.Grid.{culprit_at, exclamation_at, field_at, pitch_of, row_if_any, row_line, rows, seat_at, shade, tick, ticks, wrong_at};
-
-use crate::layout::{Layout, Rect};
-use crate::marks::put_mark_place;
-use crate::names::put_seat;
-use crate::pieces::{put_number_at, put_open_rect, put_placed, put_rect, put_upright};
-use crate::rows::row_of;
-use crate::titles::{entry_at, put_wrong_title};
-use history::entry::Entry;
-use naming::Names;
+use crate::escaping::put_seat;
+use crate::naming::Names;
+use crate::pieces::{Rect, put, put_placed, put_rect};
+use crate::sheet::Sheet;
+use crate::titles::put_wrong_title;
+use history::header::Object;
 use std::alloc::AllocError;
 
-/// Appends the rows of the seats that have one.
+/// Where the rows stand, in pixels, and the places in them: one for an entry, or for a column of entries.
+#[derive(Clone, Copy, Debug)]
+pub(crate) struct Grid {
+    /// The number of the first place.
+    pub(crate) from: u64,
+    /// How many places there are.
+    pub(crate) places: u64,
+    /// The left edge of the first place. The seats are told left of it.
+    pub(crate) left: u64,
+    /// How wide each place is.
+    pub(crate) step: u64,
+    /// The upper edge of the first row.
+    pub(crate) top: u64,
+    pub(crate) rows: u64,
+}
+
+impl Grid {
+    /// Returns the left edge of a place.
+    pub(crate) fn x(self, place: u64) -> u64 {
+        let before = place.saturating_sub(self.from);
+        self.left.saturating_add(before.saturating_mul(self.step))
+    }
+
+    /// Returns the upper edge of a row.
+    pub(crate) fn y(self, row: u64) -> u64 {
+        self.top.saturating_add(row.saturating_mul(40))
+    }
+
+    /// Returns the lower edge of all rows.
+    pub(crate) fn bottom(self) -> u64 {
+        self.y(self.rows)
+    }
+
+    /// Returns the right edge of all places, with room for an illegal entry after them.
+    pub(crate) fn right(self) -> u64 {
+        let after = self.places.saturating_add(1);
+        self.x(self.from.saturating_add(after))
+    }
+
+    /// Returns the width of a picture, of at least so many pixels.
+    pub(crate) fn width(self, least: u64) -> u64 {
+        self.right().saturating_add(16).max(least)
+    }
+}
+
+/// Returns the left edge of the first place. The names of seats need more room than their numbers.
+pub(crate) fn left_of(names: &Names) -> u64 {
+    if names.name_a_seat() { 200 } else { 72 }
+}
+
+/// Returns what the amounts of an object are, if it has some. Everybody has a share of such an object.
+pub(crate) fn amounts_of(object: Object) -> Option<&'static [u8]> {
+    match object {
+        Object::Lock(_) | Object::ReadWrite(_) => None,
+        Object::Semaphore(_, _) => Some(b"free"),
+        Object::Latch(_) => Some(b"count"),
+    }
+}
+
+/// Appends the rows of the seats that have one. A seat is told so far below the upper edge of its row.
 pub(crate) fn put_rows(
     out: &mut Vec<u8>,
-    names: &Names,
-    layout: Layout,
-    ranks: &[u64],
-    seats: u16,
-) -> Result<(), AllocError>
-    requires layout { IsLayout layout }
-    requires ranks { AreRanks ranks.now }
-    ensures { OnOk result (out.new.items ≡ out.old.items ++ rows names.now layout ranks.now seats) }
-{
-    for seat in 0..seats {
-        let row = row_of(ranks, seat);
-        put_row_if_any(out, names, layout, row, row_of(ranks, seat + 1), seat)?;
+    sheet: Sheet<'_>,
+    grid: Grid,
+    lower: u64,
+) -> Result<(), AllocError> {
+    for seat in 0..sheet.picture.header.seats {
+        if sheet.has_row(seat) {
+            let row = sheet.row_of(seat as usize);
+            put_shade(out, grid, row)?;
+            put_placed(out, b"<text x='", 8, grid.y(row).saturating_add(lower))?;
+            put_seat(out, sheet.names, b"'>seat ", seat)?;
+            out.extend_from_slice(b"</text>\n")?;
+        }
     }
     Ok(())
 }
 
-/// Appends the row of a seat, if it has one: then the rank of the next seat is another.
-fn put_row_if_any(
-    out: &mut Vec<u8>,
-    names: &Names,
-    layout: Layout,
-    row: u64,
-    next: u64,
-    seat: u16,
-) -> Result<(), AllocError>
-    requires { IsLayout layout × (row < 2 ^ 16) }
-    ensures { OnOk result (out.new.items
-        ≡ out.old.items ++ row_if_any names.now layout row next seat) }
-{
-    if row == next {
-        return Ok(());
-    }
-    put_row(out, names, layout, row, seat)
-}
-
-/// Appends a row, with its seat.
-fn put_row(
-    out: &mut Vec<u8>,
-    names: &Names,
-    layout: Layout,
-    row: u64,
-    seat: u16,
-) -> Result<(), AllocError>
-    requires { IsLayout layout × (row < 2 ^ 16) }
-    ensures { OnOk result (out.new.items ≡ out.old.items ++ row_line names.now layout row seat) }
-{
-    put_shade(out, layout, row)?;
-    put_seat_at(out, names, layout.y(row) + 20, seat)
-}
-
-/// Appends a seat at the left of a row.
-fn put_seat_at(out: &mut Vec<u8>, names: &Names, y: u64, seat: u16) -> Result<(), AllocError>
-    ensures { OnOk result (out.new.items ≡ out.old.items ++ seat_at names.now y seat) }
-{
-    put_placed(out, b"<text x='", 8, y)?;
-    put_seat(out, names, b"'>seat ", seat)?;
-    out.extend_from_slice(b"</text>\n")
-}
-
 /// Appends the background of a row. Every other one is shaded.
-fn put_shade(out: &mut Vec<u8>, layout: Layout, row: u64) -> Result<(), AllocError>
-    requires { IsLayout layout × (row < 2 ^ 16) }
-    ensures { OnOk result (out.new.items ≡ out.old.items ++ shade layout row) }
-{
+fn put_shade(out: &mut Vec<u8>, grid: Grid, row: u64) -> Result<(), AllocError> {
     if row % 2 == 1 {
         return Ok(());
     }
     let area = Rect {
         x: 0,
-        y: layout.y(row),
-        width: layout.right(),
+        y: grid.y(row),
+        width: grid.right(),
         height: 40,
     };
-    put_rect(out, b"<rect class='r' x='", area)
+    put_rect(out, b"<rect class='r' x='", area)?;
+    out.extend_from_slice(b"'/>\n")
 }
 
-/// Appends the scale. Entries with round numbers have a line through all rows, and the number below it.
-/// Numbers count folded entries too.
-pub(crate) fn put_scale(out: &mut Vec<u8>, layout: Layout, folded: u64) -> Result<(), AllocError>
-    requires layout { IsLayout layout }
-    requires folded { folded < 2 ^ 63 }
-    ensures { OnOk result (out.new.items ≡ out.old.items ++ ticks layout folded layout.shown) }
-{
-    for index in 0..layout.shown {
-        put_tick(out, layout, folded, layout.from + index)?;
-    }
-    Ok(())
+/// Appends a line of the scale before a place, from `top` down through all rows, and an entry's number below
+/// it.
+pub(crate) fn put_tick(
+    out: &mut Vec<u8>,
+    grid: Grid,
+    top: u64,
+    place: u64,
+    number: u64,
+) -> Result<(), AllocError> {
+    let x = grid.x(place);
+    let bottom = grid.bottom();
+    put(out, b"<path class='g' d='M", x)?;
+    put(out, b" ", top)?;
+    put(out, b"V", bottom.saturating_add(4))?;
+    put_placed(
+        out,
+        b"'/>\n<text x='",
+        x.saturating_add(3),
+        bottom.saturating_add(14),
+    )?;
+    put(out, b"'>", number)?;
+    out.extend_from_slice(b"</text>\n")
 }
 
-fn put_tick(out: &mut Vec<u8>, layout: Layout, folded: u64, index: u64) -> Result<(), AllocError>
-    requires layout { IsLayout layout × (index < 2 ^ 33) }
-    requires folded { folded < 2 ^ 63 }
-    ensures { OnOk result (out.new.items ≡ out.old.items ++ tick layout folded index) }
-{
-    let number = folded + index;
-    if number % pitch_of(layout.step) > 0 {
-        return Ok(());
-    }
-    let x = layout.x(index);
-    let bottom = layout.bottom();
-    put_upright(out, x, layout.top, bottom + 4)?;
-    put_number_at(out, x + 3, bottom + 14, b"'>", number)
-}
-
-/// Returns from how many entries one has its number on the scale, so that numbers of ten digits don't touch.
-fn pitch_of(step: u64) -> u64
-    ensures is { result ≡ pitch_of step }
-    ensures some { 0 < result }
-{
-    if step == 20 { 5 } else { 10 }
-}
-
-/// Appends the culprit and the field of an illegal entry.
+/// Appends the place of the illegal entry, if it follows those that are drawn: an exclamation mark in the row
+/// of its seat, so far below the upper edge, and a field through all rows.
 pub(crate) fn put_wrong(
     out: &mut Vec<u8>,
-    names: &Names,
-    layout: Layout,
-    ranks: &[u64],
-    folded: u64,
-    entries: &[Entry],
-    number: u64,
-) -> Result<(), AllocError>
-    requires layout { IsLayout layout × (number < 2 ^ 33) }
-    requires ranks { AreRanks ranks.now }
-    requires folded { folded < 2 ^ 63 }
-    ensures { OnOk result (out.new.items
-        ≡ out.old.items ++ wrong_at names.now layout ranks.now folded entries.now number) }
-{
-    put_culprit(out, layout, ranks, number, entry_at(entries, number))?;
-    put_field(out, names, layout, folded, entries, number)
-}
-
-/// Appends the mark of the seat that made an illegal entry.
-fn put_culprit(
-    out: &mut Vec<u8>,
-    layout: Layout,
-    ranks: &[u64],
-    number: u64,
-    entry: Option<Entry>,
-) -> Result<(), AllocError>
-    requires layout { IsLayout layout × (number < 2 ^ 33) }
-    requires ranks { AreRanks ranks.now }
-    ensures { OnOk result (out.new.items
-        ≡ out.old.items ++ culprit_at layout ranks.now number entry) }
-{
-    match entry {
-        None => Ok(()),
-        Some(entry) => put_exclamation(out, layout, number, row_of(ranks, entry.seat)),
+    sheet: Sheet<'_>,
+    grid: Grid,
+    place: u64,
+    lower: u64,
+) -> Result<(), AllocError> {
+    if !sheet.ends_wrong() {
+        return Ok(());
     }
-}
-
-/// Appends an exclamation mark in a row.
-fn put_exclamation(
-    out: &mut Vec<u8>,
-    layout: Layout,
-    number: u64,
-    row: u64,
-) -> Result<(), AllocError>
-    requires { IsLayout layout × (number < 2 ^ 33) × (row < 2 ^ 16) }
-    ensures { OnOk result (out.new.items ≡ out.old.items ++ exclamation_at layout number row) }
-{
-    put_mark_place(out, layout, number, row)?;
-    out.extend_from_slice(b"m0 -5v5m0 2v2'/>\n")
-}
-
-/// Appends the field of an illegal entry through all rows, with its tooltip.
-fn put_field(
-    out: &mut Vec<u8>,
-    names: &Names,
-    layout: Layout,
-    folded: u64,
-    entries: &[Entry],
-    number: u64,
-) -> Result<(), AllocError>
-    requires layout { IsLayout layout × (number < 2 ^ 33) }
-    requires folded { folded < 2 ^ 63 }
-    ensures { OnOk result (out.new.items
-        ≡ out.old.items ++ field_at names.now layout folded entries.now number) }
-{
+    if let Some(entry) = sheet.entry_at(sheet.picture.to) {
+        put_mark_place(out, grid, place, sheet.row_of(entry.seat as usize), lower)?;
+        out.extend_from_slice(b"m0 -5v5m0 2v2'/>\n")?;
+    }
     let area = Rect {
-        x: layout.x(number),
-        y: layout.top,
-        width: layout.step,
-        height: layout.rows * 40,
+        x: grid.x(place),
+        y: grid.top,
+        width: grid.step,
+        height: grid.rows.saturating_mul(40),
     };
-    put_open_rect(out, b"<rect class='e' x='", area)?;
-    put_wrong_title(out, names, folded, entries, number)
+    put_rect(out, b"<rect class='e' x='", area)?;
+    put_wrong_title(out, sheet, sheet.picture.to)
+}
+
+/// Appends the beginning of a mark in the middle of a place, so far below the upper edge of a row.
+pub(crate) fn put_mark_place(
+    out: &mut Vec<u8>,
+    grid: Grid,
+    place: u64,
+    row: u64,
+    lower: u64,
+) -> Result<(), AllocError> {
+    put(
+        out,
+        b"<path class='m' d='M",
+        grid.x(place).saturating_add(grid.step / 2),
+    )?;
+    put(out, b" ", grid.y(row).saturating_add(lower))
 }

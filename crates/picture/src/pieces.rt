@@ -1,67 +1,65 @@
-//! Pieces of elements.
+//! Pieces of elements. On an error only the first bytes of a piece may have been appended.
 
-ghost use Rattle.std.specs.Prelude.{◌≡◌, ◌++◌, OnOk};
-ghost use Rattle.picture.specs.Pieces.{named, number_at, open_rect, placed, rect, upright};
-
-use crate::layout::Rect;
 use history::number::put_number;
+use itoa::Buffer;
 use std::alloc::AllocError;
 
-/// Appends a name and a number. On an error only the first bytes may have been appended.
-pub fn put(out: &mut Vec<u8>, name: &[u8], number: u64) -> Result<(), AllocError>
-    ensures { OnOk result (out.new.items ≡ out.old.items ++ named name.now number) }
-{
+/// The position and the size of a rectangle.
+#[derive(Clone, Copy, Debug)]
+pub(crate) struct Rect {
+    pub(crate) x: u64,
+    pub(crate) y: u64,
+    pub(crate) width: u64,
+    pub(crate) height: u64,
+}
+
+/// Appends a name and a number.
+pub(crate) fn put(out: &mut Vec<u8>, name: &[u8], number: u64) -> Result<(), AllocError> {
     out.extend_from_slice(name)?;
-    put_number(out, number)?;
-    Ok(())
+    put_number(out, number)
+}
+
+/// Appends an amount, which may be less than 0.
+pub(crate) fn put_signed(out: &mut Vec<u8>, amount: &i128) -> Result<(), AllocError> {
+    let mut buffer = Buffer::new();
+    out.extend_from_slice(buffer.format(*amount).as_bytes())
 }
 
 /// Appends the beginning of an element, up to the last number of its position.
-pub fn put_placed(out: &mut Vec<u8>, shape: &[u8], x: u64, y: u64) -> Result<(), AllocError>
-    ensures { OnOk result (out.new.items ≡ out.old.items ++ placed shape.now x y) }
-{
+pub(crate) fn put_placed(
+    out: &mut Vec<u8>,
+    shape: &[u8],
+    x: u64,
+    y: u64,
+) -> Result<(), AllocError> {
     put(out, shape, x)?;
     put(out, b"' y='", y)
 }
 
 /// Appends the beginning of a rectangle, up to its last number.
-pub(crate) fn put_open_rect(out: &mut Vec<u8>, shape: &[u8], area: Rect) -> Result<(), AllocError>
-    ensures { OnOk result (out.new.items ≡ out.old.items ++ open_rect shape.now area) }
-{
+pub(crate) fn put_rect(out: &mut Vec<u8>, shape: &[u8], area: Rect) -> Result<(), AllocError> {
     put_placed(out, shape, area.x, area.y)?;
     put(out, b"' width='", area.width)?;
     put(out, b"' height='", area.height)
 }
 
-/// Appends a rectangle.
-pub(crate) fn put_rect(out: &mut Vec<u8>, shape: &[u8], area: Rect) -> Result<(), AllocError>
-    ensures { OnOk result (out.new.items ≡ out.old.items ++ rect shape.now area) }
-{
-    put_open_rect(out, shape, area)?;
-    out.extend_from_slice(b"'/>\n")
-}
-
-/// Appends a number at a position, after a few words.
-pub fn put_number_at(
-    out: &mut Vec<u8>,
-    x: u64,
-    y: u64,
-    words: &[u8],
-    number: u64,
-) -> Result<(), AllocError>
-    ensures { OnOk result (out.new.items ≡ out.old.items ++ number_at x y words.now number) }
-{
-    put_placed(out, b"<text x='", x, y)?;
-    put(out, words, number)?;
+/// Appends words at the left edge.
+pub(crate) fn put_word(out: &mut Vec<u8>, y: u64, word: &[u8]) -> Result<(), AllocError> {
+    put(out, b"<text x='8' y='", y)?;
+    out.extend_from_slice(b"'>")?;
+    out.extend_from_slice(word)?;
     out.extend_from_slice(b"</text>\n")
 }
 
-/// Appends a vertical line from `top` down to `bottom`.
-pub fn put_upright(out: &mut Vec<u8>, x: u64, top: u64, bottom: u64) -> Result<(), AllocError>
-    ensures { OnOk result (out.new.items ≡ out.old.items ++ upright x top bottom) }
-{
-    put(out, b"<path class='g' d='M", x)?;
-    put(out, b" ", top)?;
-    put(out, b"V", bottom)?;
-    out.extend_from_slice(b"'/>\n")
+/// Appends an amount that ends at `x`.
+pub(crate) fn put_amount(
+    out: &mut Vec<u8>,
+    x: u64,
+    y: u64,
+    amount: &i128,
+) -> Result<(), AllocError> {
+    put_placed(out, b"<text class='a' x='", x, y)?;
+    out.extend_from_slice(b"'>")?;
+    put_signed(out, amount)?;
+    out.extend_from_slice(b"</text>\n")
 }

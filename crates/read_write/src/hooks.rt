@@ -64,19 +64,13 @@ impl RwHooks {
     fn owns(&self, who: u16) -> bool
         ensures { result ≡ is_seat self.now.owner who }
     {
-        match self.owner {
-            None => false,
-            Some(owner) => owner == who,
-        }
+        matches!(self.owner, Some(owner) if owner == who)
     }
 
     fn admits(&self, who: u16) -> bool
         ensures { result ≡ is_none_or self.now.owner who }
     {
-        match self.owner {
-            None => true,
-            Some(owner) => owner == who,
-        }
+        !matches!(self.owner, Some(owner) if owner != who)
     }
 
     fn holds(&self, who: u16, mode: Mode) -> u16

@@ -1,3 +1,4 @@
+mod Appending
 mod AnswerLines
 pub mod EntryLines
 pub mod Judged

@@ -1,9 +1,9 @@
 -- The texts of objects.
-use Rattle.std.proofs.Common.{◌≡◌, ℕ, ◌+◌, List, [], ◌∷◌, ◌++◌, Option, length, reverse, ap, sym, subst, ◌∙◌, append_assoc}
+use Rattle.std.proofs.Common.{◌≡◌, ℕ, ◌+◌, List, [], ◌∷◌, ◌++◌, length, reverse, ap, sym, ◌∙◌, append_assoc}
 use Rattle.std.specs.List.{All, concat}
 use Rattle.std.proofs.lemmas.List.Elements.{All-from_recursion}
-use Rattle.run_text.specs.Below.{verdict_of, audit_text, Header, Base, based, IsSpelt, IsGood, IsInRange, calls, ended, counts_line, head_line, head_of, lines_told, entry_lines, lines_text, Named, ObjectReport, IsSound}
-use Rattle.audit.proofs.Beginnings.{good_from, header_from}
+use Rattle.run_text.specs.Below.{verdict_of, audit_text, based, IsSpelt, IsGood, calls, ended, counts_line, head_line, head_of, lines_told, entry_lines, lines_text, Named, ObjectReport, IsSound}
+use Rattle.audit.proofs.Beginnings.{good_from}
 use Rattle.history.proofs.GoodBases.{good_waits}
 use Rattle.history_text.proofs.Lists.{each-reverse}
 use Rattle.history_text.proofs.Spelt.{all_spelt_on}

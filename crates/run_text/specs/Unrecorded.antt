@@ -2,7 +2,7 @@
 use Rattle.std.specs.Prelude.{ℕ, List, ◌++◌, codes, decimal, map}
 use Rattle.std.specs.List.{concat}
 use Rattle.run_text.specs.Below.{fault_name, line_of, Named, Unrecorded}
-use Rattle.standing_text.specs.Lines.{call_words}
+use Rattle.run_text.specs.Lines.{call_words}
 
 -- the thread, the number of its call, the fault, and the call
 abbrev pub answer_line : List Named → Unrecorded → List ℕ

@@ -1,5 +1,7 @@
 -- What only contracts of private functions cite: no promise of the crate rests on it.
-use Rattle.std.specs.Prelude.{◌≡◌, ℕ, ◌+◌, List, ◌++◌, length, true}
+use Rattle.std.specs.Prelude.{◌≡◌, ◌≤◌, ℕ, ◌+◌, List, ◌++◌, length, true}
+use Rattle.script.specs.Script.{WorkerView}
+use Rattle.script.specs.declared.limits.TheConstants.{MOST_CALLS, MOST_ROUNDS}
 use Rattle.run_text.specs.Below.{IsJudgement, verdict_of, audit_text, Base, based, start_on, calls, ended, counts_line, head_line, head_of, lines_told, lines_text, ObjectReport, IsSound, is_legal}
 use Rattle.run_text.specs.RunText.{base_of, name_line, shares_line}
 
@@ -31,3 +33,6 @@ abbrev pub end_text : ObjectReport → List ℕ
 end_text part =
     ended (counts_line ((base_of part).entries + length part.history.entries)
     (calls (based (base_of part)) part.history.entries))
+
+abbrev pub HasFewCalls : WorkerView → Type 0
+HasFewCalls w = (w.repeat ≤ MOST_ROUNDS) × (length w.calls ≤ MOST_CALLS)

@@ -4,10 +4,10 @@ ghost use Rattle.std.specs.Prelude.{◌≡◌, ◌++◌, OnOk};
 ghost use Rattle.run_text.specs.Unrecorded.{answer_line, answer_lines};
 ghost use Rattle.script.specs.Script.{named};
 
+use crate::call_text::put_call;
 use history::header::Header;
 use history::number::put_number;
 use indexmap::IndexMap;
-use standing_text::put_call;
 use std::alloc::AllocError;
 use workers::Unrecorded;
 

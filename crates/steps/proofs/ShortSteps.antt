@@ -1,7 +1,7 @@
 -- The lines of a steps text are short.
 use Rattle.std.proofs.Common.{◌≡◌, ℕ, ◌<◌, ◌≤◌, ◌^◌, List, [], ◌∷◌, length, arith, decimal, codes, length-append}
 use Rattle.steps.specs.Below.{Step, Acquire, Try, TryFair, EntryInterrupt, Give, Look, Expire, Interrupt, Await, Signal, SignalAll, Drain, ended, HasShortLines, Act, Do, Trim, IsInRange}
-use Rattle.line_text.proofs.Lengths.{AreShort, decimal_short, header_short, line_length, mode_short}
+use Rattle.streams.proofs.Lengths.{AreShort, decimal_short, header_short, line_length, mode_short}
 use Rattle.steps.specs.declared.header.Format.{Format}
 use Rattle.steps.specs.declared.header.Format.TheVariants.{One, Two}
 use Rattle.steps.specs.declared.header.StepsHeader.{StepsHeader}

@@ -4,9 +4,9 @@ use Rattle.steps.specs.Below.{Header, Step, IsInRange, part_of, words_of, Act, D
 use Rattle.history.proofs.Numbers.{digits_alone}
 use Rattle.history.proofs.Plain.{ArePlain, words_again, decimal_plain}
 use Rattle.history.proofs.Readers.{same_value}
-use Rattle.line_text.proofs.Lawful.{IsLawful, Lacks}
-use Rattle.line_text.proofs.Lists.{head_is, same_behind}
-use Rattle.line_text.proofs.WholeLines.{has_no_break, line_lacks, header_whole, header_one}
+use Rattle.streams.proofs.Lawful.{IsLawful, Lacks}
+use Rattle.streams.proofs.Lists.{head_is, same_behind}
+use Rattle.streams.proofs.WholeLines.{has_no_break, line_lacks, header_whole, header_one}
 use Rattle.steps.specs.declared.header.Format.{Format}
 use Rattle.steps.specs.declared.header.Format.TheVariants.{One, Two}
 use Rattle.steps.specs.declared.header.StepsHeader.{StepsHeader}

@@ -1,4 +1,4 @@
--- What steps cites of the crates below, passed on from one place: names of frame, history and line_text.
+-- What steps cites of the crates below, passed on from one place: names of frame, history and streams.
 -- Declares nothing.
 pub use Rattle.frame.specs.declared.acts.Act.{Act}
 pub use Rattle.frame.specs.declared.acts.Act.TheVariants.{Do, Trim}
@@ -12,8 +12,8 @@ pub use Rattle.history.specs.Header.{IsInRange}
 pub use Rattle.history.specs.Reading.{Words, number_at, mode_at}
 pub use Rattle.history.specs.Spelling.{part_of}
 pub use Rattle.history.specs.Text.{ended, line_of, words_of}
-pub use Rattle.line_text.specs.declared.fault.ReadFault.{ReadFault}
-pub use Rattle.line_text.specs.Form.{Form}
-pub use Rattle.line_text.specs.Reading.{IsReading}
-pub use Rattle.line_text.specs.Short.{HasShortLines}
-pub use Rattle.line_text.specs.UnderWay.{SoFar}
+pub use Rattle.streams.specs.declared.fault.ReadFault.{ReadFault}
+pub use Rattle.streams.specs.Form.{Form}
+pub use Rattle.streams.specs.Reading.{IsReading}
+pub use Rattle.streams.specs.Short.{HasShortLines}
+pub use Rattle.streams.specs.UnderWay.{SoFar}

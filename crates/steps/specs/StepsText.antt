@@ -1,7 +1,7 @@
 -- Steps texts: their form, and what reading one returns.
 use Rattle.std.specs.Prelude.{ℕ, ◌<◌, ◌^◌, List, length, Result, Ok}
 use Rattle.steps.specs.Below.{Act, IsInRange, ReadFault, Form, IsReading, SoFar}
-use Rattle.line_text.specs.Reading as reading
+use Rattle.streams.specs.Reading as reading
 use Rattle.steps.specs.declared.header.StepsHeader.{StepsHeader}
 use Rattle.steps.specs.declared.steps_text.StepsText.{StepsText}
 use Rattle.steps.specs.StepLines.{header_line, act_line, end_line, IsAct}

@@ -10,9 +10,9 @@ ghost use Rattle.steps.specs.inner.StepLines.{BeginsWith};
 use history::entry::Mode;
 use history::step::Step;
 use history::text::behind;
-use line_text::at_once::{behind_byte, behind_four};
-use line_text::once::mode_of_once;
-use line_text::seat::seat_of;
+use streams::at_once::{behind_byte, behind_four};
+use streams::once::mode_of_once;
+use streams::seat::seat_of;
 
 /// A step whose line is read at once. It asks for 1, if it asks for an amount.
 ///

@@ -2,9 +2,9 @@
 
 ghost use Rattle.std.specs.Prelude.{◌≡◌, ◌≢◌, [], ◌++◌, List, ℕ};
 ghost use Rattle.frame.specs.declared.acts.Act.{Act};
-ghost use Rattle.line_text.specs.declared.limits.TheConstants.{LINE_BYTES};
-ghost use Rattle.line_text.specs.Reading.{IsReading, IsText, IsCutShort, Reading};
-ghost use Rattle.line_text.specs.Short.{HasShortLines};
+ghost use Rattle.streams.specs.declared.limits.TheConstants.{LINE_BYTES};
+ghost use Rattle.streams.specs.Reading.{IsReading, IsText, IsCutShort, Reading};
+ghost use Rattle.streams.specs.Short.{HasShortLines};
 ghost use Rattle.steps.specs.declared.header.StepsHeader.{StepsHeader};
 ghost use Rattle.steps.specs.StepsText.{steps_form};
 

@@ -17,4 +17,4 @@ pub use crate::end_line::MOST_ACTS;
 pub use crate::law::{cut_short, lines_are_short, one_reading};
 pub use crate::step_line::{asked, condition};
 pub use crate::steps_text::{StepsText, read_steps};
-pub use line_text::fault::{ReadFault, TextFault};
+pub use streams::fault::{ReadFault, TextFault};

@@ -3,9 +3,9 @@
 ghost use Rattle.std.specs.Prelude.{◌≡◌, ◌+◌, ◌<◌, ◌≤◌, ◌^◌, Err, Ok, None, length, IfOk, IfErr, IsErrOf};
 ghost use Rattle.history.specs.Header.{IsInRange};
 ghost use Rattle.history.specs.Text.{HasNoBreak, ended};
-ghost use Rattle.line_text.specs.Reading.{IsReading};
-ghost use Rattle.line_text.specs.declared.fault.TextFault.TheVariants.{CutShort};
-ghost use Rattle.line_text.specs.UnderWay.{IsHeaderOf, IsLineBehind};
+ghost use Rattle.streams.specs.Reading.{IsReading};
+ghost use Rattle.streams.specs.declared.fault.TextFault.TheVariants.{CutShort};
+ghost use Rattle.streams.specs.UnderWay.{IsHeaderOf, IsLineBehind};
 ghost use Rattle.steps.specs.StepLines.{end_line};
 ghost use Rattle.steps.specs.StepsText.{steps_form, steps_so_far};
 
@@ -15,7 +15,7 @@ use crate::end_line::is_end;
 use crate::header::{StepsHeader, header_on};
 use frame::acts::Act;
 use history::text::first_line;
-use line_text::fault::TextFault;
+use streams::fault::TextFault;
 
 /// Returns the header of a text, and what follows its line.
 pub fn header_of(text: &[u8]) -> Result<(StepsHeader, &[u8]), TextFault>

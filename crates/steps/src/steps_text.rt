@@ -5,8 +5,8 @@ ghost use Rattle.steps.specs.StepsText.{Reads};
 use crate::header::StepsHeader;
 use crate::next_line::{header_of, next_line};
 use frame::acts::Act;
-use line_text::fault::ReadFault;
 use std::alloc::Global;
+use streams::fault::ReadFault;
 
 /// About the length of a step's line. Memory for the list of acts is reserved for lines of this length.
 const LINE_LENGTH: usize = 12;

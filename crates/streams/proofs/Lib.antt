@@ -1,4 +1,17 @@
+pub mod Lists
+pub mod Lawful
+pub mod WholeLines
+pub mod Growing
+pub mod Following
+pub mod OneReading
+pub mod Cuts
+pub mod Seats
+pub mod AskingOnce
+pub mod UnderWay
+pub mod Faults
 pub mod LongLines
+pub mod Lengths
+pub mod PiecedLines
 pub mod Pieces
 pub mod Sliding
 pub mod Written

@@ -1,3 +1,10 @@
+pub mod AtOnce
+pub mod Form
+pub mod HeaderLine
+pub mod Once
+pub mod Reading
+pub mod Short
+pub mod UnderWay
 pub mod MemorySink
 pub mod MemorySource
 pub mod ReadingOn

@@ -1,8 +1,8 @@
 -- What a stream reads, writes and returns.
 use Rattle.std.specs.Prelude.{◌≡◌, ◌⊎◌, ◌≤◌, ℕ, List, ◌++◌, length, Option, Result, Ok, Err, IfSome, IsSomeAnd}
 use Rattle.std.specs.Io.KnownBytes.{IsAtEnd, Keeps, Appends}
-use Rattle.line_text.specs.Form.{Form}
-use Rattle.line_text.specs.Reading.{Begins, IsReading}
+use Rattle.streams.specs.Form.{Form}
+use Rattle.streams.specs.Reading.{Begins, IsReading}
 use Rattle.streams.specs.declared.stream_fault.StreamFault.{StreamFault}
 use Rattle.streams.specs.declared.stream_fault.StreamFault.TheVariants.{Text, ReadFailed, WriteFailed, Memory}
 use Rattle.streams.specs.ReadingOn.{IsTooLong}

@@ -2,7 +2,7 @@
 use Rattle.std.specs.Prelude.{◌≡◌, ◌+◌, ℕ, List, ◌++◌, length, take, Option, None, Some}
 use Rattle.std.specs.Io.KnownBytes.{Consumes}
 use Rattle.history.specs.Text.{HasNoBreak}
-use Rattle.line_text.specs.declared.limits.TheConstants.{LINE_BYTES}
+use Rattle.streams.specs.declared.limits.TheConstants.{LINE_BYTES}
 use Rattle.streams.specs.declared.limits.TheConstants.{ROOM}
 
 -- The bytes in the window, how many dropped bytes are before them, and how many places its memory has.

@@ -1,6 +1,7 @@
-//! The limits of what is read at once. Contracts and definitions cite them by name.
+//! The limits of a line and of what is read at once. Contracts and definitions cite them by name.
 
-use line_text::limits::LINE_BYTES;
+/// A line of a good text, without its break, has fewer bytes than this.
+pub const LINE_BYTES: usize = 256;
 
 /// How many bytes are read at once.
 pub const PIECE: usize = 65_536;

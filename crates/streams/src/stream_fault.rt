@@ -3,7 +3,7 @@
 ghost use Rattle.std.specs.Prelude.{◌≡◌};
 ghost use Rattle.streams.specs.declared.stream_fault.StreamFault.TheVariants.{Text, Memory};
 
-use line_text::fault::TextFault;
+use crate::fault::TextFault;
 use std::alloc::{AllocError, AllocFailed};
 use thiserror::Error;
 

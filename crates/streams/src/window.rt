@@ -3,17 +3,16 @@
 ghost use Rattle.std.specs.Prelude.{◌≡◌, ◌+◌, ◌<◌, ◌≤◌, ◌-◌, ◌↔◌, ℕ, List, Option, [], false, drop, length, take, IsTrue, IsErrOf, IfOk, IfErr, IfSome, OnOk, OnErr};
 ghost use Rattle.std.specs.Io.KnownBytes.{IsAtEnd, Keeps};
 ghost use Rattle.history.specs.Text.{HasNoBreak};
-ghost use Rattle.line_text.specs.declared.limits.TheConstants.{LINE_BYTES};
+ghost use Rattle.streams.specs.declared.limits.TheConstants.{LINE_BYTES};
 ghost use Rattle.streams.specs.ReadingOn.{IsOfReading, IsTooLong};
 ghost use Rattle.streams.specs.Window.{Grows, StaysAhead, room};
 ghost use Rattle.streams.specs.inner.Window.{IsFrontAhead, IsShorter};
 ghost use Rattle.streams.specs.declared.stream_fault.StreamFault.TheVariants.{Memory, ReadFailed};
 
-use crate::limits::ROOM;
+use crate::limits::{LINE_BYTES, ROOM};
 use crate::source::Source;
 use crate::stream_fault::StreamFault;
 use history::text::first_line;
-use line_text::limits::LINE_BYTES;
 use std::alloc::{AllocError, Global};
 use std::marker::Model;
 

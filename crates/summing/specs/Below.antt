@@ -1,9 +1,6 @@
 -- What summing cites of the crates below, passed on from one place: names of audit and history. Declares
 -- nothing.
-pub use Rattle.audit.specs.declared.verdict.Verdict.{Verdict}
-pub use Rattle.audit.specs.declared.verdict.Verdict.TheVariants.{Legal, NotLegal}
 pub use Rattle.audit.specs.Ledger.{LedgerStand, IsNext}
-pub use Rattle.audit.specs.Verdict.{front, IsFirstWrong}
 pub use Rattle.history.specs.declared.arrival.Arrival.{Arrival}
 pub use Rattle.history.specs.declared.entry.End.{End}
 pub use Rattle.history.specs.declared.entry.Entry.{Entry}
@@ -14,7 +11,6 @@ pub use Rattle.history.specs.declared.header.Header.{Header}
 pub use Rattle.history.specs.Base.{based}
 pub use Rattle.history.specs.Counts.{held}
 pub use Rattle.history.specs.Entry.{ends_call}
-pub use Rattle.history.specs.Legal.{IsLegal}
 pub use Rattle.history.specs.Line.{line, place_of}
 pub use Rattle.history.specs.Object.{is_lock}
 pub use Rattle.history.specs.Start.{Start}

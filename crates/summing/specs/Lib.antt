@@ -7,5 +7,4 @@ pub mod Peak
 pub mod Tallies
 pub mod Summary
 pub mod Summing
-pub mod Judging
 pub mod inner

@@ -18,7 +18,7 @@ pub(crate) fn ends_call(word: Word) -> bool
 }
 
 /// Returns whether an acquire took at once.
-pub(crate) fn is_take(word: Word) -> bool
+pub fn is_take(word: Word) -> bool
     ensures { result ≡ is_take word }
 {
     match word {
@@ -28,7 +28,7 @@ pub(crate) fn is_take(word: Word) -> bool
 }
 
 /// Returns whether an acquire began to wait in the queue.
-pub(crate) fn is_queued(word: Word) -> bool
+pub fn is_queued(word: Word) -> bool
     ensures { result ≡ is_queued word }
 {
     match word {

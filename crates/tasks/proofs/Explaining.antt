@@ -4,6 +4,7 @@ use Rattle.std.specs.Io.KnownBytes.{Consumes, IsAtEnd}
 use Rattle.std.proofs.lemmas.Option.{IfSome_then}
 use Rattle.fault_places.specs.Reports.{IsReport}
 use Rattle.fault_places.specs.declared.report.Report.{Report}
+use Rattle.driver.specs.declared.notation.Notation.{Notation}
 use Rattle.tasks.specs.Explain.{Answers, ExplainsText}
 use Rattle.tasks.specs.declared.fault.Fault.{Fault}
 
@@ -15,11 +16,11 @@ all_read (Some xs) None bytes all end = absurd all
 all_read (Some xs) (Some ys) bytes all end = all ∙ ap (λ (zs : List ℕ). bytes ++ zs) end ∙ append-nil bytes
 
 -- a report on what was read, and what it leads to
-pub explained : (at : Option ℕ) (left rest : Option (List ℕ)) (bytes seen : List ℕ) (found report : Report)
+pub explained : (at : Option ℕ) (notation : Notation) (left rest : Option (List ℕ)) (bytes seen : List ℕ) (found report : Report)
     (old new : Option (List ℕ)) (result : Result ℕ Fault) →
     Consumes left rest bytes → IsAtEnd rest → seen ≡ bytes → IsReport seen found → found ≡ report →
-    Answers at bytes report old new result → ExplainsText at left old new result
-explained at left rest bytes seen found report old new result all end same is e answers =
+    Answers at notation bytes report old new result → ExplainsText at notation left old new result
+explained at notation left rest bytes seen found report old new result all end same is e answers =
     let reported : IsReport bytes report =
     subst (λ (r : Report). IsReport bytes r) e (subst (λ (t : List ℕ). IsReport t found) same is) in
     inr
@@ -27,5 +28,5 @@ explained at left rest bytes seen found report old new result all end same is e 
     (λ text here. (
       report,
       subst (λ (t : List ℕ). IsReport t report) (sym here) reported,
-      subst (λ (t : List ℕ). Answers at t report old new result) (sym here) answers,
+      subst (λ (t : List ℕ). Answers at notation t report old new result) (sym here) answers,
     )))

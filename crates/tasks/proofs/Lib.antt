@@ -1,4 +1,3 @@
-mod ExplainingJson
 pub mod OpenGates
 pub mod Runners
 pub mod Runs

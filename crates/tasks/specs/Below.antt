@@ -2,13 +2,10 @@
 -- script, streams and workers. Declares nothing.
 pub use Rattle.audit.specs.declared.verdict.Verdict.{Verdict}
 pub use Rattle.audit.specs.declared.verdict.Verdict.TheVariants.{Legal, NotLegal}
-pub use Rattle.driver.specs.AuditStream.{AuditsIn, HistoryReadOut}
-pub use Rattle.driver.specs.DrawStream.{DrawsWith}
-pub use Rattle.driver.specs.ExplainStream.{Explains}
-pub use Rattle.driver.specs.PageStream.{PagesWith}
-pub use Rattle.driver.specs.ReplayStream.{Replays, StepsReadOut}
-pub use Rattle.driver.specs.SummaryStream.{SummarisesIn}
-pub use Rattle.naming.specs.Names.{Given}
+pub use Rattle.driver.specs.ReplayStream.{StepsReadOut, WritesReplay}
+pub use Rattle.driver.specs.Telling.{HistoryReadOut, WritesTold}
+pub use Rattle.driver.specs.declared.telling.Telling.{Telling}
+pub use Rattle.picture.specs.Names.{Given}
 pub use Rattle.run_text.specs.RunText.{parts_text, run_text, last_lines, report_text}
 pub use Rattle.script.specs.declared.fault.ScriptFault.{ScriptFault}
 pub use Rattle.script.specs.declared.fault.ScriptFault.TheVariants.{NotJson, BadTop, BadObject, BadThread, BadCall, OutOfMemory}

@@ -1,11 +1,9 @@
 pub mod Below
 pub mod Explain
-pub mod ExplainJson
 pub mod Fault
 pub mod Names
 pub mod StreamFault
 pub mod Perform
 pub mod Ran
 pub mod RunScript
-pub mod Tell
 pub mod Timed

@@ -1,6 +1,6 @@
 -- Why names can't be read.
 use Rattle.std.specs.Prelude.{◌≡◌, ℕ, List, Option, Err, IfSome}
-use Rattle.naming.specs.Reading.{reading}
+use Rattle.picture.specs.Reading.{reading}
 use Rattle.streams.specs.declared.stream_fault.StreamFault.TheVariants.{Text, ReadFailed, WriteFailed, Memory as StreamMemory}
 use Rattle.tasks.specs.declared.fault.Fault.{Fault}
 use Rattle.tasks.specs.declared.fault.Fault.TheVariants.{Usage, BadFrom, BadTo, BadAt, BadRunOption, BadNaming, Memory, Stream, Script, Run}

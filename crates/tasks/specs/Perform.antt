@@ -1,7 +1,8 @@
 -- What the program does for a task, and its exit status.
 use Rattle.std.specs.Prelude.{◌≡◌, ℕ, List, [], Option, Result, Ok, Err}
 use Rattle.std.specs.Io.KnownBytes.{IsAtEnd}
-use Rattle.tasks.specs.Below.{Verdict, Legal, NotLegal, AuditsIn, HistoryReadOut, DrawsWith, Explains, PagesWith, Replays, StepsReadOut, SummarisesIn, Given, StreamFault}
+use Rattle.tasks.specs.Below.{Verdict, Legal, NotLegal, HistoryReadOut, StepsReadOut, WritesReplay, WritesTold, Given, StreamFault}
+use Rattle.driver.specs.declared.telling.Telling.TheVariants as telling
 use Rattle.tasks.specs.declared.task.Task.{Task}
 use Rattle.tasks.specs.declared.task.Task.TheVariants.{Replay, Audit, Draw, Explain, Page, Summary}
 use Rattle.tasks.specs.declared.fault.Fault.{Fault}
@@ -29,8 +30,8 @@ Judges Leaves (Err (Run fault)) = ⊥
 -- The names that were given, the source's bytes, and what the sink held before and holds after.
 abbrev pub PerformsWith : Given → Task → Option (List ℕ) → Option (List ℕ) → Option (List ℕ) →
     Result ℕ Fault → Type 0
-PerformsWith names (Replay form) left old new (Ok status) = (status ≡ 0) × Replays form left old new (Ok tt)
-PerformsWith names (Replay form) left old new (Err (Stream fault)) = Replays form left old new (Err fault)
+PerformsWith names (Replay form) left old new (Ok status) = (status ≡ 0) × WritesReplay form left old new (Ok tt)
+PerformsWith names (Replay form) left old new (Err (Stream fault)) = WritesReplay form left old new (Err fault)
 PerformsWith names (Replay form) left old new (Err Usage) = ⊥
 PerformsWith names (Replay form) left old new (Err BadFrom) = ⊥
 PerformsWith names (Replay form) left old new (Err BadTo) = ⊥
@@ -40,31 +41,48 @@ PerformsWith names (Replay form) left old new (Err (BadNaming line)) = ⊥
 PerformsWith names (Replay form) left old new (Err Memory) = ⊥
 PerformsWith names (Replay form) left old new (Err (Script fault)) = ⊥
 PerformsWith names (Replay form) left old new (Err (Run fault)) = ⊥
-PerformsWith names (Audit notation) left old new result = Judges (AuditsIn notation left old new) result
-PerformsWith names (Draw choice) left old new result = Judges (DrawsWith names choice left old new) result
-PerformsWith names (Page choice) left old new result = Judges (PagesWith names choice left old new) result
-PerformsWith names (Explain at) left old new result = Judges (Explains at left old new) result
-PerformsWith names (Summary notation) left old new result = Judges (SummarisesIn notation left old new) result
+PerformsWith names (Audit notation) left old new result =
+    Judges (WritesTold (telling.Audit notation) left old new) result
+PerformsWith names (Draw choice) left old new result = Judges (WritesTold (telling.Draw choice) left old new) result
+PerformsWith names (Page choice) left old new result = Judges (WritesTold (telling.Page choice) left old new) result
+PerformsWith names (Explain at notation) left old new result =
+    Judges (WritesTold (telling.Explain at notation) left old new) result
+PerformsWith names (Summary notation) left old new result =
+    Judges (WritesTold (telling.Summary notation) left old new) result
 
 -- the same, if no names were given
 abbrev pub Performs : Task → Option (List ℕ) → Option (List ℕ) → Option (List ℕ) → Result ℕ Fault → Type 0
 Performs = PerformsWith []
 
+-- how far a history is read to tell of it
+abbrev pub IsHistoryRead : Option (List ℕ) → Result ℕ Fault → Option (List ℕ) → Type 0
+IsHistoryRead text (Ok status) left = IsAtEnd left
+IsHistoryRead text (Err (Stream fault)) left = HistoryReadOut text (Err fault) left
+IsHistoryRead text (Err Usage) left = ⊥
+IsHistoryRead text (Err BadFrom) left = ⊥
+IsHistoryRead text (Err BadTo) left = ⊥
+IsHistoryRead text (Err BadAt) left = ⊥
+IsHistoryRead text (Err (BadRunOption option)) left = ⊥
+IsHistoryRead text (Err (BadNaming line)) left = ⊥
+IsHistoryRead text (Err Memory) left = ⊥
+IsHistoryRead text (Err (Script fault)) left = ⊥
+IsHistoryRead text (Err (Run fault)) left = ⊥
+
 -- How far a task reads: as its stream does. The arguments are what the source had left and what it has left.
 abbrev pub IsReadOutFor : Task → Option (List ℕ) → Result ℕ Fault → Option (List ℕ) → Type 0
-IsReadOutFor task text (Ok status) left = IsAtEnd left
+IsReadOutFor (Replay form) text (Ok status) left = IsAtEnd left
 IsReadOutFor (Replay form) text (Err (Stream fault)) left = StepsReadOut text (Err fault) left
-IsReadOutFor (Audit notation) text (Err (Stream fault)) left = HistoryReadOut text (Err fault) left
-IsReadOutFor (Draw choice) text (Err (Stream fault)) left = HistoryReadOut text (Err fault) left
-IsReadOutFor (Page choice) text (Err (Stream fault)) left = HistoryReadOut text (Err fault) left
-IsReadOutFor (Explain at) text (Err (Stream fault)) left = HistoryReadOut text (Err fault) left
-IsReadOutFor (Summary notation) text (Err (Stream fault)) left = HistoryReadOut text (Err fault) left
-IsReadOutFor task text (Err Usage) left = ⊥
-IsReadOutFor task text (Err BadFrom) left = ⊥
-IsReadOutFor task text (Err BadTo) left = ⊥
-IsReadOutFor task text (Err BadAt) left = ⊥
-IsReadOutFor task text (Err (BadRunOption option)) left = ⊥
-IsReadOutFor task text (Err (BadNaming line)) left = ⊥
-IsReadOutFor task text (Err Memory) left = ⊥
-IsReadOutFor task text (Err (Script fault)) left = ⊥
-IsReadOutFor task text (Err (Run fault)) left = ⊥
+IsReadOutFor (Replay form) text (Err Usage) left = ⊥
+IsReadOutFor (Replay form) text (Err BadFrom) left = ⊥
+IsReadOutFor (Replay form) text (Err BadTo) left = ⊥
+IsReadOutFor (Replay form) text (Err BadAt) left = ⊥
+IsReadOutFor (Replay form) text (Err (BadRunOption option)) left = ⊥
+IsReadOutFor (Replay form) text (Err (BadNaming line)) left = ⊥
+IsReadOutFor (Replay form) text (Err Memory) left = ⊥
+IsReadOutFor (Replay form) text (Err (Script fault)) left = ⊥
+IsReadOutFor (Replay form) text (Err (Run fault)) left = ⊥
+IsReadOutFor (Audit notation) text result left = IsHistoryRead text result left
+IsReadOutFor (Draw choice) text result left = IsHistoryRead text result left
+IsReadOutFor (Page choice) text result left = IsHistoryRead text result left
+IsReadOutFor (Explain at notation) text result left = IsHistoryRead text result left
+IsReadOutFor (Summary notation) text result left = IsHistoryRead text result left

@@ -1,7 +1,7 @@
 -- What a run for a limited time leaves.
 use Rattle.std.specs.Prelude.{◌≡◌, ℕ, List, length}
 use Rattle.tasks.specs.Below.{ScriptView, WorkerView, IsListed}
-use Rattle.standing_text.specs.StandingText.{IsStandingText}
+use Rattle.run_text.specs.StandingText.{IsStandingText}
 use Rattle.tasks.specs.declared.fault.Fault.{Fault}
 use Rattle.tasks.specs.declared.fault.Fault.TheVariants.{Usage, BadFrom, BadTo, BadAt, BadRunOption, BadNaming, Memory, Stream, Script, Run}
 use Rattle.tasks.specs.declared.timed.Timed.{Timed}

@@ -38,8 +38,8 @@ pub enum Fault {
     /// The entry to explain is no number.
     #[error("bad --at")]
     BadAt,
-    /// An option of a run can't be met: no object has the name, or the folder has a file of an object's name, or
-    /// is none, or the time is none.
+    /// An option of a run can't be met: no object has the name, or the folder has a file of an object's name,
+    /// or is none, or the time is none.
     #[error("bad --{0}")]
     BadRunOption(RunOption),
     /// This line of the names of seats and conditions, counted from 1, is wrong.

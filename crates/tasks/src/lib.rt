@@ -2,7 +2,6 @@
 //! prints, and its exit status.
 #![tactic(auto)]
 
-pub mod as_json;
 pub mod ending;
 pub mod explain;
 pub mod fault;
@@ -11,7 +10,5 @@ pub mod perform;
 pub mod ran;
 pub mod run_script;
 pub mod task;
-pub mod tell;
-mod text_sink;
 mod text_source;
 pub mod timed;

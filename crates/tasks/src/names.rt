@@ -1,13 +1,13 @@
 //! Reading the names of seats and conditions.
 
 ghost use Rattle.std.specs.Prelude.{◌≡◌, ◌↔◌, Ok, false, IfErr, IfOk, IfSome, IsErrOf, IsTrue};
-ghost use Rattle.naming.specs.Reading.{NamesRead};
+ghost use Rattle.picture.specs.Reading.{NamesRead};
 ghost use Rattle.streams.specs.declared.stream_fault.StreamFault.TheVariants.{ReadFailed};
 ghost use Rattle.tasks.specs.Names.{IsFaultOfNames};
 ghost use Rattle.tasks.specs.declared.fault.Fault.TheVariants.{Stream};
 
 use crate::fault::Fault;
-use naming::{Names, NamesFault, read_names};
+use picture::naming::{Names, NamesFault, read_names};
 use std::alloc::Global;
 use streams::rest::read_all;
 use streams::source::Source;

@@ -2,25 +2,23 @@
 
 ghost use Rattle.std.specs.Prelude.{◌≡◌, ◌↔◌, false, IsErrOf, IsTrue};
 ghost use Rattle.streams.specs.declared.stream_fault.StreamFault.TheVariants.{ReadFailed, WriteFailed};
-ghost use Rattle.tasks.specs.Perform.{IsReadOutFor, Performs, PerformsWith, status_for};
+ghost use Rattle.driver.specs.Telling.{WritesTold};
+ghost use Rattle.tasks.specs.Perform.{IsHistoryRead, IsReadOutFor, Judges, Performs, PerformsWith, status_for};
 ghost use Rattle.tasks.specs.declared.fault.Fault.TheVariants.{Stream};
 
 use crate::fault::Fault;
 use crate::task::Task;
 use audit::verdict::Verdict;
-use driver::audit_stream::audit_stream_in;
-use driver::draw_stream::draw_stream_with;
-use driver::explain_stream::explain_stream;
-use driver::page_stream::page_stream_with;
 use driver::replay_stream::replay_stream;
-use driver::summary_stream::summary_stream_in;
-use naming::Names;
+use driver::tell_stream::tell_stream;
+use driver::telling::Telling;
+use picture::naming::Names;
 use std::alloc::Global;
 use streams::sink::Sink;
 use streams::source::Source;
 
 /// Returns the exit status for a verdict.
-fn status_for(verdict: Verdict) -> u8
+pub(crate) fn status_for(verdict: Verdict) -> u8
     ensures { result ≡ status_for verdict }
 {
     match verdict {
@@ -70,16 +68,31 @@ pub fn perform_with<R: Source, W: Sink>(
             replay_stream(alloc, reader, writer, form)?;
             Ok(0)
         }
-        Task::Audit(notation) => Ok(status_for(audit_stream_in(alloc, reader, writer, notation)?)),
-        Task::Draw(choice) => {
-            Ok(status_for(draw_stream_with(alloc, names, reader, writer, choice)?))
+        Task::Audit(notation) => told(alloc, names, reader, writer, Telling::Audit(notation)),
+        Task::Draw(choice) => told(alloc, names, reader, writer, Telling::Draw(choice)),
+        Task::Page(choice) => told(alloc, names, reader, writer, Telling::Page(choice)),
+        Task::Explain(at, notation) => {
+            told(alloc, names, reader, writer, Telling::Explain(at, notation))
         }
-        Task::Page(choice) => {
-            Ok(status_for(page_stream_with(alloc, names, reader, writer, choice)?))
-        }
-        Task::Explain(at) => Ok(status_for(explain_stream(alloc, reader, writer, at)?)),
-        Task::Summary(notation) => {
-            Ok(status_for(summary_stream_in(alloc, reader, writer, notation)?))
-        }
+        Task::Summary(notation) => told(alloc, names, reader, writer, Telling::Summary(notation)),
     }
+}
+
+/// Writes what is to be told of a history, and returns the exit status.
+fn told<R: Source, W: Sink>(
+    alloc: Global,
+    names: &Names,
+    reader: &mut R,
+    writer: &mut W,
+    telling: Telling,
+) -> Result<u8, Fault>
+    requires reader { R.failed reader.old ≡ false }
+    requires writer { W.failed writer.old ≡ false }
+    ensures performs { Judges (WritesTold telling (R.left reader.old) (W.held writer.old) (W.held writer.new))
+        result }
+    ensures end { IsHistoryRead (R.left reader.old) result (R.left reader.new) }
+    ensures read { IsErrOf result (Stream ReadFailed) ↔ IsTrue (R.failed reader.new) }
+    ensures write { IsErrOf result (Stream WriteFailed) ↔ IsTrue (W.failed writer.new) }
+{
+    Ok(status_for(tell_stream(alloc, names, reader, writer, telling)?))
 }

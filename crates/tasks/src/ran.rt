@@ -41,8 +41,8 @@ impl Model for Ran {
 }
 
 impl Ran {
-    /// Runs the threads of a script to their ends. If they wait for each other, this may never return. `keep` says
-    /// what is kept of the answers that no history records.
+    /// Runs the threads of a script to their ends. If they wait for each other, this may never return. `keep`
+    /// says what is kept of the answers that no history records.
     ///
     /// # Errors
     ///
@@ -82,13 +82,13 @@ impl Ran {
         Some((name.as_str(), part))
     }
 
-    /// Writes the run text, with a line for each answer that is listed. Returns the exit status, which is 0, since
-    /// each history is legal.
+    /// Writes the run text, with a line for each answer that is listed. Returns the exit status, which is 0,
+    /// since each history is legal.
     ///
     /// # Errors
     ///
-    /// The fault of an allocation, and then nothing was written, or of the sink. A sink that failed may have been
-    /// given the first bytes of the run text.
+    /// The fault of an allocation, and then nothing was written, or of the sink. A sink that failed may have
+    /// been given the first bytes of the run text.
     pub fn write<W: Sink>(self, alloc: Global, writer: &mut W) -> Result<u8, Fault>
         requires { W.failed writer.old ≡ false }
         ensures writes { WritesRan self (W.held writer.old) (W.held writer.new) result }

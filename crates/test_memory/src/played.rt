@@ -20,7 +20,6 @@ use history::header::{Header, Object, Policy};
 use history::step::Step;
 use history_text::fitting::fits;
 use history_text::{read_text, write_text};
-use line_text::fault::ReadFault;
 use monitor_fronts::{open_latch, open_lock, open_read_write_lock, open_semaphore};
 use node_arena::node_list::NodeList;
 use permit::{ScriptedParking, ThreadParking};
@@ -30,6 +29,7 @@ use std::alloc::{AllocError, Global};
 use std::time::Clock;
 use steps::read_steps;
 use streams::device::Device;
+use streams::fault::ReadFault;
 use streams::rest::read_all;
 use streams::stream_fault::StreamFault;
 

@@ -5,9 +5,11 @@ ghost use Rattle.std.specs.Prelude.{◌≡◌, false};
 use audit::verdict::Verdict;
 use driver::audit_stream::audit_stream;
 use driver::choice::Choice;
-use driver::draw_stream::draw_stream;
 use driver::form::Form;
 use driver::replay_stream::replay_stream;
+use driver::tell_stream::tell_stream;
+use driver::telling::Telling;
+use picture::naming::Names;
 use std::alloc::Global;
 use std::io;
 use streams::device::Device;
@@ -62,7 +64,10 @@ fn between<R: Source, W: Sink>(
         Stream::Replay => answered(replay_stream(alloc, reader, writer, Form::Replay)),
         Stream::History => answered(replay_stream(alloc, reader, writer, Form::History)),
         Stream::Audit => judged(audit_stream(alloc, reader, writer)),
-        Stream::Draw => judged(draw_stream(alloc, reader, writer, ALL)),
+        Stream::Draw => {
+            let names = Names::none(alloc);
+            judged(tell_stream(alloc, &names, reader, writer, Telling::Draw(ALL)))
+        }
     }
 }
 

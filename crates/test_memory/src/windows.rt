@@ -1,7 +1,7 @@
 //! How much a window reads at once, and what is read from a source after an allocation fails.
 
 ghost use Rattle.std.specs.Prelude.{◌≡◌, ◌<◌, false};
-ghost use Rattle.line_text.specs.declared.limits.TheConstants.{LINE_BYTES};
+ghost use Rattle.streams.specs.declared.limits.TheConstants.{LINE_BYTES};
 
 use std::alloc::{AllocError, Global};
 use std::test::Fail;

@@ -1,22 +1,12 @@
--- Texts inside the strings of JSON that stands in a page.
-use Rattle.std.specs.Prelude.{ℕ, ◌+◌, ◌/◌, ◌%◌, ◌==◌, ◌||◌, nat_lt, Bool, if◌then◌else◌, List, [], ◌∷◌, ◌++◌, codes}
+-- JSON that stands in a page.
+use Rattle.std.specs.Prelude.{ℕ, ◌==◌, if◌then◌else◌, List, [], ◌∷◌, codes}
 use Rattle.std.specs.List.{flat_map}
 
--- a quote, an ampersand, an apostrophe, a sign of a tag, a backslash, or no printable character of ASCII
-abbrev pub is_special : ℕ → Bool
-is_special byte =
-    byte == 34 || byte == 38 || byte == 39 || byte == 60 || byte == 62 || byte == 92
-    || nat_lt byte 32 || nat_lt 126 byte
-
--- a digit of base 16
-abbrev pub digit_of : ℕ → ℕ
-digit_of n = if nat_lt n 10 then 48 + n else 87 + n
-
-abbrev pub code_of : ℕ → List ℕ
-code_of byte = codes "\\u00" ++ digit_of (byte / 16) ∷ digit_of (byte % 16) ∷ []
-
+-- an ampersand, an apostrophe and the signs of a tag are written by their codes
 abbrev pub escaped_byte : ℕ → List ℕ
-escaped_byte byte = if is_special byte then code_of byte else byte ∷ []
+escaped_byte byte =
+    if byte == 38 then codes "\\u0026" else if byte == 39 then codes "\\u0027"
+    else if byte == 60 then codes "\\u003c" else if byte == 62 then codes "\\u003e" else byte ∷ []
 
 abbrev pub escaped : List ℕ → List ℕ
-escaped text = flat_map escaped_byte text
+escaped json = flat_map escaped_byte json

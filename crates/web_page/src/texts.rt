@@ -9,7 +9,7 @@ pub const OPENING: &[u8] = b"\
     <html lang='en'>\n\
     <head>\n\
     <meta charset='utf-8'>\n\
-    <meta http-equiv='Content-Security-Policy' content=\"default-src 'none'; script-src 'sha256-eBXNCQzmm/S8hPS3yQz83R3+ORL4qb97ZBR9W82Q2P8='; style-src 'sha256-lAR4oZJmbvFLPLO4vxmxk2ouwdbq35Xk4u3a3RLGdSo='; base-uri 'none'; form-action 'none'\">\n\
+    <meta http-equiv='Content-Security-Policy' content=\"default-src 'none'; script-src 'sha256-VEyC+90mXX2A1G7KRylM5YzNRYSE8jEE96iEG0x5muM='; style-src 'sha256-lAR4oZJmbvFLPLO4vxmxk2ouwdbq35Xk4u3a3RLGdSo='; base-uri 'none'; form-action 'none'\">\n\
     <meta name='viewport' content='width=device-width'>\n\
     <title>aqs draw</title>\n\
     <style>\n\
@@ -84,7 +84,7 @@ pub const OPENING: &[u8] = b"\
     <script type='application/json' id='data'>\n";
 
 /// All after the data.
-pub const CLOSING: &[u8] = b"\
+pub const CLOSING: &[u8] = b"\n\
     </script>\n\
     <script>\n\
     'use strict';\n\
@@ -92,8 +92,7 @@ pub const CLOSING: &[u8] = b"\
       const byId = (id) => document.getElementById(id);\n\
       const data = JSON.parse(byId('data').textContent);\n\
       const object = data.header.split(' ')[0];\n\
-      const from = data.from;\n\
-      const to = data.to;\n\
+      const { from, to } = data;\n\
       const bars = data.stretches.slice(1).map((row) => (\n\
         { kind: row[0], seat: row[1], first: row[2], last: row[3], holds: row[4] }\n\
       ));\n\
@@ -162,21 +161,16 @@ pub const CLOSING: &[u8] = b"\
       }\n\
     \n\
       const MEANING = {\n\
-        got: 'acquired at once',\n\
-        trygot: 'acquired at once, by a try',\n\
-        queued: 'joined the queue',\n\
-        granted: 'acquired, after a wait in the queue',\n\
-        missed: 'did not get it, and does not wait',\n\
-        left: 'gave up its wait in the queue',\n\
-        gave: 'released',\n\
-        refused: 'was refused',\n\
+        got: 'acquired at once', trygot: 'acquired at once, by a try',\n\
+        queued: 'joined the queue', granted: 'acquired, after a wait in the queue',\n\
+        missed: 'did not get it, and does not wait', left: 'gave up its wait in the queue',\n\
+        gave: 'released', refused: 'was refused',\n\
         await: 'released all, and waits on a condition',\n\
         lapse: 'gave up its wait on a condition, and joined the queue',\n\
         signal: 'moved the longest waiter of a condition to the queue, if there was one',\n\
         signalall: 'moved all waiters of a condition to the queue',\n\
         back: 'came back from its wait on a condition',\n\
-        counted: 'counted down',\n\
-        drained: 'took all free permits',\n\
+        counted: 'counted down', drained: 'took all free permits',\n\
       };\n\
       const barged = new Set(marks.filter((mark) => mark.sign === 'barged').map((mark) => mark.at));\n\
       // What an entry does. A condition with a name is told in the place of 'a condition'.\n\
@@ -196,14 +190,10 @@ pub const CLOSING: &[u8] = b"\
       const LEFT = seats.some((seat) => names.has('seat ' + seat)) ? 200 : 72;\n\
       const RIGHT = 960;\n\
       const SHAPES = {\n\
-        missed: 'm-3 0a3 3 0 1 0 6 0a3 3 0 1 0 -6 0',\n\
-        refused: 'm-3 -3l6 6m0 -6l-6 6',\n\
-        signal: 'm0 -4l3 7h-6z',\n\
-        drained: 'm0 4l3 -7h-6z',\n\
-        counted: 'm-3 -4v8m3 -8v8m3 -8v8',\n\
-        granted: 'm-4 0l3 3l5 -6',\n\
-        timeout: 'm-4 0a4 4 0 1 0 8 0a4 4 0 1 0 -8 0m4 -3v3h2',\n\
-        interrupt: 'm1 -4l-3 4h4l-3 4',\n\
+        missed: 'm-3 0a3 3 0 1 0 6 0a3 3 0 1 0 -6 0', refused: 'm-3 -3l6 6m0 -6l-6 6',\n\
+        signal: 'm0 -4l3 7h-6z', drained: 'm0 4l3 -7h-6z',\n\
+        counted: 'm-3 -4v8m3 -8v8m3 -8v8', granted: 'm-4 0l3 3l5 -6',\n\
+        timeout: 'm-4 0a4 4 0 1 0 8 0a4 4 0 1 0 -8 0m4 -3v3h2', interrupt: 'm1 -4l-3 4h4l-3 4',\n\
         barged: 'm-4 -4l4 4l-4 4m4 -8l4 4l-4 4',\n\
       };\n\
     \n\
@@ -213,9 +203,7 @@ pub const CLOSING: &[u8] = b"\
         return entry.seat === bar.seat && entry.word === 'queued' ? entry.words.split(' ')[1] : '';\n\
       }\n\
     \n\
-      let at = from;\n\
-      let width = 4;\n\
-      let begin = from;\n\
+      let [at, width, begin] = [from, 4, from];\n\
     \n\
       function element(parent, name, attributes, text) {\n\
         const it = document.createElementNS('http://www.w3.org/2000/svg', name);\n\
@@ -348,16 +336,15 @@ pub const CLOSING: &[u8] = b"\
       }\n\
     \n\
       const KEYS = {\n\
-        ArrowLeft: () => go(at - 1),\n\
-        ArrowRight: () => go(at + 1),\n\
-        Home: () => go(from),\n\
-        End: () => go(to - 1),\n\
-        '+': () => zoom(1),\n\
-        '-': () => zoom(-1),\n\
+        ArrowLeft: () => go(at - 1), ArrowRight: () => go(at + 1), Home: () => go(from), End: () => go(to - 1),\n\
+        '+': () => zoom(1), '-': () => zoom(-1),\n\
+      };\n\
+      const BUTTONS = {\n\
+        first: KEYS.Home, back: KEYS.ArrowLeft, forward: KEYS.ArrowRight, last: KEYS.End,\n\
+        nearer: KEYS['+'], farther: KEYS['-'], next: () => find(1), previous: () => find(-1),\n\
       };\n\
     \n\
-      byId('title').textContent = data.header;\n\
-      document.title = data.header;\n\
+      byId('title').textContent = document.title = data.header;\n\
       const shown = to - from;\n\
       byId('part').textContent = shown === 0 ? 'no entry is shown of ' + data.entries\n\
         : data.cut ? 'the first ' + shown + ' entries of ' + data.entries + '; --from and --to choose others'\n\
@@ -367,21 +354,13 @@ pub const CLOSING: &[u8] = b"\
         byId('entry').textContent = 'No entry is shown.';\n\
         return;\n\
       }\n\
-      option('seat', '', 'any seat');\n\
+      option('seat', '', 'any seat'); option('kind', '', 'any kind');\n\
       seats.forEach((seat) => option('seat', String(seat), told('seat ' + seat)));\n\
-      option('kind', '', 'any kind');\n\
       Array.from(new Set(entries.map((entry) => entry.word))).sort().forEach((word) => option('kind', word, word));\n\
       byId('at').setAttribute('min', String(from));\n\
       byId('at').setAttribute('max', String(to - 1));\n\
       byId('at').addEventListener('input', () => go(Number(byId('at').value)));\n\
-      byId('first').addEventListener('click', KEYS.Home);\n\
-      byId('back').addEventListener('click', KEYS.ArrowLeft);\n\
-      byId('forward').addEventListener('click', KEYS.ArrowRight);\n\
-      byId('last').addEventListener('click', KEYS.End);\n\
-      byId('nearer').addEventListener('click', KEYS['+']);\n\
-      byId('farther').addEventListener('click', KEYS['-']);\n\
-      byId('next').addEventListener('click', () => find(1));\n\
-      byId('previous').addEventListener('click', () => find(-1));\n\
+      Object.keys(BUTTONS).forEach((id) => byId(id).addEventListener('click', BUTTONS[id]));\n\
       document.addEventListener('keydown', (event) => {\n\
         const inField = ['INPUT', 'SELECT'].includes(event.target && event.target.tagName);\n\
         if (inField || event.ctrlKey || event.altKey || event.metaKey || KEYS[event.key] === undefined) return;\n\

@@ -7,10 +7,10 @@ abbrev pub asks_or : Bool → Option Arrival → Bool
 asks_or was None = was
 asks_or was (Some a) = not a.back
 
--- how many of the first n places of a table are marked
-abbrev pub marked : List Bool → ℕ → ℕ
-marked table zero = 0
-marked table (suc i) = more (marked table i) (slice_index_or table i false)
+-- how many of the first n seats of a table wait
+abbrev pub asking_in : List Bool → ℕ → ℕ
+asking_in table zero = 0
+asking_in table (suc i) = more (asking_in table i) (slice_index_or table i false)
 
 -- how many of the first n seats wait so, beside one seat
 abbrev pub others : Start → List Entry → ℕ → ℕ → ℕ

@@ -1,7 +1,7 @@
 -- What the next line of a history text spells.
 use Rattle.std.specs.Prelude.{ℕ, List, [], Option, Result}
 use Rattle.history_text.specs.Below.{Base, HistoryView, or_opening, ReadFault}
-use Rattle.line_text.specs.Reading as reading
+use Rattle.streams.specs.Reading as reading
 use Rattle.history_text.specs.declared.place.Head.{Head}
 use Rattle.history_text.specs.declared.place.Place.{Place}
 use Rattle.history_text.specs.HistoryText.{IsRead, history_form}

@@ -1,7 +1,7 @@
 -- A window on the bytes of a source.
 use Rattle.std.specs.Prelude.{◌≡◌, ◌≤◌, ◌+◌, ℕ, List, ◌++◌, length, take, Option, None, Some}
 use Rattle.history.specs.Text.{HasNoBreak}
-use Rattle.line_text.specs.declared.limits.TheConstants.{LINE_BYTES}
+use Rattle.streams.specs.declared.limits.TheConstants.{LINE_BYTES}
 
 -- What is ahead begins with bytes of one line, whose first bytes are in the window. The rest is left.
 pub record IsFront (ahead window left : List ℕ) : Type 0 where

@@ -1,10 +1,13 @@
 //! What is told of a run while its threads go on, and when it counts as ended.
 
 use super::*;
+use crate::post::Post;
 use history::entry::End;
 use history::header::Policy;
+use permit::{Parking, ThreadParking};
 use std::io;
 use std::process::Abort;
+use std::sync::Arc;
 use std::sync::atomic::AtomicBool;
 use std::thread::{Threads, join};
 
@@ -132,4 +135,17 @@ fn look_at_one<R: Abort + Threads + Wait + Clock + Sync + AllocGlobal>(
 fn a_thread_that_goes_on_meanwhile_is_not_told_to_wait_with_what_it_took_then(rt: HostRuntime) {
     let notes = of_one(&rt);
     assert_eq!(rt; look_at_one(&rt, &notes), 0);
+}
+
+#[test]
+fn a_thread_that_was_woken_is_not_told_to_wait_though_its_call_goes_on(rt: HostRuntime) {
+    let notes = Arc::new(rt.alloc(), of_one(&rt)).expect(&rt, "memory");
+    let post = Post {
+        parking: ThreadParking::open(&rt, rt.alloc(), 1).expect(&rt, "memory"),
+        notes: Arc::try_clone(&notes).ok(),
+    };
+    post.interrupt(0);
+    let _ = post.park(&rt, 0, None, true);
+    let all = notes.standings(rt.alloc()).expect(&rt, "memory");
+    assert!(rt; all.iter().all(|standing| !standing.waits));
 }

@@ -2,7 +2,7 @@ use Rattle.std.proofs.Common.{◌≡◌, ℕ, ◌+◌, ◌-◌, List, ◌++◌, 
 use Rattle.driver.specs.Prelude.{all_of, IsGathered}
 use Rattle.history_text.specs.Pieces.{entry_lines}
 use Rattle.driver.proofs.Gathering.{gathered_more, gathers_failed}
-use Rattle.driver.proofs.Telling.{entry_more, front_of_all, lines_longer}
+use Rattle.driver.proofs.LinesTold.{entry_more, front_of_all, lines_longer}
 use Rattle.streams.proofs.Written.{not_true}
 use Rattle.driver.proofs.answers.put_entries.Goals as goal
 

@@ -1,7 +1,7 @@
 use Rattle.std.proofs.Common.{sym, subst}
 use Rattle.driver.specs.Prelude.{Remark, IsNamed, all_of, Gathers}
 use Rattle.driver.proofs.Gathering.{gathered_more, gathers_failed}
-use Rattle.driver.proofs.Telling.{front_of_all, gathers_more, remark_further, remark_last, remark_next}
+use Rattle.driver.proofs.LinesTold.{front_of_all, gathers_more, remark_further, remark_last, remark_next}
 use Rattle.streams.proofs.Written.{not_true}
 use Rattle.driver.proofs.answers.put_lines.Goals as goal
 

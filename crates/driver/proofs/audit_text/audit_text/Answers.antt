@@ -1,5 +1,4 @@
 use Rattle.std.proofs.lemmas.Result.{IfOk-weaker}
-use Rattle.driver.specs.AuditText.{legal_text}
 use Rattle.driver.proofs.audit_text.audit_text.Goals as goal
 
 pub returns-in-Legal : goal.returns-in-Legal

@@ -1,6 +1,6 @@
 use Rattle.std.proofs.Common.{Err, List, [], ◌∷◌, length, ap, arith, length-append}
 use Rattle.driver.specs.Below.{BaseLine, TextFault, StreamFault, Text}
-use Rattle.line_text.proofs.Faults.{err_is}
+use Rattle.streams.proofs.Faults.{err_is}
 use Rattle.driver.proofs.BaseAhead.{line_failed, line_taken, line_unread, short_kept}
 use Rattle.driver.proofs.base_reader.take_line.Goals as goal
 

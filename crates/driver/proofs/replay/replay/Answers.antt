@@ -1,7 +1,7 @@
 use Rattle.std.proofs.Common.{◌<◌, ◌∷◌, [], ◌++◌, length, reverse, refl, ap, sym, ◌∙◌, subst, arith}
 use Rattle.std.proofs.lemmas.List.Elements.{All-append}
 use Rattle.driver.specs.Below.{IsOfSeats, Header, IsSpelt, StepsHeader, steps_form, steps_so_far}
-use Rattle.line_text.proofs.Faults.{err_is}
+use Rattle.streams.proofs.Faults.{err_is}
 use Rattle.driver.specs.inner.Logged.{logged}
 use Rattle.driver.specs.StepReader.{Held, common_act, progress}
 use Rattle.driver.proofs.Doing.{of_seats, spelt_on}

@@ -1,7 +1,7 @@
 use Rattle.std.proofs.Common.{◌∙◌, ◌∷◌, ◌++◌, [], length, refl, sym, ap, subst, arith, length-append}
 use Rattle.history.specs.Text.{ended}
-use Rattle.line_text.proofs.Faults.{fault_passed}
-use Rattle.line_text.proofs.UnderWay.{left_over}
+use Rattle.streams.proofs.Faults.{fault_passed}
+use Rattle.streams.proofs.UnderWay.{left_over}
 use Rattle.history_text.specs.Prelude.{base_line, Place, history_form, AreEntriesRead, LinesRead, GoodBeginsSo, IsToldBase}
 use Rattle.history_text.proofs.BaseTextRead.{line_begins, place_behind, told_few, whole_begins}
 use Rattle.history_text.proofs.base_text.read_base.Goals as goal

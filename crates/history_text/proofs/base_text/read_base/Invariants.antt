@@ -1,5 +1,5 @@
 use Rattle.std.proofs.Common.{◌≡◌, ◌≤◌, List, ℕ, [], length, map}
-use Rattle.line_text.specs.Reading.{Begins}
+use Rattle.streams.specs.Reading.{Begins}
 use Rattle.history_text.specs.Prelude.{history_form, Based}
 use Rattle.history_text.proofs.base_text.read_base.Given as goal
 

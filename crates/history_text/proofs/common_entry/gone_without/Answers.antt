@@ -1,6 +1,6 @@
 use Rattle.std.proofs.Common.{refl, arith}
 use Rattle.history_text.proofs.CommonLines.{written_once}
-use Rattle.line_text.proofs.AskingOnce.{one_spelt}
+use Rattle.streams.proofs.AskingOnce.{one_spelt}
 use Rattle.history_text.proofs.common_entry.gone_without.Goals as goal
 
 pub returns-in-Some-clause-begins : goal.returns-in-Some-clause-begins

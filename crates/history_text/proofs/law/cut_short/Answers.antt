@@ -1,4 +1,4 @@
-use Rattle.line_text.proofs.Cuts as cuts
+use Rattle.streams.proofs.Cuts as cuts
 use Rattle.history_text.specs.Prelude.{head_of, lines_on, history_form}
 use Rattle.history_text.proofs.HistoryLawful.{lawful}
 use Rattle.history_text.proofs.law.cut_short.Goals as goal

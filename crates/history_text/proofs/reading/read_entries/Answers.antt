@@ -1,8 +1,8 @@
 use Rattle.std.proofs.Common.{◌≡◌, refl, ℕ, ◌∷◌, ◌+◌, max, [], length, reverse, arith, ap, ◌∙◌}
 use Rattle.std.proofs.lemmas.List.{reverse-append}
 use Rattle.history_text.specs.Below.{HistoryView, or_opening, ends_call, whole_pages, ended}
-use Rattle.line_text.proofs.Faults.{fault_passed}
-use Rattle.line_text.proofs.UnderWay.{left_over}
+use Rattle.streams.proofs.Faults.{fault_passed}
+use Rattle.streams.proofs.UnderWay.{left_over}
 use Rattle.history_text.specs.Prelude.{entry_line, history_form}
 use Rattle.history_text.proofs.EntriesRead.{read_all, read_one}
 use Rattle.history.proofs.Lists.{one_at_most}

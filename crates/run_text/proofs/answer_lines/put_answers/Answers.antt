@@ -1,4 +1,4 @@
-use Rattle.std.proofs.Common.{rules, ◌≡◌, ◌<◌, ◌≤◌, ◌++◌, ap, length, take_all, ◌∙◌}
+use Rattle.std.proofs.Common.{rules, ◌<◌, ◌≤◌, ◌++◌, ap, length, take_all, ◌∙◌}
 use Rattle.script.specs.Script.{named}
 use Rattle.run_text.specs.Unrecorded.{answer_lines}
 use Rattle.run_text.proofs.AnswerLines.{answers_more}

@@ -1,8 +1,8 @@
-use Rattle.std.proofs.Common.{◌≡◌, ◌≤◌, ℕ, ◌+◌, List, ◌++◌, drop, length, reverse, take, take_all, ap, sym, ◌∙◌, subst, arith}
+use Rattle.std.proofs.Common.{◌≤◌, ℕ, ◌+◌, List, ◌++◌, drop, length, reverse, take, take_all, ap, sym, ◌∙◌, subst, arith}
 use Rattle.std.proofs.lemmas.List.{length-reverse}
-use Rattle.run_text.specs.Below.{ended, entry_line, IsGathered, entry_lines}
+use Rattle.run_text.specs.Below.{IsGathered, entry_lines}
 use Rattle.driver.proofs.Gathering.{gathered_more, gathers_failed}
-use Rattle.driver.proofs.Telling.{front_of_all}
+use Rattle.driver.proofs.LinesTold.{front_of_all}
 use Rattle.streams.proofs.Written.{not_true}
 use Rattle.run_text.proofs.EntryLines.{entry_more, lines_begin}
 use Rattle.run_text.proofs.entry_lines.put_entries.Goals as goal

@@ -1,4 +1,4 @@
-use Rattle.std.proofs.Common.{◌≡◌, ◌+◌, ◌<◌, ◌^◌, ◌++◌, ◌∷◌, [], ℕ, List, ap, arith, length, ◌∙◌}
+use Rattle.std.proofs.Common.{◌≡◌, ◌+◌, ◌<◌, ◌^◌, ◌++◌, ℕ, List, ap, arith, length, ◌∙◌}
 use Rattle.history.proofs.AllCalls.{calls_told}
 use Rattle.run_text.specs.Below.{based, calls, counts_line}
 use Rattle.run_text.specs.RunText.{base_of}

@@ -4,7 +4,7 @@ use Rattle.history.specs.declared.header.Header.{Header}
 use Rattle.serde_json.specs.Data.{string}
 use Rattle.serde_json.specs.View.{view}
 use Rattle.script.specs.Name.{IsName}
-use Rattle.line_text.proofs.WholeLines.{same_part}
+use Rattle.streams.proofs.WholeLines.{same_part}
 use Rattle.script.proofs.ObjectLemmas.{two_items, two_texts}
 use Rattle.script.proofs.objects.named_header.Goals as goal
 use Rattle.script.proofs.objects.named_header.Goals.{else-is_name-via-then-is_name+else-from-threads, else-is_name-via-else-is_name}

@@ -1,5 +1,5 @@
 use Rattle.std.proofs.Common.{ℕ, List, ◌++◌, codes, ap, ◌∙◌, arith}
-use Rattle.line_text.proofs.AskingOnce.{asked_behind}
+use Rattle.streams.proofs.AskingOnce.{asked_behind}
 use Rattle.steps.proofs.common_step.acquire.Goals as goal
 
 pub returns : goal.returns

@@ -1,5 +1,5 @@
 use Rattle.std.proofs.Common.{refl, arith}
-use Rattle.line_text.proofs.AskingOnce.{one_spelt}
+use Rattle.streams.proofs.AskingOnce.{one_spelt}
 use Rattle.steps.proofs.common_step.tries.Goals as goal
 
 pub returns-in-Some : goal.returns-in-Some

@@ -1,6 +1,6 @@
 use Rattle.std.proofs.Common.{◌≡◌, ℕ, ◌<◌, ◌≤◌, ◌^◌, List, ◌++◌, sym, ap, ◌∙◌, arith, decimal, IsTrue, nat_eq, codes, eqb-true, eq-eqb}
 use Rattle.std.proofs.lemmas.Fmt.{decimal_injective}
-use Rattle.line_text.proofs.Lists.{same_behind}
+use Rattle.streams.proofs.Lists.{same_behind}
 use Rattle.steps.specs.StepLines.{end_line}
 use Rattle.steps.proofs.end_line.is_end.Goals as goal
 

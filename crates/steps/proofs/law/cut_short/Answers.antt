@@ -1,4 +1,4 @@
-use Rattle.line_text.proofs.Cuts as cuts
+use Rattle.streams.proofs.Cuts as cuts
 use Rattle.steps.specs.StepsText.{steps_form}
 use Rattle.steps.proofs.StepsLawful.{lawful}
 use Rattle.steps.proofs.law.cut_short.Goals as goal

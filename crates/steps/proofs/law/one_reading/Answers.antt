@@ -1,4 +1,4 @@
-use Rattle.line_text.proofs.OneReading.{one}
+use Rattle.streams.proofs.OneReading.{one}
 use Rattle.steps.specs.StepsText.{steps_form}
 use Rattle.steps.proofs.StepsLawful.{lawful}
 use Rattle.steps.proofs.law.one_reading.Goals as goal

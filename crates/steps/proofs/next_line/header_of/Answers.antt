@@ -1,6 +1,6 @@
 use Rattle.std.proofs.Common.{List, ℕ, ◌++◌, ap, sym, ◌∙◌}
 use Rattle.history.specs.Text.{ended}
-use Rattle.line_text.proofs.Growing.{broken}
+use Rattle.streams.proofs.Growing.{broken}
 use Rattle.steps.proofs.next_line.header_of.Goals as goal
 
 pub returns-in-Some-header_on-clause-ok : goal.returns-in-Some-header_on-clause-ok

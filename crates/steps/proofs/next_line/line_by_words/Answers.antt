@@ -1,5 +1,5 @@
 use Rattle.std.proofs.Common.{◌≡◌, ℕ, ◌<◌, ◌^◌, List, sym, ap, ◌∙◌, rules, eqb-true}
-use Rattle.line_text.proofs.UnderWay.{IsEnd, all_read, more_behind}
+use Rattle.streams.proofs.UnderWay.{IsEnd, all_read, more_behind}
 use Rattle.steps.specs.declared.header.StepsHeader.{StepsHeader}
 use Rattle.steps.specs.StepLines.{end_line}
 use Rattle.steps.specs.StepsText.{steps_form, steps_so_far}

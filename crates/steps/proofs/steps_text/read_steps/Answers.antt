@@ -1,8 +1,8 @@
 use Rattle.std.proofs.Common.{arith}
 use Rattle.std.specs.Vec.{vec_len}
 use Rattle.history.specs.Text.{ended}
-use Rattle.line_text.proofs.Faults.{fault_passed}
-use Rattle.line_text.proofs.UnderWay.{left_over, read_on, shorter}
+use Rattle.streams.proofs.Faults.{fault_passed}
+use Rattle.streams.proofs.UnderWay.{left_over, read_on, shorter}
 use Rattle.steps.specs.StepLines.{act_line}
 use Rattle.steps.specs.StepsText.{steps_form, steps_so_far}
 use Rattle.steps.proofs.steps_text.read_steps.Goals as goal

@@ -1,6 +1,6 @@
 use Rattle.std.proofs.Common.{length}
 use Rattle.std.specs.Vec.{vec_len}
-use Rattle.line_text.specs.UnderWay.{AreRead}
+use Rattle.streams.specs.UnderWay.{AreRead}
 use Rattle.steps.specs.StepsText.{steps_form, steps_so_far}
 use Rattle.steps.proofs.steps_text.read_steps.Given as goal
 

@@ -1,9 +1,12 @@
-use Rattle.std.proofs.Common.{List, ℕ, ◌∙◌, inr, subst}
-use Rattle.tasks.specs.Explain.{Says}
+use Rattle.std.proofs.Common.{List, ℕ, inr, subst, sym}
+use Rattle.tasks.specs.Explain.{IsUnreadTold}
 use Rattle.tasks.proofs.explain.tell_unread.Goals as goal
 
 pub returns-clause-says : goal.returns-clause-says
 returns-clause-says g c =
-    inr
-    (subst (λ (t : List ℕ). Says 1 t (g.W.Sink.held c.args.writer.now) (g.W.Sink.held c.write_told.new.writer)
-    c.write_told.result) (c.deref.ensures.value ∙ c.in_ok-told.ensures) c.write_told.ensures.says)
+    inr (
+      _,
+      subst (λ (t : List ℕ). IsUnreadTold c.args.notation c.args.name.now c.args.reason.now t)
+          (sym c.deref.ensures.value) c.in_ok-told.ensures,
+      c.write_told.ensures.says,
+    )

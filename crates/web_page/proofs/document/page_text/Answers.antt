@@ -1,15 +1,15 @@
 use Rattle.std.proofs.Common.{◌++◌, ap, ◌∙◌}
-use Rattle.std.specs.Option.{option_copied}
-use Rattle.picture.specs.View.{view_of}
-use Rattle.web_page.specs.Document.{page_in, page_text}
-use Rattle.picture.proofs.Appending.{three}
+use Rattle.web_page.specs.declared.texts.TheConstants.{CLOSING, OPENING}
+use Rattle.web_page.specs.Escape.{escaped}
 use Rattle.web_page.proofs.document.page_text.Goals as goal
 
 pub returns : goal.returns
-unfolding page_text
 returns c =
-    three _ _ _ _ _ _ _ c.in_ok-extend_from_slice.ensures.items c.in_ok-put_data.ensures
-    c.in_ok-extend_from_slice-2.ensures.items
-    ∙ ap (λ xs. xs
-    ++ page_in c.args.names.now (view_of c.args.picture.now) c.args.entries.now (option_copied c.args.start))
-    c.new-out.ensures.items
+    let json = c.deref.result.now in (
+      json,
+      c.in_ok-extend_from_slice-2.ensures.items
+          ∙ ap (λ x. x ++ CLOSING.now)
+          (c.in_ok-put_escaped.ensures
+          ∙ ap (λ x. x ++ escaped json)
+          (c.in_ok-extend_from_slice.ensures.items ∙ ap (λ x. x ++ OPENING.now) c.new-out.ensures.items)),
+    )

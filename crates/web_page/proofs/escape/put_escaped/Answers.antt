@@ -4,6 +4,6 @@ use Rattle.web_page.proofs.escape.put_escaped.Goals as goal
 
 pub loop-byte-preserved : goal.loop-byte-preserved
 loop-byte-preserved c =
-    one_more escaped_byte c.args.text.now c.loop-byte.byte-index _ c.args.out.now.items
+    one_more escaped_byte c.args.json.now c.loop-byte.byte-index _ c.args.out.now.items
     c.loop-byte.out.items c.put_byte.new.out.items c.loop-byte-test.true c.loop-byte.invariant
     c.in_ok-put_byte.ensures

@@ -3,4 +3,4 @@ use Rattle.web_page.specs.Escape.{escaped}
 use Rattle.web_page.proofs.escape.put_escaped.Given as goal
 
 abbrev pub invariant-loop-byte : goal.invariant-loop-byte
-invariant-loop-byte l = l.out.items ≡ l.initial.out.items ++ escaped (take l.byte-index l.text)
+invariant-loop-byte l = l.out.items ≡ l.initial.out.items ++ escaped (take l.byte-index l.json)

@@ -1,6 +1,6 @@
 use Rattle.std.proofs.Common.{◌+◌, arith, refl}
 use Rattle.std.proofs.KnownBytes.{Keeps-refl}
-use Rattle.line_text.specs.declared.fault.TextFault.TheVariants.{BadLine}
+use Rattle.streams.specs.declared.fault.TextFault.TheVariants.{BadLine}
 use Rattle.history_text.proofs.ShortEntries.{ended_short}
 use Rattle.driver.specs.contracts.history_reader.HistoryReader.{the_view}
 use Rattle.driver.proofs.EntriesAhead.{entries_ended, entry_failed, entry_here, few_calls, few_entries}

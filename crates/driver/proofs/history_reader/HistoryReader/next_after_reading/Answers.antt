@@ -1,7 +1,7 @@
 use Rattle.std.proofs.Common.{◌+◌, Err, ap, arith, refl}
 use Rattle.driver.specs.Below.{counts_line, TextFault, StreamFault, Text}
 use Rattle.history_text.proofs.ShortEntries.{counts_short, ended_short}
-use Rattle.line_text.proofs.Faults.{err_is}
+use Rattle.streams.proofs.Faults.{err_is}
 use Rattle.driver.specs.contracts.history_reader.HistoryReader.{the_view}
 use Rattle.driver.proofs.EntriesAhead.{entries_ended, entries_kept, entries_read_failed, entry_failed, entry_here, entry_keeps, few_calls, few_entries}
 use Rattle.driver.proofs.ReadingAhead.{end_kept, stands_after, stands_failed}

@@ -1,6 +1,6 @@
 use Rattle.std.proofs.Common.{◌∙◌, Err, ℕ, List, ap, arith, refl, subst}
 use Rattle.driver.specs.Below.{or_opening, TextFault, IsReading, history_form, StreamFault, Memory, Text, Seen}
-use Rattle.line_text.proofs.Faults.{err_is}
+use Rattle.streams.proofs.Faults.{err_is}
 use Rattle.history_text.proofs.HistoryLawful.{lawful}
 use Rattle.history_text.proofs.ShortEntries.{short}
 use Rattle.driver.proofs.BaseAhead.{beginning_read, few_after, head_ahead}

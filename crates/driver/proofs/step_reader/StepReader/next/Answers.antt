@@ -1,7 +1,7 @@
 use Rattle.std.proofs.Common.{arith, refl}
 use Rattle.std.proofs.KnownBytes.{Keeps-refl}
 use Rattle.driver.specs.Below.{BadLine, steps_form, steps_so_far}
-use Rattle.line_text.proofs.Faults.{err_is}
+use Rattle.streams.proofs.Faults.{err_is}
 use Rattle.steps.proofs.ShortSteps.{ended_short, short}
 use Rattle.steps.proofs.StepsLawful.{lawful}
 use Rattle.driver.specs.TextReader.{reader_at}

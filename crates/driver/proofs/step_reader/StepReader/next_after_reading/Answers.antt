@@ -1,6 +1,6 @@
 use Rattle.std.proofs.Common.{◌≤◌, Err, ap, arith, length, refl}
 use Rattle.driver.specs.Below.{end_line, TextFault, StreamFault, Text, room, steps_form, steps_so_far}
-use Rattle.line_text.proofs.Faults.{err_is}
+use Rattle.streams.proofs.Faults.{err_is}
 use Rattle.steps.proofs.ShortSteps.{ended_short, end_short, short}
 use Rattle.steps.proofs.StepsLawful.{lawful}
 use Rattle.driver.specs.TextReader.{reader_at}

@@ -1,6 +1,6 @@
 use Rattle.std.proofs.Common.{refl, Err, ℕ, List, ap, subst}
 use Rattle.driver.specs.Below.{TextFault, IsReading, steps_form, steps_so_far, StreamFault, Memory, Text}
-use Rattle.line_text.proofs.Faults.{err_is}
+use Rattle.streams.proofs.Faults.{err_is}
 use Rattle.steps.proofs.ShortSteps.{short}
 use Rattle.steps.proofs.StepsLawful.{lawful}
 use Rattle.driver.proofs.ReadingAhead.{header_ahead, header_fault, header_kept, reading_fault, unread_yet, whole_left}

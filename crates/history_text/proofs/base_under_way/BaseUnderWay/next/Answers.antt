@@ -1,7 +1,7 @@
 use Rattle.std.proofs.Common.{◌+◌, ◌∷◌, ◌++◌, refl, sym, ap, subst, ◌∙◌, arith}
 use Rattle.std.proofs.lemmas.Bool.{false≢true}
 use Rattle.history_text.specs.Below.{Base}
-use Rattle.line_text.proofs.Growing.{broken}
+use Rattle.streams.proofs.Growing.{broken}
 use Rattle.history_text.specs.Prelude.{base_line, AllSeated}
 use Rattle.history_text.proofs.BaseLinesRead.{begins_next, few, has_whole, may_next, view_of, whole_has}
 use Rattle.history_text.proofs.BaseReadings.{bad_long, bad_other, bad_told, lacks_line}

@@ -1,4 +1,4 @@
-use Rattle.streams.proofs.LongLines.{still}
+use Rattle.streams.proofs.PiecedLines.{still}
 use Rattle.streams.proofs.window.Window.read_line.Goals as goal
 
 pub returns-clause-ahead : goal.returns-clause-ahead

@@ -1,6 +1,6 @@
 use Rattle.std.proofs.Common.{◌≡◌, ◌≤◌, false, length}
 use Rattle.history.specs.Text.{HasNoBreak}
-use Rattle.line_text.specs.declared.limits.TheConstants.{LINE_BYTES}
+use Rattle.streams.specs.declared.limits.TheConstants.{LINE_BYTES}
 use Rattle.streams.specs.inner.Window.{IsFrontAhead}
 use Rattle.streams.proofs.Pieces.{HasRead}
 use Rattle.streams.proofs.window.Window.read_line.Given as goal

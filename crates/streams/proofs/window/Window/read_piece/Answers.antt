@@ -1,6 +1,6 @@
 use Rattle.std.proofs.Common.{sym, ◌∙◌}
 use Rattle.std.proofs.lemmas.List.{take_rest}
-use Rattle.streams.proofs.LongLines.{goes_on, none_of}
+use Rattle.streams.proofs.PiecedLines.{goes_on, none_of}
 use Rattle.streams.proofs.window.Window.read_piece.Goals as goal
 
 pub returns-clause-more : goal.returns-clause-more

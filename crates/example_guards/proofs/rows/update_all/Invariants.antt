@@ -1,7 +1,0 @@
-use Rattle.std.proofs.Common.{◌≡◌}
-use Rattle.monitor.specs.Stepping.{IsSame}
-use Rattle.monitor_fronts.specs.Holding.{holds}
-use Rattle.example_guards.proofs.rows.update_all.Given as goal
-
-abbrev pub invariant-loop : goal.invariant-loop
-invariant-loop g l = IsSame l.fn.pass l.pass × (holds l.pass ≡ 0)

@@ -1,0 +1,4 @@
+pub mod Client
+pub mod Opened
+pub mod Parts
+pub mod Worker

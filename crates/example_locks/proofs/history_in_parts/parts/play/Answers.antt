@@ -1,4 +1,0 @@
-use Rattle.example_locks.proofs.history_in_parts.parts.play.Goals as goal
-
-pub open-requires-2-clause-opened : goal.open-requires-2-clause-opened
-open-requires-2-clause-opened g c = c.open.ensures.opened 2

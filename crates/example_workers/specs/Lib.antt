@@ -1,3 +1,0 @@
-pub mod Client
-pub mod Opened
-pub mod Worker

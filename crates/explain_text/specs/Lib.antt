@@ -1,7 +1,0 @@
-pub mod Pieces
-pub mod Words
-pub mod Sentences
-pub mod StateLines
-pub mod WayLines
-pub mod NamingLine
-pub mod Document

@@ -1,5 +1,0 @@
-use Rattle.std.proofs.Common.{rules}
-use Rattle.line_text.proofs.fault.ReadFaultFromTextFault.from.Goals as goal
-
-pub returns : goal.returns
-returns c = search rules

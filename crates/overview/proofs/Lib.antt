@@ -1,6 +1,0 @@
-mod ColumnsFit
-mod TablesFollow
-mod SharesFollow
-mod LevelsFollow
-mod RefusalsFollow
-mod WaitsFollow

@@ -1,5 +1,0 @@
--- What only contracts of private functions cite: no promise of the crate rests on it.
-pub mod Frame
-pub mod Noting
-pub mod Levels
-pub mod Counted

@@ -1,5 +1,0 @@
-use Rattle.std.proofs.Common.{length}
-use Rattle.standing_text.proofs.circle.+put_circle.Given as goal
-
-abbrev pub decreases-put_circle : goal.decreases-put_circle
-decreases-put_circle l = length l.links.now

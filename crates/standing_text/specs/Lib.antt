@@ -1,5 +1,0 @@
-pub mod Waiting
-pub mod Lines
-pub mod Circle
-pub mod StandingText
-pub mod inner
