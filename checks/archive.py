@@ -1,12 +1,16 @@
 #!/usr/bin/env python3
-"""Uses the archive of `make -C bindings dist` as somebody without the kit would: checks/archive.py [PROGRAM]
+"""Uses the archive of a release as somebody without the kit would: checks/archive.py [PROGRAM]      at the top
 
-Run it at the top of the repository, after checks/bindings.py: tools/dist.sh packs what that has built, with PROGRAM
-(crates/aqs/out/aqs). The archive is unpacked and installed in an empty folder. Then each opening in the table of
-README's first screen becomes a small program over what was installed, and examples/first.c has to print 42. A file of
-the archive that was changed must not be installed, and nothing may be left after --uninstall. A language for which the
-machine has no tools is left out, and printed. The last line is 'N passed, M failed'.
+It takes release/tunicschist-VERSION-x86_64-linux.tar.gz, which is a part of the repository. With PROGRAM, it takes one
+that tools/dist.sh makes of what checks/bindings.py has built, with PROGRAM (crates/aqs/out/aqs). In a folder that has
+only the archive and examples/ it types the commands of README: those of the first screen, those that install it, and
+of each row of the table the one that compiles and runs a program in that language. That of C is
+bindings/c/examples/first.c, and each other opens the object as the row says. The sum of each source in SOURCES.sha256
+is compared with the commit that the archive names. The installed aqs-record records a program. A file of the archive
+that was changed must not be installed, and nothing may be left after --uninstall. A language for which the machine has no tools is left out, and printed. The last
+line is 'N passed, M failed'.
 """
+import hashlib
 import os
 import pathlib
 import re
@@ -16,9 +20,17 @@ import sys
 import tempfile
 
 ROOT = pathlib.Path(__file__).resolve().parent.parent
-ROW = re.compile(r"(?m)^\| (Rattle|C|C\+\+|Rust|Python|Java) \| `([^`]+)` \| [^|]+ \|$")
+ROW = re.compile(r"(?m)^\| (C|C\+\+|Rust|Python|Java) \| `([^`]+)` \| `([^`]+)` \|$")
+TYPED = re.compile(r"(?m)^<!-- not checked: archive.py types [^\n]*-->\n\n((?:    .*\n)+)")
 SECONDS = 900
 
+RECORDED = """#include <pthread.h>
+int main(void) {
+    pthread_mutex_t mutex = PTHREAD_MUTEX_INITIALIZER;
+    return pthread_mutex_lock(&mutex) || pthread_mutex_unlock(&mutex);
+}
+"""
+CPP = "#include <aqs.hpp>\n#include <mutex>\nint main() { %s std::lock_guard<aqs::mutex> guard(lock); return 0; }\n"
 C = """#include <aqs.h>
 int main(void) {
     aqs_lock_t *lock;
@@ -28,17 +40,26 @@ int main(void) {
     return 0;
 }
 """
-CPP = "#include <aqs.hpp>\n#include <mutex>\nint main() { %s std::lock_guard<aqs::mutex> guard(lock); return 0; }\n"
 RUST = "fn main() { %s *number.lock() += 1; }\n"
-CARGO = '[package]\nname = "opening"\nversion = "0.1.0"\nedition = "2021"\n\n[dependencies]\naqs = { path = "%s" }\n'
+CARGO = '[package]\nname = "first"\nversion = "0.1.0"\nedition = "2021"\n\n[dependencies]\n'
 PYTHON = "import aqs\n%s\nwith lock:\n    pass\n"
-JAVA = "import aqs.*;\npublic class Opening {\n    public static void main(String[] words) {\n        %s\n" \
+JAVA = "import aqs.*;\npublic class First {\n    public static void main(String[] words) {\n        %s\n" \
     "        lock.lock();\n        lock.unlock();\n        lock.close();\n    }\n}\n"
+TOOLS = {"C": "cc", "C++": "c++", "Rust": "cargo", "Python": "pip", "Java": "javac"}
+
+
+def version():
+    return (ROOT / "VERSION").read_text(encoding="utf-8").strip()
 
 
 def openings(page):
-    """Returns the line of each language in README's table."""
-    return dict(ROW.findall(page))
+    """Returns of each language of README's table how a lock is opened, and the command that compiles and runs."""
+    return {it[1]: (it[2], it[3]) for it in ROW.finditer(page)}
+
+
+def typed(page):
+    """Returns the blocks of commands that README says are typed here."""
+    return [[line.strip() for line in it.splitlines()] for it in TYPED.findall(page)]
 
 
 class Checks:
@@ -76,113 +97,140 @@ class Checks:
         return path
 
 
-def flags_of(prefix):
-    """Returns the flags of the installed aqs.pc, as pkg-config gives them."""
-    lines = (prefix / "lib/pkgconfig/aqs.pc").read_text(encoding="utf-8").splitlines()
-    values = dict(line.split("=", 1) for line in lines if re.match(r"\w+=", line))
-    text = " ".join(line.split(": ", 1)[1] for line in lines if line.startswith(("Cflags: ", "Libs: ")))
-    while "${" in text:
-        text = re.sub(r"\$\{(\w+)\}", lambda it: values[it[1]], text)
-    return text.split()
+def environment(room):
+    """Returns what README's commands find: a home of their own, and what is installed there."""
+    home = pathlib.Path.home()
+    return {
+        "HOME": room, "PKG_CONFIG_PATH": room / ".local/lib/pkgconfig", "PIP_TARGET": room / "site", "PIP_NO_INDEX": "1",
+        "PIP_NO_DEPS": "1", "PIP_DISABLE_PIP_VERSION_CHECK": "1", "PYTHONPATH": room / "site", "CARGO_NET_OFFLINE": "true",
+        "CARGO_HOME": os.environ.get("CARGO_HOME", home / ".cargo"),
+        "RUSTUP_HOME": os.environ.get("RUSTUP_HOME", home / ".rustup"),
+    }
 
 
-def installed(checks, program):
-    """Makes the archive, unpacks it and installs it. Returns its folder and where it is installed, or None."""
-    made = checks.run("the archive is made", [ROOT / "tools/dist.sh", checks.room], AQS=program)
-    archives = list(checks.room.glob("tunicschist-*.tar.gz"))
-    if not made or not checks.count("there is one archive", len(archives) == 1):
-        return None
-    if not checks.run("its sum is right", ["sha256sum", "--check", f"{archives[0].name}.sha256"]):
-        return None
-    if not checks.run("it is unpacked", ["tar", "-xzf", archives[0]]):
-        return None
-    archive = next(it for it in checks.room.glob("tunicschist-*") if it.is_dir())
-    prefix = checks.room / "installed"
-    if not checks.run("it is installed", [archive / "install.sh", prefix], printed="installed in"):
-        return None
-    is_there = (prefix / "bin/aqs").exists() == (prefix / "share/man/man1/aqs.1").exists()
-    checks.count("the program's man page is installed with it", is_there)
-    return archive, prefix
+def laid(checks, program):
+    """Lays an archive and examples/ into the folder. Returns whether the archive is there and its sum is right."""
+    release = checks.room / "release"
+    if program:
+        checks.run("the archive is made", [ROOT / "tools/dist.sh", release], AQS=program)
+    elif (ROOT / "release").is_dir():
+        shutil.copytree(ROOT / "release", release)
+    (checks.room / "examples").symlink_to(ROOT / "examples")
+    name = f"tunicschist-{version()}-x86_64-linux.tar.gz"
+    if not checks.count(f"release/{name} is there", (release / name).is_file()):
+        return False
+    return checks.run("its sum is right", ["sha256sum", "--check", f"{name}.sha256"], cwd=release)
 
 
-def check_c(checks, lines, prefix):
-    flags = flags_of(prefix)
-    for name, language, template, words in (
-        ("opening.c", "C", C, ["cc", "-std=gnu11", "-Wall", "-Wextra", "-Werror"]),
-        ("opening.cpp", "C++", CPP, ["c++", "-std=c++11", "-Wall", "-Wextra", "-Werror"]),
-    ):
-        source = checks.write(name, template % lines[language])
-        if checks.run(f"README's opening in {language} is compiled", [*words, source, *flags, "-o", f"{source}.out"]):
-            checks.run("it runs", [f"{source}.out"], LD_LIBRARY_PATH=prefix / "lib")
-    first = ROOT / "bindings/c/examples/first.c"
-    words = ["cc", "-std=gnu11", "-Wall", "-Wextra", "-Werror", first, *flags, "-o", checks.room / "first"]
-    if checks.run("first.c is compiled", words):
-        checks.run("it prints 42", [checks.room / "first"], printed="42\n", LD_LIBRARY_PATH=prefix / "lib")
+def check_first_screen(checks, commands):
+    """Types the commands of the first screen, and compares what the last one prints with the example's answers."""
+    wanted = (ROOT / "examples/barging.answers").read_text(encoding="utf-8")
+    for command in commands[:-1]:
+        checks.run(command, ["bash", "-c", command])
+    checks.run(commands[-1], ["bash", "-c", commands[-1]], printed=wanted)
 
 
-def check_rust(checks, line, archive):
-    if not shutil.which("cargo"):
-        checks.left_out("Rust", "there is no cargo")
+def check_installed(checks, commands):
+    """Types the commands that install, and returns whether the program and its man page are there."""
+    line = " && ".join(commands)
+    checks.run(line, ["bash", "-c", line], printed="installed in", **environment(checks.room))
+    prefix = checks.room / ".local"
+    return checks.count("the program and its page", (prefix / "bin/aqs").exists() and (prefix / "share/man/man1/aqs.1").exists())
+
+
+def programs(checks, lines):
+    """Writes the program of each language, and returns what each has to print."""
+    (checks.room / "bindings/c/examples").mkdir(parents=True)
+    shutil.copyfile(ROOT / "bindings/c/examples/first.c", checks.room / "bindings/c/examples/first.c")
+    checks.write("opening.c", C % lines["C"][0])
+    checks.write("first.cpp", CPP % lines["C++"][0])
+    checks.write("Cargo.toml", CARGO)
+    checks.write("src/main.rs", RUST % lines["Rust"][0])
+    checks.write("first.py", PYTHON % lines["Python"][0])
+    checks.write("First.java", JAVA % lines["Java"][0])
+    return {"C": "42\n"}
+
+
+def check_languages(checks, lines):
+    printed = programs(checks, lines)
+    for language, (_, command) in lines.items():
+        if not shutil.which(TOOLS[language]):
+            checks.left_out(language, f"there is no {TOOLS[language]}")
+            continue
+        checks.run(command, ["bash", "-c", command], printed=printed.get(language, ""), **environment(checks.room))
+    command = lines["C"][1].replace("bindings/c/examples/first", "opening").replace("first", "opening")
+    checks.run(command, ["bash", "-c", command], **environment(checks.room))
+
+
+def check_record(checks):
+    """The installed aqs-record records a program that was built without the library, and aqs audits its history."""
+    source, recorded, prefix = checks.write("recorded.c", RECORDED), checks.room / "recorded", checks.room / ".local"
+    if checks.run("a program with a mutex is compiled", ["cc", source, "-pthread", "-o", f"{source}.out"]):
+        record, said = prefix / "bin/aqs-record", "mutex 1, "
+        checks.run("aqs-record records it", [record, "-o", recorded, "--times", "--", f"{source}.out"], printed=said)
+        checks.run("aqs-record says what it did", [record, "--report", recorded], printed=said)
+        history = next(recorded.glob("*/*.history"), None)
+        if checks.count("it left a history", history is not None):
+            checks.run("aqs audits that history", [prefix / "bin/aqs", "audit", history], printed="legal")
+
+
+def check_sources(checks, archive, is_release):
+    """Compares the sum of each source with the commit that the archive names."""
+    about = dict(it.split(" ", 1) for it in (archive / "VERSION").read_text(encoding="utf-8").splitlines())
+    sums = (archive / "SOURCES.sha256").read_bytes()
+    checks.count("the archive has this version", about["version"] == version(), about["version"])
+    checks.count("SOURCES.sha256 is the one that VERSION names", hashlib.sha256(sums).hexdigest() == about["sources"])
+    commit, _, changes = about["commit"].partition(", ")
+    if is_release:
+        checks.count("the sources of a release are those of a commit", not changes, about["commit"])
+    if changes:
+        checks.left_out("the sources", "they are of no commit")
         return
-    checks.write("opening/Cargo.toml", CARGO % (archive / "rust/aqs"))
-    checks.write("opening/src/main.rs", RUST % line)
-    words = ["cargo", "run", "-q", "--offline"]
-    checks.run("README's opening in Rust is built, and runs", words, cwd=checks.room / "opening")
-
-
-def check_python(checks, line, archive):
-    wheels = list((archive / "python").glob("*.whl"))
-    if not wheels:
-        checks.left_out("Python", "the archive has no wheel")
+    if subprocess.run(["git", "cat-file", "-e", f"{commit}^{{commit}}"], cwd=ROOT, stderr=subprocess.DEVNULL).returncode:
+        checks.left_out("the sources", f"this tree's history has no commit {commit}")
         return
-    words = [sys.executable, "-m", "pip", "install", "-q", "--no-index", "--no-deps", "--target", checks.room / "site"]
-    if checks.run("pip installs the wheel", [*words, wheels[0]]):
-        source = checks.write("opening.py", PYTHON % line)
-        checks.run("README's opening in Python runs", [sys.executable, source], PYTHONPATH=checks.room / "site")
+    room = checks.room / "commit"
+    room.mkdir()
+    taken = f"git -C '{ROOT}' archive {commit} crates | tar -xf - -C '{room}'"
+    if checks.run(f"the sources of {commit} are taken", ["bash", "-c", taken]):
+        words = ["sha256sum", "--check", "--quiet", archive / "SOURCES.sha256"]
+        checks.run("each source is as in that commit", words, cwd=room)
 
 
-def check_java(checks, line, archive):
-    jar = archive / "java/aqs.jar"
-    if not jar.is_file():
-        checks.left_out("Java", "the archive has no jar")
-        return
-    source = checks.write("Opening.java", JAVA % line)
-    if checks.run("README's opening in Java is compiled", ["javac", "-cp", jar, "-d", checks.room, source]):
-        checks.run("it runs", ["java", "-cp", f"{jar}:{checks.room}", "Opening"])
-
-
-def check_refusal(checks, archive, prefix):
+def check_refusal(checks, archive):
     """Nothing stays after --uninstall, and nothing is installed of an archive with a changed file."""
+    prefix, again = checks.room / ".local", checks.room / "again"
     checks.run("it is uninstalled", [archive / "install.sh", "--uninstall", prefix])
     left = [it for it in prefix.rglob("*") if not it.is_dir()]
     checks.count("nothing of it is left", not left, str(left))
     with open(archive / "lib/libaqs.a", "ab") as it:
         it.write(b"\0")
-    again = checks.room / "again"
     checks.run("a changed archive is refused", [archive / "install.sh", again], 1, "not as it was made")
     checks.count("and nothing of it is installed", not again.exists() or not any(again.rglob("*")))
 
 
 def checked(program):
     """Returns how many checks passed and failed."""
-    lines = openings((ROOT / "README.md").read_text(encoding="utf-8"))
+    page = (ROOT / "README.md").read_text(encoding="utf-8")
+    lines, blocks = openings(page), typed(page)
     with tempfile.TemporaryDirectory(prefix="archive-") as room:
         checks = Checks(room)
-        found = installed(checks, program)
-        if found and checks.count("README has an opening for each language", len(lines) == 6, str(lines)):
-            archive, prefix = found
-            check_c(checks, lines, prefix)
-            check_rust(checks, lines["Rust"], archive)
-            check_python(checks, lines["Python"], archive)
-            check_java(checks, lines["Java"], archive)
-            check_refusal(checks, archive, prefix)
+        is_whole = checks.count("README has commands, and a row for each language", len(blocks) == 2 and len(lines) == 5)
+        if is_whole and laid(checks, program):
+            check_first_screen(checks, blocks[0])
+            if check_installed(checks, blocks[1]):
+                check_languages(checks, lines)
+                check_record(checks)
+            archive = checks.room / f"tunicschist-{version()}"
+            check_sources(checks, archive, not program)
+            check_refusal(checks, archive)
     return checks.passed, checks.failed
 
 
 def main(words):
     if len(words) > 1:
         sys.exit(__doc__)
-    passed, failed = checked(os.path.abspath(words[0]) if words else str(ROOT / "crates/aqs/out/aqs"))
+    passed, failed = checked(os.path.abspath(words[0]) if words else None)
     print(f"{passed} passed, {failed} failed")
     return 1 if failed else 0
 

@@ -2,11 +2,12 @@
 """Summaries in columns of long histories: checks/columns.py PROGRAM [SEED].
 
 Random histories of 5,001 to 20,000 entries of each object, one of them with a base, one that is not legal, one whose
-seats and conditions have names, and histories of exactly 5,000 and 5,001 entries. `aqs draw` must have the status of
-`aqs audit`. Every number that its summary shows in a tooltip or a line is counted here from the entries, by
-checks/rules.py: for how many entries of each column each seat held, waited in the queue and slept, how many waited at
-once, how many entries were refused, the free permits or the count, and the longest waits. What is drawn of them is
-measured too: the parts of a column from the lower edge up. The last line is 'N passed, M failed'.
+seats and conditions have names, histories of exactly 5,000 and 5,001 entries, and one whose waits all last as long.
+`aqs draw` must have the status of `aqs audit`. Every number that its summary shows in a tooltip or a line is counted
+here from the entries, by checks/rules.py: for how many entries of each column each seat held, waited in the queue and
+slept, how many waited at once, how many entries were refused, the free permits or the count, and the longest waits.
+What is drawn of them is measured too: the parts of a column from the lower edge up, and where each column stands. The
+last line is 'N passed, M failed'.
 """
 
 import pathlib
@@ -22,6 +23,8 @@ from program import Program
 
 COLUMNS, SUMMED, LONGEST, AROUND = 240, 5000, 5, 10
 HIGH = 32  # pixels of what is drawn whole
+# The lowest edges of the two rows above those of the seats, and where the seats' rows begin.
+QUEUE_EDGE, REFUSED_EDGE, TOP, TOP_WITH_AMOUNTS = 108, 148, 152, 192
 PARTS = {"x": "exclusive", "s": "shared", "w": "in line", "z": "asleep"}
 CLASSES = {"exclusive": "x", "shared": "s", "in line": "v", "asleep": "z"}
 SVG = drawn.SVG
@@ -77,11 +80,16 @@ def calls(lines):
     return based + sum(each[2] not in rules.NO_CALL for each in words[1:-1] if each[0].isdigit())
 
 
+def repeated(size, *words):
+    """A lock for which the same entries come again and again."""
+    lines = [f"{number} {words[number % len(words)]}" for number in range(size)]
+    text = [f"aqs-history 1 lock fair seats 3 conditions 0 cap {size + 2}", *lines]
+    return "\n".join([*text, f"end {size} {calls([*text, 'end 0 0'])}", ""])
+
+
 def pairs(size):
     """A lock that one thread of three acquires and releases."""
-    lines = [f"{number} 1 {('got', 'gave')[number % 2]} x 1\n" for number in range(size)]
-    head = f"aqs-history 1 lock fair seats 3 conditions 0 cap {size + 2}\n"
-    return "".join([head, *lines, f"end {size} {size}\n"])
+    return repeated(size, "1 got x 1", "1 gave x 1")
 
 
 class Counted:
@@ -107,6 +115,10 @@ class Counted:
 
     def told(self, column):
         return f"entries {self.folded + column.start} to {self.folded + column.stop - 1}"
+
+    def left(self):
+        """The left edge of the first column."""
+        return drawn.LEFT_OF_NAMES if any(kind == "seat" for kind, _ in self.names) else drawn.LEFT
 
     def called(self, seat):
         return drawn.called(self.names, "seat", seat)
@@ -173,20 +185,33 @@ class Counted:
 
 
 def heights(group):
-    """How high each part of a column is drawn, by its class, and the lowest edge."""
-    parts, low = {}, 0
+    """How high each part of a column is drawn, by its class, the left edges of all, and the lowest edge."""
+    parts, left, low = {}, set(), 0
     for path in group.iter(f"{SVG}path"):
-        _, y, high = map(int, re.fullmatch("M([0-9]+) ([0-9]+)h4v([0-9]+)h-4z", path.get("d")).groups())
+        x, y, high = map(int, re.fullmatch("M([0-9]+) ([0-9]+)h4v([0-9]+)h-4z", path.get("d")).groups())
         parts[path.get("class")] = high
+        left.add(x)
         low = max(low, y + high)
-    return parts, low
+    return parts, left, low
+
+
+def is_placed(group, title, counted, rows):
+    """Whether a column stands above its entries, and in its row: its lowest edge is that of the row. The amounts are
+    drawn from the lowest up, above the lowest edge of their row."""
+    _, left, low = heights(group)
+    column = (int(re.search("entries ([0-9]+)", title)[1]) - counted.folded) // counted.span
+    edges = {"in line": QUEUE_EDGE, "refused": REFUSED_EDGE}
+    top = TOP_WITH_AMOUNTS if counted.header.kind in ("semaphore", "latch") else TOP
+    edges |= {row: top + 40 * at + 36 for at, row in enumerate(rows)}
+    wanted = next((edge for name, edge in edges.items() if title.startswith(f"{name}, ") or f": {name} " in title), None)
+    return left == {counted.left() + 4 * column} and low in ([wanted] if wanted else range(TOP, TOP_WITH_AMOUNTS))
 
 
 def is_high(group, title, size):
     """Whether the parts of a seat's column are as high as the shares that its tooltip tells, up to a pixel."""
     found = re.search(": exclusive ([0-9]+), shared ([0-9]+), in line ([0-9]+), asleep ([0-9]+)$", title)
     counts = list(map(int, found.groups()))
-    whole, (parts, _) = max(size, sum(counts)), heights(group)
+    whole, (parts, *_) = max(size, sum(counts)), heights(group)
     edges = [-(-sum(counts[:at]) * HIGH // whole) for at in range(5)]
     wanted = {name: edges[at + 1] - edges[at] for at, name in enumerate("xsvz") if edges[at + 1] > edges[at]}
     return parts == wanted
@@ -202,16 +227,22 @@ def faults(picture, counted):
     if sorted(titles) != sorted(wanted):
         missing, more = sorted(set(wanted) - set(titles)), sorted(set(titles) - set(wanted))
         yield f"{len(missing)} tooltips are missing, as {missing[:1]}, and {len(more)} are others, as {more[:1]}"
+    rows = counted.rows()
     for title, group in groups.items():
         first, last = map(int, re.search("entries ([0-9]+) to ([0-9]+)", title).groups())
         if title.startswith("seat ") and not is_high(group, title, last + 1 - first):
             yield f"other heights of: {title}"
+        if not is_placed(group, title, counted, rows):
+            yield f"another place of: {title}"
     texts = [each.text or "" for each in root.iter(f"{SVG}text")]
     line = next(each.text for each in root.iter(f"{SVG}text") if each.get("y") == "36")
     if line != counted.line():
         yield f"another line: {line}"
-    if [text for text in texts if re.fullmatch(r"seat [0-9]+( \(.*\))?", text)] != counted.rows():
+    if [text for text in texts if re.fullmatch(r"seat [0-9]+( \(.*\))?", text)] != rows:
         yield "other rows"
+    fields = [int(each.get("x")) for each in root.iter(f"{SVG}rect") if each.get("class") == "e"]
+    if fields != [counted.left() + 4 * (len(counted.entries) // counted.span)] * (counted.wrong is not None):
+        yield f"the illegal entry is at {fields}"
     waits = [text for text in texts if ": aqs draw --from" in text]
     if waits != list(counted.wait_lines()):
         yield f"other waits: {waits}"
@@ -247,6 +278,8 @@ def histories(program, seed):
         words = named(program.folder.name) if at == NAMED else []
         yield f"{part}, {size} entries", fault_of(program, text, NAMES if words else {}, words)
     yield "5001 entries", fault_of(program, pairs(SUMMED + 1), {}, [])
+    even = repeated(SUMMED + 5, "1 got x 1", "2 queued x 1", "1 gave x 1", "2 granted x 1", "2 gave x 1")
+    yield "waits that last as long", fault_of(program, even, {}, [])
     short = pairs(SUMMED).encode()
     first = program.answer(["draw", "--from", "0", "--to", "1999"], short)
     cut = program.answer(["draw"], short)

@@ -126,6 +126,25 @@ def late_runs(program, folder):
         yield f"run --timeout 2000 {file.name}", told == (1, file.with_suffix(".answers").read_bytes(), b"")
 
 
+def runs_in_time(program):
+    """A run that ends in time is told at once, and not when its time is up."""
+    words = [program, "run", "--timeout", "600000"]
+    several = [subprocess.Popen(words, stdin=subprocess.PIPE, stdout=subprocess.PIPE) for _ in range(32)]
+    for child in several:
+        child.stdin.write(ONE_THREAD)
+        child.stdin.close()
+    late = []
+    for child in several:
+        try:
+            child.wait(timeout=SECONDS)
+        except subprocess.TimeoutExpired:
+            late.append(child)
+            child.kill()
+            child.wait()
+        child.stdout.close()
+    yield "runs that end in time are told at once", late == []
+
+
 def round_trips(program, folder, scratch):
     """The history text of each steps text is legal."""
     for file in sorted(folder.glob("*.steps")):
@@ -435,6 +454,7 @@ def results(program, folder, scratch):
     yield from trimmed(program, folder)
     yield from runs(program, folder, scratch)
     yield from late_runs(program, folder)
+    yield from runs_in_time(program)
     yield from pictures(program, folder)
     yield from named_pictures(program, folder, scratch)
     for place in PICTURED:

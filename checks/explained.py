@@ -87,6 +87,56 @@ def reason(state, seat, step, made):
     return TOLD[made.word]
 
 
+def counted(number, one):
+    return f"{number} {one}" if number == 1 else f"{number} {one}s"
+
+
+def who(state, mode):
+    """Who owns, or who reads."""
+    seats = [seat for seat, holds in enumerate(state.holds) if holds[mode]]
+    holds = counted(sum(state.holds[seat][mode] for seat in seats), "hold")
+    if not seats:
+        return "Nobody owns it." if mode == "x" else "Nobody reads."
+    if mode == "x":
+        return f"Seat {seats[0]} owns it, with {holds}."
+    others = f" and {counted(len(seats) - 1, 'other seat')} read" if len(seats) > 1 else " reads"
+    return f"Seat {seats[0]}{others}, with {holds}."
+
+
+def permits(state, n, about):
+    is_, was = "permit is" if state.free == 1 else "permits are", "was" if n == 1 else "were"
+    return f"{state.free} {is_} free, and {n} {was} {about}."
+
+
+def missing(state, n):
+    """What an acquire of an amount lacks."""
+    if state.header.kind == "semaphore":
+        return permits(state, n, "asked for")
+    if state.header.kind == "latch":
+        return f"The count is {state.count}."
+    return who(state, "x" if state.header.kind == "lock" or state.owner() is not None else "s")
+
+
+def fact(state, seat, step, made):
+    """The fact of the state that keeps a step from what it asks for, unless the rule names it."""
+    if made is None:
+        for at, sleepers in enumerate(state.sleepers):
+            if seat in sleepers:
+                return f"It is sleeper {sleepers.index(seat) + 1} of {len(sleepers)} on condition {at}."
+        return missing(state, state.line[0].n) if state.line[0].seat == seat else None
+    if made.word in ("queued", "missed"):
+        in_turn = step.name != "try" or state.header.policy == "strict"
+        is_back = in_turn and state.is_held_back(seat, made.mode)
+        return None if is_back else missing(state, made.n)
+    if made.word in ("refused NotOwner", "refused TooManyHolds"):
+        return who(state, made.mode)
+    if made.word == "refused HoldsRead":
+        return who(state, "s")
+    if made.word == "refused TooManyPermits":
+        return permits(state, made.n, "to be released")
+    return None
+
+
 def way_lines(state, entry, is_legal):
     """What each step of the entry's seat makes, or which steps made a legal entry."""
     seat = entry.seat
@@ -94,7 +144,8 @@ def way_lines(state, entry, is_legal):
         if state.fault_of(seat, step) is not None:
             continue
         made = state.entry_of(seat, step)
-        sentence = f"Seat {seat} {reason(state, seat, step, made)}\n"
+        since = fact(state, seat, step, made)
+        sentence = f"Seat {seat} {reason(state, seat, step, made)}{f' {since}' if since else ''}\n"
         if not is_legal:
             told = "sleep" if made is None else rules.spelt(made)
             yield f"could {step_words(step)}: {told}. {sentence}"

@@ -1,14 +1,14 @@
 #!/usr/bin/env python3
 """All checks from nothing: `.ci/run`, or checks/gate.py [--write].
 
-First plain rt ci: each proof, each test and program, and the few wrong bodies of must-fail/. Then, over what it
-built, the program answers the files of examples/ and cases/ (`examples.py`), and random, spoilt and endless texts,
-storms of threads and failing devices (`by_program.py`). After that, four steps at the same time. The page of the first
-hour is followed by the letter (`first_hour.py`), also in a repository that has only taken the library
-(`own_repository.py`). The library for C is built, and its callers in other languages are tested (`bindings.py`). The
-wrong bodies of wrong-bodies/ are held to their ledger, of which a sample is tried again (`wrong_bodies.py`). Then the
-archive that users without the kit get is made and used (`archive.py`), and a sample of real programs is fetched and run
-over the library where the network has them (`clients.py`). Last, a sample of the wrong bodies of the C side
+First what the repository may take (`budget.py`). Then plain rt ci: each proof, each test and program, and the few wrong
+bodies of must-fail/. After that, over what it built, the program answers the files of examples/ and cases/
+(`examples.py`), and random, spoilt and endless texts, storms of threads and failing devices (`by_program.py`). Then
+four steps at the same time. The page of the first hour is followed by the letter (`first_hour.py`), also in a repository
+that has only taken the library (`own_repository.py`). The library for C is built, and its callers in other languages
+are tested (`bindings.py`). The wrong bodies of wrong-bodies/ are held to their ledger, of which a sample is tried again
+(`wrong_bodies.py`). Then the archive of the release is used as users without the kit would, and so is one that is made of
+what was built (`archive.py`). A sample of real programs is fetched and run over the library where the network has them (`clients.py`). Last, a sample of the wrong bodies of the C side
 is tried, while nothing else runs, since its tests measure times (`wrong_c.py`). The commit's hash decides which, and
 which texts. --write writes the ledger's lines anew.
 
@@ -134,6 +134,7 @@ def together(steps, folder, log):
 def steps(tree):
     """Returns the steps over a tree that come one after the other, each with the form of its last line."""
     python, program = [sys.executable, "-B"], f"{tree}/crates/aqs/out/aqs"
+    yield [*python, f"{tree}/checks/budget.py"], COUNTED
     yield ["rt", "ci"], COUNTED
     yield [*python, f"{tree}/checks/examples.py", program], COUNTED
     yield [*python, f"{tree}/checks/by_program.py", program, seed()], COUNTED
@@ -150,6 +151,7 @@ def last_steps(tree, is_written):
 
 def over_what_was_built(tree):
     """Returns the steps that use what the steps before have built: as an archive, and under real programs."""
+    yield [sys.executable, "-B", f"{tree}/checks/archive.py"], COUNTED
     yield [sys.executable, "-B", f"{tree}/checks/archive.py", f"{tree}/crates/aqs/out/aqs"], COUNTED
     yield [sys.executable, "-B", f"{tree}/bindings/clients/clients.py", "--sample"], COUNTED
 

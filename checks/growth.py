@@ -9,7 +9,7 @@ A trim looks at no entry, but a replay keeps a copy of those that it folds. At l
 clock, at each kind of object, and each may take five thousandths of it at most, since a thread that waits sleeps.
 All other times are those of the processor. The two runs of a case are made by turns, three times each, and the least
 time of each counts. Other work on the machine makes some runs slower, so they are made up to twenty times while one
-takes too long beside the other. A run that takes longer than a minute fails. If the example program `example_locks`
+takes too long beside the other. A run that takes longer than a minute fails. If the example program `example_guards`
 was built beside PROGRAM, it prints a history of a lock, which goes through `fits` and `write_text`. If `bench_pairs`
 was, it opens and closes locks of 64 seats, and as many of 256: that may take six times as long at most. The last
 line is 'N passed, M failed'.
@@ -74,7 +74,7 @@ def steps(object, first, round, count, last="", form=1):
 PAIR = "0 acquire x 1\n0 give x 1\n"
 PERMITS = "0 acquire s 1\n0 give s 1\n"
 LOCK = "lock fair seats {} conditions 2 cap 4294967295"
-LOCKS = "../../example_locks/out/example_locks"  # from the folder of the program
+LOCKS = "../../example_guards/out/example_guards"  # from the folder of the program
 PAIRS = "../../bench_pairs/out/bench_pairs"
 
 

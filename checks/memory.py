@@ -3,7 +3,8 @@
 
 Of each command on a text of each object the first request for memory is refused, then the second, and so on, until a
 run meets no refusal. A run that was refused memory says so, writes nothing, and gives back all that it took. Only a
-request of the reader of command lines may be in vain. Of the calls of a script some may lack memory: the run text
+request of the reader of command lines may be in vain, and one of the first reading of a wrong text, which `explain`
+reads again to find the fault. Of the calls of a script some may lack memory: the run text
 counts them. So each read of a text fails in turn, and each write of a long answer: what was written before it is a
 beginning of the answer.
 
@@ -32,6 +33,7 @@ SECONDS = 60
 PAGE = 1024  # entries of a page
 LISTS = 32  # requests of lists that grow to thousands of answers
 IN_VAIN = 4  # requests of the reader of command lines that it can do without
+AGAIN = 4  # requests of the first reading of a wrong text, without which a second one finds the fault
 CALLS = 12  # requests of a script's calls that it can do without: a list that cannot grow by much grows by little
 KEPT = 2  # blocks of a thread that the kit keeps if it lacks memory for the list of what threads return, beside its list
 MORE = 4  # requests of a longer run text
@@ -140,8 +142,8 @@ def refused(program, library, words, text):
         in_vain += answer == whole.answer
         if answer != whole.answer and not lacks_memory(words, answer):
             return f"request {number}: {answer}"
-    of_calls = CALLS if makes_calls(words) else 0
-    return f"{in_vain} requests in vain" if in_vain > IN_VAIN + of_calls or in_vain == whole.counts.requests else None
+    spared = IN_VAIN + (CALLS if makes_calls(words) else AGAIN if words[0] == "explain" else 0)
+    return f"{in_vain} requests in vain" if in_vain > spared or in_vain == whole.counts.requests else None
 
 
 def is_unread(words, answer):

@@ -46,6 +46,8 @@ class Spoilt:
             return False
         if self.place is None:
             return True
+        if b"\nexample " not in answer[1]:  # no example goes on: the whole line is told
+            return True
         line, column = self.place
         return answer[1].startswith(b"wrong at line %d column %d\n" % (line, column))
 

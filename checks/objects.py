@@ -111,15 +111,21 @@ def state(lines):
     return value
 
 
+def why(told):
+    """The rule, and the fact of the state that decides, if one is told."""
+    rule, ended, since = told.partition("). ")
+    return {"rule": f"{rule}).", "since": since} if ended else {"rule": told}
+
+
 def ways(lines):
     """The steps that made the entry, and all that the seat could have made."""
     by, could = [], []
     for rest in rests(lines, "by "):
         step, rule = rest.split(". ", 1)
-        by.append({"step": step, "rule": rule})
+        by.append({"step": step, **why(rule)})
     for rest in rests(lines, "could "):
         step, (made, rule) = rest.split(": ", 1)[0], rest.split(": ", 1)[1].split(". ", 1)
-        could.append({"step": step, "entry": None if made == "sleep" else made, "rule": rule})
+        could.append({"step": step, "entry": None if made == "sleep" else made, **why(rule)})
     return {"by": by, "could": could}
 
 

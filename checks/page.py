@@ -98,7 +98,7 @@ def kinds(key):
 def named(header, names):
     """The names of a page, those of the object's seats and then of its conditions, or nothing if there are none."""
     def escaped(name):
-        return "".join(f"\\u{ord(it):04x}" if it in "\"&'<>\\" else it for it in name)
+        return "".join(f"\\u{ord(it):04x}" if it in "&'<>" else it for it in json.dumps(name)[1:-1])
     keys = [("seat", number) for number in range(header.seats)]
     keys += [("condition", number) for number in range(header.conditions)]
     rows = [f',["{kind} {number}","{escaped(names[kind, number])}"]' for kind, number in keys if (kind, number) in names]
@@ -119,7 +119,7 @@ def waiting(state):
 
 
 def wanted(text, first=None, last=None, names=None):
-    """The data of the page of a history, by the rules: its lines. `first` and `last` are those chosen."""
+    """The data of the page of a history, by the rules. `first` and `last` are those chosen."""
     header, lines = rules.read_history(text)
     state, legal, wrong = lines.start(), [], None
     folded = lines.folded()
@@ -151,12 +151,12 @@ def wanted(text, first=None, last=None, names=None):
     told += ["]", ',"amounts":["amount"', *amounts(lines, legal, begin), "]"]
     told += [',"entries_shown":[["seat","words"]']
     told += [f',[{entry.seat},"{rules.spelt(entry)}"]' for entry in shown]
-    return [*told, "]", *before, *named(header, names or {}), "}"]
+    return "".join([*told, "]", *before, *named(header, names or {}), "}\n"])
 
 
 def has_data(page, text):
     """Whether a page has the data of a history of which no entries are chosen."""
-    return parts(page.decode())[1].splitlines() == wanted(text)
+    return parts(page.decode())[1] == wanted(text)
 
 
 def amounts(lines, legal, begin):
@@ -348,9 +348,9 @@ def make_picture(program, history, number, to):
 def is_data(program, name, history, words, chosen):
     head, data, foot = parts(page_of(program, history, words))
     told = wanted(history, **chosen)
-    good = data.splitlines() == told
+    good = data == told
     if not good:
-        print("\n".join(f"{a!r} for {b!r}" for a, b in zip(data.splitlines(), told) if a != b)[:600])
+        print(f"{data[:600]!r} for {told[:600]!r}")
     yield f"{name} {' '.join(words)}: the data", good
     yield f"{name} {' '.join(words)}: the fixed parts", head != "" and is_closed(head, foot)
 

@@ -14,10 +14,13 @@ usage: checks/pages.py [--write]      at the top of the repository
 - Any other block has a mark in the lines before it, '<!-- not checked: WHY -->'.
 - A link leads to a file that is there, and if it names a heading, to that heading.
 - A table of contracts has a row for each file that it links, with all public functions of that file.
+- A whole program that the check of such a page writes and runs may have a `main` of its own.
 - A reference stands between the lines '<!-- made by checks/pages.py: NAMES -->' and '<!-- end -->'. It has what the
-  sources of the page's crate say of these types and functions: their comments, their declarations, and each public
-  function with its contract. The name `head` stands for the head of the crate. Each name that the crate `locks` passes
-  on has a reference in the page of its own crate. Elsewhere no page quotes a contract.
+  sources of the page's crate say of these types and functions: first what several calls require and ensure, then each
+  type, and of each public function its call, the first sentence of its comment, and the clauses that are its own. Of a
+  clause of more than 9 words it has the label and the names that begin with a capital (`label: Names`). The name
+  `head` stands for the head of the crate. Each name that the crate `locks` passes on has a reference in the page of its
+  own crate. Elsewhere no page quotes a contract.
 
 --write writes rows and references anew. The last line is 'N parts and rows, M not as the sources', and the
 status is 1 if M is not 0.
@@ -26,6 +29,7 @@ import glob
 import os
 import re
 import sys
+from collections import Counter
 from typing import NamedTuple
 
 import bodies
@@ -58,6 +62,16 @@ MADE = re.compile("(?ms)^" + OPENS % r"([^\n]*)" + r"\n(.*?)^" + ENDS + "$")
 PASSED_ON = re.compile(r"(?m)^pub use (\w+)(?:::\w+)*::(?:\{([^}]*)\}|(\w+));")
 FACADE = "crates/locks"
 PUBLIC = re.compile(r"(?m)^( *)(pub )?(?:const )?fn (\w+)")
+BEGINS = re.compile(r"(?m)^ {4}(?=(?:requires|ensures)\b)")
+SENTENCE = re.compile(r"(.*?[.!?])(?= [A-Z`]|$)")
+CALL = re.compile(r"(?:pub )?(?:const )?(?:unsafe )?fn (\w+)")
+CITED = re.compile(r"\b[A-Z]\w{2,}")
+LABELLED = re.compile(r"(?:requires|ensures)\*?(?: whole)?(?: (\w+))? \{")
+LONG, OWN_MAIN = 9, "fn main("
+SEVERAL = (
+    "What several of these calls require and ensure; the sources say which. A long clause is told by its name and what it "
+    "cites."
+)
 
 
 class Block(NamedTuple):
@@ -144,25 +158,100 @@ def row_of(page, file):
     return f"| [{file}]({file}) | {', '.join(f'`{it}`' for it in functions)} |"
 
 
-def sections(heading, doc, text):
-    return [heading, *([doc] if doc else []), f"```rust\n{text}\n```"]
+def first_sentence(doc):
+    """Returns the first sentence of a comment."""
+    said = " ".join(doc.split("\n\n")[0].split())
+    found = SENTENCE.match(said)
+    return found[1] if found else said
 
 
-def reference(name, sources):
-    """Returns what the sources of a crate say of a type, a trait or a function, or None where none has it."""
+def cut(text):
+    """Returns a function's declaration and its clauses, each in one line."""
+    head, *clauses = BEGINS.split(text)
+    return " ".join(head.split()), [" ".join(it.split()) for it in clauses]
+
+
+def bracketed(text, at):
+    """Returns where the bracket that opens at a place closes."""
+    depth = 0
+    for to in range(at, len(text)):
+        depth += text[to] in "([{<"
+        depth -= text[to] in ")]}" or text[to] == ">" and text[to - 1] not in "-="
+        if not depth:
+            return to
+    return len(text)
+
+
+def split_at_commas(text):
+    """Returns the parts of a list, whose own lists in brackets stay whole."""
+    found, at, begins = [], 0, 0
+    while at < len(text):
+        if text[at] == ",":
+            found, begins = [*found, text[begins:at]], at + 1
+        at = bracketed(text, at) + 1 if text[at] in "([{<" else at + 1
+    return [it.strip() for it in [*found, text[begins:]] if it.strip()]
+
+
+def call_of(head):
+    """Returns how a function is called: its name, the names of what it takes, and what it returns."""
+    found = CALL.match(head)
+    at = found.end()
+    at = bracketed(head, at) + 1 if head[at] == "<" else at
+    end = bracketed(head, at)
+    taken = [it.split(":")[0].strip() for it in split_at_commas(head[at + 1 : end])]
+    names = [re.sub(r"^(mut |&mut |&'\w+ |&)+", "", it) for it in taken]
+    returns = re.sub(r" where .*| \{$|;$", "", head[end + 1 :]).strip()
+    returns = re.sub(r"(\w+)<'[^<>]*(?:<[^<>]*>[^<>]*)*>", r"\1<..>", returns)
+    return f"{found[1]}({', '.join(names)}) {returns}".strip()
+
+
+def told(clause):
+    """Returns a clause as it stands, or what it is named and what it cites if it is long."""
+    plain = clause.rstrip("; ")
+    label = LABELLED.match(plain)
+    if len(plain.split()) <= LONG or not label:
+        return f"`{plain}`"
+    cited = ",".join(dict.fromkeys(CITED.findall(plain)))
+    name = label[1] if label[0].startswith("ensures") else label[0].rstrip(" {")
+    return f"`{name or 'result'}: {cited}`" if cited else f"`{name or 'result'}`"
+
+
+def listed(name, function, shared):
+    """Returns the item of a function in a list: what it does, and the clauses that it shares with no other."""
+    head, clauses = cut(function.text)
+    own = [told(it) for it in clauses if shared[it] == 1]
+    says = first_sentence(function.doc)
+    owner = f"{name}::" if name and name != function.name else ""
+    return " ".join(filter(None, [f"- `{owner}{call_of(head)}`:", says, *(["Own:", "; ".join(own)] if own else [])]))
+
+
+def functions_of(name, sources):
+    """Returns the item of a name and its functions, in the order of the sources, or None where no source has it."""
     found = [it for it in sources if name in it.items]
     if not found:
         return None
     item = found[0].items[name]
-    said = sections(f"### `{name}`", item.doc, item.text)
-    for function in item.functions:
-        said += sections(f"#### `{name}::{function.name}`", function.doc, function.text)
     groups = [it for source in [*found, *(it for it in sources if it not in found)] for it in source.groups]
-    for group in (it for it in groups if it.owner == name and it.functions and it.trait in ("", "Drop")):
-        said += [group.doc] if group.doc else []
-        for function in group.functions:
-            said += sections(f"#### `{name}::{function.name}`", function.doc, function.text)
-    return "\n\n".join(said)
+    own = [it for it in groups if it.owner == name and it.functions and it.trait in ("", "Drop")]
+    return item, [*item.functions, *(it for group in own for it in group.functions)]
+
+
+def reference(names, sources):
+    """Returns what the sources of a crate say of some types, traits and functions, or None where one lacks."""
+    found = [(name, functions_of(name, sources)) for name in names]
+    if any(it is None for _, it in found):
+        return None
+    alone = [(name, item) for name, (item, _) in found if " fn " in f" {item.text}"[:12]]
+    every = [*(it for _, (_, functions) in found for it in functions), *(item for _, item in alone)]
+    shared = Counter(it for function in every for it in cut(function.text)[1])
+    often = [f"- {told(it)}: {count} calls" for it, count in shared.most_common() if count > 3]
+    said = [SEVERAL, "\n".join(often)] if often else []
+    for name, (item, functions) in found:
+        if (name, item) not in alone:
+            said += [f"### `{name}`", first_sentence(item.doc), f"```rust\n{item.text}\n```"]
+            said += ["\n".join(listed(name, it, shared) for it in functions)] if functions else []
+    said += ["### Functions", "\n".join(listed("", item, shared) for _, item in alone)] if alone else []
+    return "\n\n".join(it for it in said if it)
 
 
 def made_of(page, names):
@@ -171,8 +260,8 @@ def made_of(page, names):
     texts = ["\n".join(lines_of(it)) for it in files]
     sources = [items.Source(it) for it in texts]
     heads = [items.head_of(text) for file, text in zip(files, texts) if file.endswith("/src/lib.rt")]
-    said = [heads[0] if name == "head" else reference(name, sources) for name in names.split()]
-    return None if None in said else "\n\n".join(said) + "\n"
+    said = heads[0] if names.strip() == "head" else reference(names.split(), sources)
+    return None if said is None else f"{said}\n"
 
 
 def passed_on(top):
@@ -221,6 +310,8 @@ def strays_of_block(page, block, sources):
     if block.kind not in HOMES:
         return 1, [f"a block of {block.kind}, a language that no check knows: {block.lines[0]}"]
     found, files = parts(block), sources(block.kind)
+    if block.lines and block.lines[0].startswith("//! ") and any(page.endswith(it) for it in RUN):
+        found = [it for it in found if not it[0].startswith(OWN_MAIN)]
     missing_ones = [it[0] for it in found if not any(stands(it, file) for file in files)]
     return len(found), [f"no file has, and no mark says why: {it}" for it in missing_ones]
 

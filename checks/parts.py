@@ -2,7 +2,7 @@
 """The parts of a lock that runs on past its cap, audited one after the other:
 checks/parts.py EXAMPLE_LOCKS AQS [ROUNDS [ENTRIES]].
 
-The parts are those of `example_locks history_in_parts`. Each is a history text that `aqs audit` must call legal.
+The parts are those of `example_guards history_in_parts`. Each is a history text that `aqs audit` must call legal.
 Its base must say what the part before it left: so many entries, and of each seat the calls and holds, which
 are counted here once more. The last line is 'N passed, M failed'.
 """

@@ -3,8 +3,8 @@
 `is_told(text, answer)` judges the status, the output and the standard error of `aqs explain` for a text that is no
 right history. The page is docs/SPECIFICATION.md, "Where a text is wrong". Nothing here has the program's tables. A line is
 right if `rules.py` reads it. The words of the wrong line are continued by the ends of many right lines, to see how many
-of them begin a right one. The word after these is the wrong one. Each word that is expected must go on to a right line,
-and each of the right lines must go on with an expected word. The example must be right, and begin alike.
+of them begin a right one. The word after these is the wrong one. What is expected is a phrase for each kind of line. The
+example must be right, and begin alike.
 """
 
 import copy
@@ -17,17 +17,29 @@ RIGHT_STEPS = b"a right steps text, which aqs replay answers\n"
 RIGHT_SCRIPT = b"a right script, which aqs run runs\n"
 SHOWN = 60
 PLACE = re.compile(rb"wrong at line (\d+) column (\d+)\n")
-RANGE = re.compile(r"a number from (-?\d+) to (-?\d+)")
-WHOLE = b"a line with which a good base goes on (What folded entries leave)"
+
+# What is expected, by the kind of line.
+OBJECT = "and an object: lock, rw, semaphore or latch"
+STEPS_HEAD, HISTORY_HEAD = f"aqs-steps 1 or 2, {OBJECT}", f"aqs-history 1 or 2, {OBJECT}"
+ANY_HEAD = "the first line of a steps text or of a history text, or a script"
+STEP = ("a step (acquire, try, tryfair, entryinterrupt, give, await, signal, signalall, look, expire, interrupt, drain), "
+        "trim or end")
+BASE = "base, or the line of the next seat"
+WAITER = "a waiter (line, sleeper), an entry or end"
+ENTRY = ("an entry (got, trygot, queued, granted, missed, gave, left, refused, await, signal, signalall, lapse, back, "
+         "counted, drained) or end")
+PART = "an object: lock, rw, semaphore or latch, with a seat for each thread"
+CALL = ("an object and a call (acquire, acquire-interruptible, acquire-timed, try, give, await, await-interruptible, "
+        "await-timed, signal, signalall, drain, trim), or interrupt and a thread")
 
 
 class Stop:
-    """Where a text stops to be right: the line, whether it has a break, which lines are right there, and lines that
-    may be."""
+    """Where a text stops to be right: the line, whether it has a break, which lines are right there, lines that may be,
+    and what is expected."""
 
-    def __init__(self, number, line, is_ended, is_right, candidates):
+    def __init__(self, number, line, is_ended, is_right, candidates, expected):
         self.number, self.line, self.is_ended = number, line, is_ended
-        self.is_right, self.candidates = is_right, candidates
+        self.is_right, self.candidates, self.expected = is_right, candidates, expected
 
     def words(self):
         return self.line.split(b" ")
@@ -88,41 +100,14 @@ def entry_lines(lines):
     yield b"end %d %d" % (number, calls)
 
 
-def waiter_shapes(header):
-    """The spelling of the lines of waiters, as patterns."""
-    most = rules.LIMIT if header.kind == "lock" else rules.READS
-    modes = {"lock": "x", "rw": "xs"}.get(header.kind, "s")
-    n = (0, rules.LIMIT) if header.kind == "semaphore" else (1, 1)
-    seats, conditions = (0, header.seats - 1), (0, header.conditions - 1)
-    yield ["line", seats, "queued", modes, n]
-    if header.conditions:
-        yield ["line", seats, "back", conditions, (1, most), "signalled timeout interrupt"]
-        yield ["sleeper", conditions, seats, (1, most)]
-
-
-def fits(word, wanted):
-    if isinstance(wanted, tuple):
-        value = rules.number(word, wanted[1])
-        return value is not None and value >= wanted[0]
-    return word.decode("latin1") in (list(wanted) if wanted in ("x", "s", "xs") else wanted.split())
-
-
-def is_waiter(header, line):
-    """Whether a line is spelt as that of a waiter. Whether a good base goes on with it is another question."""
-    words = line.split(b" ")
-    return any(
-        len(words) == len(shape) and all(map(fits, words, shape)) for shape in waiter_shapes(header)
-    )
-
-
 def waiter_lines(header):
-    for shape in waiter_shapes(header):
-        lines = [[]]
-        for wanted in shape:
-            several = [str(wanted[0])] if isinstance(wanted, tuple) else wanted.split()
-            several = list(wanted) if wanted == "xs" else several
-            lines = [[*line, word] for line in lines for word in several]
-        yield from (" ".join(line).encode() for line in lines)
+    """Lines of waiters, for each seat."""
+    for seat in range(header.seats):
+        yield b"line %d queued x 1" % seat
+        yield b"line %d queued s 1" % seat
+        for condition in range(header.conditions):
+            yield b"line %d back %d 1 signalled" % (seat, condition)
+            yield b"sleeper %d %d 1" % (condition, seat)
 
 
 def base_lines(lines):
@@ -131,21 +116,23 @@ def base_lines(lines):
     if base.seats is None:
         yield {"semaphore": b"base 1 unheld 0", "latch": b"base 1 count 0"}.get(header.kind, b"base 1")
     elif not base.has_all_seats():
-        least = max(0, base.state.free - rules.LIMIT) if header.kind == "semaphore" else 0
-        least = least if base.seats + 1 == header.seats else 0
-        yield b"seat %d calls 0 x 0 s %d" % (base.seats, least)
+        yield b"seat %d calls 0 x 0 s 0" % base.seats
     else:
         yield from waiter_lines(header)
 
 
 def is_next(lines, line):
-    """Whether a line may come next. A waiter's line may if it is spelt as one."""
-    if lines.is_end(line):
-        return True
-    is_based = isinstance(lines, rules.History) and not lines.is_whole
-    if is_based and lines.base.has_all_seats() and is_waiter(lines.header, line):
-        return True
-    return copy.deepcopy(lines).takes(line.split(b" "))
+    """Whether a line may come next."""
+    return lines.is_end(line) or copy.deepcopy(lines).takes(line.split(b" "))
+
+
+def expected_in(lines):
+    """What is expected after these lines."""
+    if isinstance(lines, rules.Steps):
+        return STEP
+    if lines.is_whole:
+        return ENTRY
+    return WAITER if lines.base.has_all_seats() else BASE
 
 
 def candidates_of(lines):
@@ -166,7 +153,9 @@ def stop_in(text, names, lines_of):
             break
     else:
         several = [line.split(b" ") for name in names for line in header_lines(name)]
-        return Stop(1, first, brk != b"", lambda line: any(is_header(name, line) for name in names), several)
+        expected = ANY_HEAD if len(names) > 1 else STEPS_HEAD if names == [b"aqs-steps"] else HISTORY_HEAD
+        is_right = lambda line: any(is_header(name, line) for name in names)
+        return Stop(1, first, brk != b"", is_right, several, expected)
     lines = lines_of(rules.header_part(first[len(name) + 3:]), first[len(name) + 1:][:1] == b"2")
     number = 1
     while True:
@@ -179,12 +168,12 @@ def stop_in(text, names, lines_of):
         if not brk or not lines.takes(line.split(b" ")):
             lines = kept
             several = [one.split(b" ") for one in candidates_of(lines)]
-            return Stop(number, line, brk != b"", lambda one: is_next(lines, one), several)
+            return Stop(number, line, brk != b"", lambda one: is_next(lines, one), several, expected_in(lines))
         rest = after
     if not after:
         return None
     line, brk, _ = after.partition(b"\n")
-    return Stop(number + 1, line, brk != b"", lambda one: False, [])
+    return Stop(number + 1, line, brk != b"", lambda one: False, [], "the end of the text")
 
 
 def shown(bytes_):
@@ -205,64 +194,22 @@ def found_at(stop, place):
     return shown(words[place]) + " and the end of the text" if words[place] else "the end of the text"
 
 
-def takes(expected, word):
-    """Whether an expectation of the answer takes a word; None is the end of the line."""
-    if word is None or expected == "the end of the line":
-        return (word is None) == (expected == "the end of the line")
-    limits = RANGE.fullmatch(expected)
-    if limits is None:
-        return word.decode("latin1") in re.split(", | or ", expected)
-    if not re.fullmatch(rb"0|-?[1-9]\d*", word):
-        return False
-    return int(limits[1]) <= int(word) <= int(limits[2])
+def is_expected(stop, place, told):
+    """Whether this is what is expected after so many words. After a right line it may be the end of the line, which an
+    example tells that ends there."""
+    ends = any(len(line) == place for line in stop.candidates)
+    front = b" ".join(stop.words()[:place])
+    is_end = ends and stop.is_right(front)
+    return told == ["the end of the line" if is_end else stop.expected]
 
 
-def words_of(expected):
-    """Words that an expectation takes: those that it names, or both ends of a range."""
-    limits = RANGE.fullmatch(expected)
-    return list(limits.groups()) if limits else re.split(", | or ", expected)
-
-
-def beyond(expected):
-    """Words just outside a range."""
-    limits = RANGE.fullmatch(expected)
-    if limits:
-        yield str(int(limits[2]) + 1)
-        yield str(int(limits[1]) - 1)
-
-
-def are_expected(stop, place, told):
-    """Whether exactly the words are expected with which a right line goes on."""
-    front = stop.words()[:place]
-    for line in stop.candidates:
-        tail = line[place:]
-        if len(line) >= place and stop.is_right(b" ".join([*front, *tail])):
-            word = tail[0] if tail else None
-            if not any(takes(expected, word) for expected in told):
-                return False
-    for expected in told:
-        if expected == "the end of the line":
-            if not stop.is_right(b" ".join(front)):
-                return False
-            continue
-        if not all(stop.begins_right([*front, word.encode()]) for word in words_of(expected)):
-            return False
-        if any(stop.begins_right([*front, word.encode()]) for word in beyond(expected)):
-            return False
-    return True
-
-
-def whole_line_told(stop, answer):
+def whole_line_told(stop):
     """What must be said of a line that is wrong as a whole, or None."""
     place = f"wrong at line {stop.number} column "
-    if not stop.candidates:
-        return f"{place}1\nfound {shown(stop.line)}\nexpected the end of the text\n".encode()
-    if not stop.is_right(stop.line):
+    if stop.place() is None:
+        return f"{place}1\nfound {shown(stop.line)}\nexpected {stop.expected}\n".encode()
+    if stop.is_ended or not stop.is_right(stop.line):
         return None
-    if stop.is_ended:
-        begins = f"{place}1\nfound {shown(stop.line)}\n".encode() + b"expected " + WHOLE + b"\nexample "
-        is_right = answer.startswith(begins) and stop.is_right(answer[len(begins):-1])
-        return answer if is_right and answer.endswith(b"\n") else begins
     ends = f"{place}{len(stop.line) + 1}\nfound the end of the text\nexpected a line break\nexample "
     return ends.encode() + stop.line + b"\n"
 
@@ -274,7 +221,7 @@ def column_at(words, place):
 
 def is_stop_told(stop, answer):
     """Whether an output says where a text of lines is wrong."""
-    whole = whole_line_told(stop, answer)
+    whole = whole_line_told(stop)
     if whole is not None:
         return answer == whole
     place = stop.place()
@@ -290,7 +237,7 @@ def is_stop_told(stop, answer):
         return False
     example = example[8:].encode("latin1")
     is_alike = example.split(b" ")[:place] == words[:place]
-    return is_alike and stop.is_right(example) and are_expected(stop, place, [line[9:] for line in told])
+    return is_alike and stop.is_right(example) and is_expected(stop, place, [line[9:] for line in told])
 
 
 def is_other(text):
@@ -357,7 +304,7 @@ def call_stop(text, names, threads):
     for name in names:
         several += [[name.encode(), *line.split(b" ")] for line in call_lines()]
     is_right = lambda line: rules.is_call(line.decode("utf-8", "surrogateescape"), names, threads)
-    return Stop(0, text.encode("utf-8", "surrogatepass"), True, is_right, several)
+    return Stop(0, text.encode("utf-8", "surrogatepass"), True, is_right, several, CALL)
 
 
 def part_stop(text, threads):
@@ -368,7 +315,7 @@ def part_stop(text, threads):
     several = [line.split(b" ")[2:] for line in header_lines(b"aqs-steps")]
     seats = b"%d" % threads
     several = [[seats if line[at - 1] == b"seats" else word for at, word in enumerate(line)] for line in several]
-    return Stop(0, text.encode("utf-8", "surrogatepass"), True, is_right, several)
+    return Stop(0, text.encode("utf-8", "surrogatepass"), True, is_right, several, PART)
 
 
 def is_words_told(stop, where, answer):
@@ -384,7 +331,7 @@ def is_words_told(stop, where, answer):
         return False
     example = example[8:].encode("latin1")
     is_alike = example.split(b" ")[:place] == words[:place]
-    return is_alike and stop.is_right(example) and are_expected(stop, place, [line[9:] for line in told])
+    return is_alike and stop.is_right(example) and is_expected(stop, place, [line[9:] for line in told])
 
 
 def is_good_script(example):

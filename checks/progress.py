@@ -70,6 +70,20 @@ def answer(program, words, text=None, on_terminal=True, both=False):
     return done.returncode, done.stdout, seen.said
 
 
+def keyboard(program):
+    """The program alone on a terminal says that it reads from the keyboard; with another word it does not."""
+    told = b"aqs: reads a steps text from the keyboard; aqs manual says what else it does\n"
+    for words in ([], ["replay"]):
+        with Terminal() as seen:
+            os.write(seen.leader, b"\x04")
+            done = subprocess.run([program, *words], stdin=seen.end, stdout=subprocess.PIPE, stderr=seen.end, timeout=SECONDS)
+        said = seen.said.replace(b"^D\b\b", b"")
+        yield f"{words} at a keyboard", (done.returncode, done.stdout) == (3, b"") and (told in said) == (words == [])
+    with Terminal() as seen:
+        done = subprocess.run([program], stdin=subprocess.DEVNULL, stderr=seen.end, timeout=SECONDS)
+    yield "no keyboard", told not in seen.said
+
+
 def shown(said):
     """What a terminal of one line shows at the end, and what it showed before its cursor went back each time."""
     cells, at, lines = [], 0, []
@@ -133,6 +147,7 @@ def results(program, scratch):
     ends, lines = shown(told[2])
     yield "audit of standard input", told[:2] == quiet[:2] and quiet[2] == b"" and ends == b"" and is_told(lines, None)
     yield from into_files(program, history, scratch)
+    yield from keyboard(program)
     yield from with_faults(program, text, scratch)
     yield from on_one_terminal(program, history)
     short = scratch / "short.history"

@@ -3,10 +3,14 @@
 Written from that page alone, so that a program and a reading of it that share no line can be compared.
 `replay(text, history)` and `audit(text)` give the status, the output and the line on standard error.
 `script_fault(text)` gives the first fault of a thread script, or None.
+
+checks/rules.py replay [--history] [FILE] and checks/rules.py audit [FILE] answer as `aqs` does, to FILE or to standard
+input. They need neither the kit nor a program.
 """
 import copy
 import json
 import re
+import sys
 from collections import namedtuple
 
 LIMIT = 2147483647
@@ -851,3 +855,28 @@ def thread_fault(threads, names):
             if not isinstance(call, str) or not is_call(call, names, len(threads)):
                 return f"bad call {at} {position}"
     return None
+
+
+def main(words):
+    """Answers as `aqs replay` and `aqs audit` do, and returns the exit status."""
+    options = {"replay": ["--history"], "audit": []}
+    command, *more = words or ["replay"]
+    named = [word for word in more if not word.startswith("-")]
+    given = [word for word in more if word.startswith("-")]
+    if len(named) > 1 or len(given) > 1 or not set(given) <= set(options.get(command, ())) or command not in options:
+        print("aqs: usage", file=sys.stderr)
+        return 2
+    try:
+        with open(named[0], "rb") if named else sys.stdin.buffer as file:
+            text = file.read()
+    except OSError:
+        print("aqs: read failed", file=sys.stderr)
+        return 4
+    status, told, error = replay(text, given != []) if command == "replay" else audit(text)
+    sys.stdout.buffer.write(told)
+    sys.stderr.buffer.write(error)
+    return status
+
+
+if __name__ == "__main__":
+    sys.exit(main(sys.argv[1:]))

@@ -1,22 +1,39 @@
-"""Tests that README has an opening for each language, and that a check of the archive counts what went wrong."""
+"""Tests that README has a command for each language, that the version stands in one place, and that a check of the
+archive counts what went wrong."""
 import pathlib
+import re
 import tempfile
 import unittest
 
 import archive
 
-LANGUAGES = {"Rattle", "C", "C++", "Rust", "Python", "Java"}
+LANGUAGES = {"C", "C++", "Rust", "Python", "Java"}
 
 
-class Openings(unittest.TestCase):
-    def test_readme_has_one_for_each_language(self):
-        lines = archive.openings((archive.ROOT / "README.md").read_text(encoding="utf-8"))
-        self.assertEqual(set(lines), LANGUAGES)
+def text(path):
+    return (archive.ROOT / path).read_text(encoding="utf-8")
 
-    def test_that_of_rattle_stands_in_the_first_program(self):
-        lines = archive.openings((archive.ROOT / "README.md").read_text(encoding="utf-8"))
-        program = archive.ROOT / "crates/example_first/src/main.rt"
-        self.assertIn(lines["Rattle"], program.read_text(encoding="utf-8"))
+
+class Readme(unittest.TestCase):
+    def test_it_has_a_command_for_each_language(self):
+        self.assertEqual(set(archive.openings(text("README.md"))), LANGUAGES)
+
+    def test_a_command_stands_on_its_first_screen_and_others_install(self):
+        first, install = archive.typed(text("README.md"))
+        self.assertIn("tar -xzf release/", first[0])
+        self.assertIn("install.sh", install[0])
+        self.assertLess(text("README.md").split("\n").index(f"    {first[-1]}"), 25)
+
+
+class Version(unittest.TestCase):
+    """The version is that of the file VERSION, and what must say it again agrees."""
+
+    def test_what_says_it_again_agrees(self):
+        own = archive.version()
+        for path in ("bindings/python/pyproject.toml", "bindings/rust/aqs/Cargo.toml"):
+            self.assertEqual(re.findall(r'(?m)^version = "(.*)"$', text(path)), [own])
+        self.assertEqual(re.findall(r"(?m)^## (\d\S*),", text("CHANGELOG.md"))[0], own)
+        self.assertEqual({*re.findall(r"tunicschist-(\d+\.\d+\.\d+)", text("README.md") + text("docs/INSTALL.md"))}, {own})
 
 
 class Counted(unittest.TestCase):
@@ -29,15 +46,6 @@ class Counted(unittest.TestCase):
             self.assertTrue(checks.run("ends with that status", ["false"], status=1))
             self.assertFalse(checks.run("is not there", [pathlib.Path(room) / "nothing"]))
             self.assertEqual((checks.passed, checks.failed), (2, 3))
-
-    def test_the_flags_are_those_of_the_prefix(self):
-        with tempfile.TemporaryDirectory() as room:
-            file = pathlib.Path(room, "lib/pkgconfig/aqs.pc")
-            file.parent.mkdir(parents=True)
-            file.write_text(
-                f"prefix={room}\nlibdir=${{prefix}}/lib\n\nCflags: -I${{prefix}}/include\nLibs: -L${{libdir}} -laqs\n"
-            )
-            self.assertEqual(archive.flags_of(pathlib.Path(room)), [f"-I{room}/include", f"-L{room}/lib", "-laqs"])
 
 
 if __name__ == "__main__":

@@ -13,7 +13,7 @@ import loop
 # Functions whose proofs have no other invariants than those that the program writes.
 PROVED = (
     ("example_loops", "rounds::add_often"), ("example_loops", "told::work"), ("example_loops", "changed::take"),
-    ("example_jobs", "working::take"), ("example_jobs", "working::work"), ("example_jobs", "submitting::submit_each"),
+    ("example_loops", "working::take"), ("example_loops", "working::work"), ("example_loops", "submitting::submit_each"),
     ("example_barrier", "barrier::Barrier::wait_for"), ("example_barrier", "visit_often"),
 )
 

@@ -69,8 +69,8 @@ class Held(unittest.TestCase):
         for kind in ("sh", "text"):
             text = f"```{kind}\ntrue\n```\n"
             self.assertEqual(self.held("docs/FIRST_HOUR.md", text), (1, []))
-            self.assertEqual(len(self.held("docs/PROOFS.md", text)[1]), 1)
-            self.assertEqual(self.held("docs/PROOFS.md", f"<!-- not checked: so -->\n{text}"), (1, []))
+            self.assertEqual(len(self.held("docs/EVIDENCE.md", text)[1]), 1)
+            self.assertEqual(self.held("docs/EVIDENCE.md", f"<!-- not checked: so -->\n{text}"), (1, []))
 
     def test_a_language_that_no_check_knows_is_a_stray(self):
         self.assertEqual(len(self.held("page.md", "```perl\n1;\n```\n")[1]), 1)
@@ -109,7 +109,7 @@ class Links(unittest.TestCase):
     PAGE = f"{TOP}/docs/FIRST_HOUR.md"
 
     def test_those_to_a_file_and_to_a_heading_are_found(self):
-        text = "[a](AQS.md) [b](../README.md#what-is-proved) [c](#6-loops) [d](https://no.example/where)"
+        text = "[a](AQS.md) [b](../README.md#what-is-proved) [c](#6-what-the-contract-says) [d](https://no.example/where)"
         self.assertEqual([*pages.dead_links(self.PAGE, text)], [])
 
     def test_those_that_lead_nowhere_are_said(self):
@@ -146,9 +146,25 @@ class References(unittest.TestCase):
 
     def test_a_reference_has_the_contracts_of_all_files(self):
         made = pages.made_of(self.PAGE, "Mutex Guard")
-        for it in ("#### `Mutex::open`", "#### `Mutex::lock`", "#### `Guard::wait`", "#### `Guard::drop`"):
-            self.assertIn(f"{it}\n", made)
-        self.assertIn("requires can { CanLock lock.now (P.seats parking.now) pass.old }", made)
+        for it in ("Mutex::open(alloc, value, ", "Mutex::lock(pass, lock, rt, parking) -> ", "Guard::wait(self, ", "Guard::drop("):
+            self.assertIn(f"- `{it}", made)
+
+    def test_a_clause_of_several_calls_is_said_once(self):
+        made = pages.made_of(self.PAGE, "Mutex Guard")
+        self.assertEqual(made.count("requires can { CanLock lock.now (P.seats parking.now) pass.old }"), 1)
+
+    def test_a_clause_is_told_by_its_name_and_what_it_cites_if_it_is_long(self):
+        long = "ensures kept { IfOk result (λ guard. Kept I.invariant guard.slot × IsSame guard.pass) }"
+        self.assertEqual(pages.told(long), "`kept: IfOk,Kept,IsSame`")
+        self.assertEqual(pages.told("requires { 1 ≤ seats }"), "`requires { 1 ≤ seats }`")
+
+    def test_a_call_names_what_it_takes_and_what_it_returns(self):
+        head = "pub fn lock<'a, F: Fn(&T) -> bool>(pass: &'a mut Pass, pair: (u8, Vec<u8>)) -> Result<Guard<'a, T>, Fault>"
+        self.assertEqual(pages.call_of(head), "lock(pass, pair) -> Result<Guard<..>, Fault>")
+        self.assertEqual(pages.call_of("fn pour(&mut self);"), "pour(self)")
+
+    def test_a_comment_is_told_by_its_first_sentence(self):
+        self.assertEqual(pages.first_sentence("Fills it,\nas in `a.b`. Then it is full.\n\nMore."), "Fills it, as in `a.b`.")
 
     def test_a_name_that_no_source_has_is_a_stray(self):
         self.assertIsNone(pages.made_of(self.PAGE, "Mutex Cup"))

@@ -25,10 +25,10 @@ TEST_SECONDS = 100
 # The tests with the words that they get, those first that say most in the least time. FOLDER takes histories.
 TESTS = (
     "answers", "memory", "wakes", "statuses", "seats", "thread_numbers", "or_abort", "over", "interrupts", "limits",
-    "histories", "eintr", "handlers", "forks", "crowd", "calls FOLDER", "times", "closes", "waits", "stops", "storms FOLDER 4 200",
-    "storms FOLDER 16 60",
+    "histories", "range", "named FOLDER", "gates", "crowded", "bounded FOLDER", "eintr", "handlers", "forks", "crowd",
+    "calls FOLDER", "times", "closes", "waits", "stops", "storms FOLDER 4 200", "storms FOLDER 16 60",
 )
-TESTS_OF_CPP = ("members", "guards FOLDER", "durations", "plain")
+TESTS_OF_CPP = ("members", "guards FOLDER", "durations", "plain", "any", "bounded_cpp FOLDER", "statics")
 
 
 class Tree(edits.Tree):
