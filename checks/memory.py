@@ -33,7 +33,6 @@ SECONDS = 60
 PAGE = 1024  # entries of a page
 LISTS = 32  # requests of lists that grow to thousands of answers
 IN_VAIN = 4  # requests of the reader of command lines that it can do without
-AGAIN = 4  # requests of the first reading of a wrong text, without which a second one finds the fault
 CALLS = 12  # requests of a script's calls that it can do without: a list that cannot grow by much grows by little
 KEPT = 2  # blocks of a thread that the kit keeps if it lacks memory for the list of what threads return, beside its list
 MORE = 4  # requests of a longer run text
@@ -142,7 +141,7 @@ def refused(program, library, words, text):
         in_vain += answer == whole.answer
         if answer != whole.answer and not lacks_memory(words, answer):
             return f"request {number}: {answer}"
-    spared = IN_VAIN + (CALLS if makes_calls(words) else AGAIN if words[0] == "explain" else 0)
+    spared = IN_VAIN + (CALLS if makes_calls(words) else 0)
     return f"{in_vain} requests in vain" if in_vain > spared or in_vain == whole.counts.requests else None
 
 

@@ -1,5 +1,5 @@
 -- What is said of a text.
-use Rattle.std.specs.Prelude.{◌≡◌, ◌≤◌, ◌+◌, ◌==◌, ◌||◌, Bool, false, if◌then◌else◌, ℕ, List, [], ◌∷◌, codes, Err, Ok, length, MatchOption, None, Option, Some}
+use Rattle.std.specs.Prelude.{◌≡◌, ◌≢◌, ◌≤◌, ◌+◌, ◌==◌, ◌||◌, Bool, false, if◌then◌else◌, ℕ, List, [], ◌∷◌, codes, Err, Ok, length, MatchOption, None, Option, Some}
 use Rattle.std.specs.List.{slice_split, starts_with}
 use Rattle.frame.specs.declared.acts.Act.{Act}
 use Rattle.history.specs.declared.entry.Entry.{Entry}
@@ -10,6 +10,7 @@ use Rattle.streams.specs.declared.fault.TextFault.TheVariants.{BadHeader, BadLin
 use Rattle.streams.specs.Form.{Form}
 use Rattle.streams.specs.Reading.{IsReading, IsText}
 use Rattle.script.specs.declared.fault.ScriptFault.{ScriptFault}
+use Rattle.script.specs.declared.fault.ScriptFault.TheVariants.{NotJson, OutOfMemory}
 use Rattle.script.specs.Reading.{Reads}
 use Rattle.script.specs.Script.{ScriptView}
 use Rattle.steps.specs.StepsText.{steps_form}
@@ -63,9 +64,9 @@ IsWrongIn form text place =
     (fault : TextFault) × (number : ℕ) × IsReading form text (Err fault) × IsLineOf text fault number
     × IsAt number (length text) place
 
--- the place is in the part of a script that has its fault; of one that is no JSON no part is named
+-- the place is in the part of a script that has its fault; of one that is no JSON a line may be named
 abbrev pub IsPlaceOf : ScriptFault → Place → Type 0
-IsPlaceOf fault (Line line column) = (1 ≤ line) × (1 ≤ column)
+IsPlaceOf fault (Line line column) = (fault ≡ NotJson) × (1 ≤ line) × (1 ≤ column)
 IsPlaceOf fault (Part other member column) = other ≡ fault
 
 -- ---- what is said
@@ -87,10 +88,10 @@ IsReportOf kind.History text found =
     MatchOption found (IsHistory text) (λ wrong. IsWrongIn history_form text wrong.place)
 IsReportOf kind.Script text found =
     MatchOption found (IsScript text)
-    (λ wrong. (fault : ScriptFault) × Reads text (Err fault) × IsPlaceOf fault wrong.place)
+    (λ wrong. (fault : ScriptFault) × (fault ≢ OutOfMemory) × Reads text (Err fault) × IsPlaceOf fault wrong.place)
 IsReportOf kind.Other text found = MatchOption found ⊥ (λ wrong. IsAt 1 (length text) wrong.place)
 
 abbrev pub IsReport : List ℕ → Report → Type 0
 IsReport text History = IsReportOf kind.History text None
-IsReport text (Right kind) = (kind ≡ kind_of text) × IsReportOf kind text None
+IsReport text (Right it) = (it ≢ kind.History) × (it ≡ kind_of text) × IsReportOf it text None
 IsReport text (Wrong wrong) = IsReportOf (kind_of text) text (Some wrong)

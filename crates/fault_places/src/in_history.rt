@@ -102,11 +102,15 @@ fn reader_at(alloc: Global, text: &[u8], number: u64) -> Result<Option<Reader<'_
     if follows_end(text, number) {
         return Ok(None);
     }
-    if let Ok((_, place, left)) = base_behind(alloc, &head, after) {
-        let place = behind_entries(&head.header, place, &after[after.len() - left..]);
-        if !head.is_based || place.count > 0 {
-            return Ok(Some(Reader::Entry(head.header, place)));
+    match base_behind(alloc, &head, after) {
+        Ok((_, place, left)) => {
+            let place = behind_entries(&head.header, place, &after[after.len() - left..]);
+            if !head.is_based || place.count > 0 {
+                return Ok(Some(Reader::Entry(head.header, place)));
+            }
         }
+        Err(ReadFault::Text(_)) => {}
+        Err(ReadFault::OutOfMemory) => return Err(AllocError),
     }
     Ok(Some(before_entries(alloc, text, &head, number)?))
 }

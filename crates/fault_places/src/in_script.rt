@@ -2,7 +2,7 @@
 
 ghost use Rattle.std.specs.Prelude.{IfOk};
 ghost use Rattle.fault_places.specs.Reports.{IsPlaceOf};
-ghost use Rattle.script.specs.declared.fault.ScriptFault.{ScriptFault};
+ghost use Rattle.script.specs.declared.fault.ScriptFault.TheVariants.{NotJson};
 
 use crate::lines::{behind_lines, line_ahead};
 use crate::reader::{Calls, Reader, is_script_with};
@@ -150,7 +150,7 @@ fn told_of_call(
 
 /// Returns in which line and column a text stops to be JSON, and what stands there.
 fn no_json(alloc: Global, text: &[u8], error: &Error) -> Result<Wrong, AllocError>
-    ensures { IfOk result (λ wrong. (fault : ScriptFault) → IsPlaceOf fault wrong.place) }
+    ensures { IfOk result (λ wrong. IsPlaceOf NotJson wrong.place) }
 {
     let (line, column) = (error.line().max(1), error.column().max(1));
     let begun = behind_lines(text, line as u64 - 1).unwrap_or(b"");
@@ -181,7 +181,8 @@ pub(crate) fn wrong_in_script(
     let value = match Value::from_slice(alloc, text) {
         Ok(value) => value,
         Err(error) if error.is_memory() => return Err(AllocError),
-        Err(error) => return no_json(alloc, text, &error),
+        Err(error) if fault == ScriptFault::NotJson => return no_json(alloc, text, &error),
+        Err(_) => Value::Null,
     };
     let (member, column, said) = match fault {
         ScriptFault::OutOfMemory => return Err(AllocError),

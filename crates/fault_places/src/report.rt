@@ -10,7 +10,7 @@ use crate::in_steps::wrong_in_steps;
 use crate::lines::line_at;
 use crate::reader::Reader;
 use crate::wrong::{Wrong, wrong_line};
-use script::read_script;
+use script::{ScriptFault, read_script};
 use std::alloc::{AllocError, Global};
 
 /// Which of the texts one is, by its beginning.
@@ -91,6 +91,7 @@ fn report_of_script(alloc: Global, text: &[u8]) -> Result<Option<Wrong>, AllocEr
 {
     match read_script(alloc, text) {
         Ok(_) => Ok(None),
+        Err(ScriptFault::OutOfMemory) => Err(AllocError),
         Err(fault) => Ok(Some(wrong_in_script(alloc, text, fault)?)),
     }
 }

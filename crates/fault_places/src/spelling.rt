@@ -21,7 +21,8 @@ pub(crate) enum Ending {
     Part,
 }
 
-/// Returns bytes between quotes: at most so many, and those that aren't plain by their numbers.
+/// Returns the first [`SHOWN`] bytes between quotes. A byte that isn't plain is written as `\x` and two
+/// digits.
 pub(crate) fn quoted(alloc: Global, bytes: &[u8]) -> Result<String, AllocError> {
     let mut out = Vec::new(alloc);
     out.push(b'"')?;
