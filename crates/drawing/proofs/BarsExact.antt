@@ -1,11 +1,12 @@
 -- That the bars of a history are exactly its longest stretches.
-use Rattle.std.proofs.Common.{◌≡◌, ◌≢◌, ◌⊎◌, ◌↔◌, inl, inr, ⊎_elim, ℕ, zero, suc, ◌+◌, ◌-◌, ◌<◌, ◌≤◌, Bool, true, false, cond, eqb, ltb, List, [], ◌∷◌, length, get_or, drop, refl, ap, ◌∙◌, sym, subst, arith, eq-eqb, ne_eqb, lt-ltb, le-ltb, ltb-true}
+use Rattle.std.proofs.Common.{◌≡◌, ◌≢◌, ◌⊎◌, ◌↔◌, inl, inr, ⊎_elim, ℕ, zero, suc, ◌+◌, ◌-◌, ◌<◌, ◌≤◌, Bool, true, false, cond, eqb, ltb, List, [], ◌∷◌, length, get_or, map, drop, refl, ap, ◌∙◌, sym, subst, arith, eq-eqb, ne_eqb, lt-ltb, le-ltb, ltb-true}
 use Rattle.std.specs.List.{Contains, flat_map}
 use Rattle.std.proofs.lemmas.Bool.{cases_eq, cases_lt, eqb-false}
 use Rattle.std.proofs.lemmas.Bool.Decides.{nat_tests}
-use Rattle.std.proofs.lemmas.List.Elements.{Contains-append_left, Contains-append_right, Contains-append_cases}
+use Rattle.std.proofs.lemmas.List.{get_or-map, length-map}
+use Rattle.std.proofs.lemmas.List.Elements.{Contains-append_left, Contains-append_right, Contains-append_cases, Contains-push, Contains-push_cases}
 use Rattle.drawing.specs.Below.{Entry, Start}
-use Rattle.drawing.specs.Prelude.{Bar, Kind, Exclusive, Shared, InLine, Asleep, bar_at, bars, ended, ended_by, lasting, IsBar, IsKind, level_behind, Track, asleep_tracks, level, level_of, track, tracks, tracks_below, tracks_of_seat}
+use Rattle.drawing.specs.Prelude.{Bar, Kind, Exclusive, Shared, InLine, Asleep, bar_at, bars, ended, ended_by, lasting, IsBar, IsKind, IsRun, level_behind, Track, asleep_kinds, kinds, level, level_of, track, tracks, tracks_below, tracks_of_seat}
 use Rattle.drawing.proofs.StretchesFollow.{lasting_none}
 
 -- who stands in lists that are joined
@@ -51,67 +52,70 @@ flat_in f (z ∷ xs) y c =
     (λ there. let r = flat_in f xs y there in (r.0, later_in z r.0 xs r.1, r.2))
     (Contains-append_cases (f z) (flat_map f xs) y c)
 
--- the tracks of an object
-abbrev IsTrack : ℕ → ℕ → Track → Type 0
-IsTrack seats conditions t = (t.seat < seats) × IsKind conditions t.kind
+-- the kinds and the tracks of an object
+in_map : {X Y : Type 0} (f : X → Y) (xs : List X) (x : X) → Contains xs x → Contains (map f xs) (f x)
+in_map f xs x c = (
+  c.0,
+  (let l = c.1 in omega (arith, l, length-map xs f)),
+  get_or-map f xs c.0 x (f x) c.1 ∙ ap f c.2,
+)
 
-asleep_in : (i c d : ℕ) → d < c → Contains (asleep_tracks i c) (track i (Asleep d))
-asleep_in i zero d l = absurd (omega (arith, l))
-asleep_in i (suc c) d l =
+map_in : {X Y : Type 0} (f : X → Y) (xs : List X) (y : Y) → Contains (map f xs) y →
+    (x : X) × Contains xs x × (f x ≡ y)
+map_in f [] y c = absurd (nothing_in y c)
+map_in f (z ∷ xs) y c =
+    ⊎_elim (λ here. (z, first_in z xs, here))
+    (λ there. let r = map_in f xs y there in (r.0, later_in z r.0 xs r.1, r.2))
+    (cons_cases (f z) y (map f xs) c)
+
+asleep_in : (c d : ℕ) → d < c → Contains (asleep_kinds c) (Asleep d)
+asleep_in zero d l = absurd (omega (arith, l))
+asleep_in (suc c) d l =
     ⊎_elim
-    (λ q. Contains-append_right (asleep_tracks i c) (track i (Asleep c) ∷ []) (track i (Asleep d))
-    (alone_in (track i (Asleep c)) (track i (Asleep d)) (ap (λ n. track i (Asleep n)) q)))
-    (λ ne. Contains-append_left (asleep_tracks i c) (track i (Asleep c) ∷ []) (track i (Asleep d))
-    (asleep_in i c d (omega (arith, l, ne))))
+    (λ q. subst (λ n. Contains (asleep_kinds (suc c)) (Asleep n)) q
+    (Contains-push (asleep_kinds c) (Asleep c)))
+    (λ ne. Contains-append_left (asleep_kinds c) (Asleep c ∷ []) (Asleep d)
+    (asleep_in c d (omega (arith, l, ne))))
     (cases_eq c d)
 
-in_asleep : (i c : ℕ) (t : Track) → Contains (asleep_tracks i c) t → (t.seat ≡ i) × IsKind c t.kind
-in_asleep i zero t x = absurd (nothing_in t x)
-in_asleep i (suc c) t x =
-    ⊎_elim
-    (λ old. let r = in_asleep i c t old in (r.0, wider c t.kind r.1))
-    (λ new. let q = one_in (track i (Asleep c)) t new in
-    (ap (λ (y : Track). y.seat) (sym q), subst (λ (y : Track). IsKind (suc c) y.kind) q (omega arith)))
-    (Contains-append_cases (asleep_tracks i c) (track i (Asleep c) ∷ []) t x)
+in_asleep : (c : ℕ) (kind : Kind) → Contains (asleep_kinds c) kind → IsKind c kind
+in_asleep zero kind x = absurd (nothing_in kind x)
+in_asleep (suc c) kind x =
+    ⊎_elim (λ old. wider kind (in_asleep c kind old)) (λ new. subst (IsKind (suc c)) new (omega arith))
+    (Contains-push_cases (asleep_kinds c) (Asleep c) kind x)
   where
-    wider : (c : ℕ) (kind : Kind) → IsKind c kind → IsKind (suc c) kind
-    wider c Exclusive p = tt
-    wider c Shared p = tt
-    wider c InLine p = tt
-    wider c (Asleep d) p = omega (arith, p)
+    wider : (kind : Kind) → IsKind c kind → IsKind (suc c) kind
+    wider Exclusive p = tt
+    wider Shared p = tt
+    wider InLine p = tt
+    wider (Asleep d) p = omega (arith, p)
 
-seat_in : (i c : ℕ) (kind : Kind) → IsKind c kind → Contains (tracks_of_seat c i) (track i kind)
-seat_in i c Exclusive p = first_in (track i Exclusive) (track i Shared ∷ track i InLine ∷ asleep_tracks i c)
-seat_in i c Shared p =
-    later_in (track i Exclusive) (track i Shared) (track i Shared ∷ track i InLine ∷ asleep_tracks i c)
-    (first_in (track i Shared) (track i InLine ∷ asleep_tracks i c))
-seat_in i c InLine p =
-    later_in (track i Exclusive) (track i InLine) (track i Shared ∷ track i InLine ∷ asleep_tracks i c)
-    (later_in (track i Shared) (track i InLine) (track i InLine ∷ asleep_tracks i c)
-    (first_in (track i InLine) (asleep_tracks i c)))
-seat_in i c (Asleep d) p =
-    later_in (track i Exclusive) (track i (Asleep d)) (track i Shared ∷ track i InLine ∷ asleep_tracks i c)
-    (later_in (track i Shared) (track i (Asleep d)) (track i InLine ∷ asleep_tracks i c)
-    (later_in (track i InLine) (track i (Asleep d)) (asleep_tracks i c) (asleep_in i c d p)))
+kind_in : (c : ℕ) (kind : Kind) → IsKind c kind → Contains (kinds c) kind
+kind_in c Exclusive p = (0, omega arith, refl)
+kind_in c Shared p = (1, omega arith, refl)
+kind_in c InLine p = (2, omega arith, refl)
+kind_in c (Asleep d) p =
+    let r = asleep_in c d p in (suc (suc (suc r.0)), (let l = r.1 in omega (arith, l)), r.2)
 
-in_seat : (i c : ℕ) (t : Track) → Contains (tracks_of_seat c i) t → (t.seat ≡ i) × IsKind c t.kind
-in_seat i c t x =
-    ⊎_elim (λ q. same Exclusive q tt)
-    (λ x. ⊎_elim (λ q. same Shared q tt)
-    (λ x. ⊎_elim (λ q. same InLine q tt) (λ x. in_asleep i c t x)
-    (cons_cases (track i InLine) t (asleep_tracks i c) x))
-    (cons_cases (track i Shared) t (track i InLine ∷ asleep_tracks i c) x))
-    (cons_cases (track i Exclusive) t (track i Shared ∷ track i InLine ∷ asleep_tracks i c) x)
+in_kinds : (c : ℕ) (kind : Kind) → Contains (kinds c) kind → IsKind c kind
+in_kinds c kind x = by x.0 x.1 x.2
   where
-    same : (kind : Kind) → track i kind ≡ t → IsKind c kind → (t.seat ≡ i) × IsKind c t.kind
-    same kind q p = (ap (λ (y : Track). y.seat) (sym q), subst (λ (y : Track). IsKind c y.kind) q p)
+    by : (k : ℕ) → k < length (kinds c) → get_or (kinds c) k kind ≡ kind → IsKind c kind
+    by zero l q = subst (IsKind c) q tt
+    by (suc zero) l q = subst (IsKind c) q tt
+    by (suc (suc zero)) l q = subst (IsKind c) q tt
+    by (suc (suc (suc k))) l q = in_asleep c kind (k, omega (arith, l), q)
+
+abbrev IsTrack : ℕ → ℕ → Track → Type 0
+IsTrack seats conditions t = (t.seat < seats) × IsKind conditions t.kind
 
 below_in : (c n i : ℕ) (kind : Kind) → i < n → IsKind c kind → Contains (tracks_below c n) (track i kind)
 below_in c zero i kind l p = absurd (omega (arith, l))
 below_in c (suc n) i kind l p =
     ⊎_elim
     (λ q. Contains-append_right (tracks_below c n) (tracks_of_seat c n) (track i kind)
-    (subst (λ j. Contains (tracks_of_seat c j) (track i kind)) (sym q) (seat_in i c kind p)))
+    (subst (λ j. Contains (tracks_of_seat c j) (track i kind)) (sym q)
+    (in_map (track i) (kinds c) kind (kind_in c kind p))))
     (λ ne. Contains-append_left (tracks_below c n) (tracks_of_seat c n) (track i kind)
     (below_in c n i kind (omega (arith, l, ne)) p))
     (cases_eq n i)
@@ -120,7 +124,9 @@ in_below : (c n : ℕ) (t : Track) → Contains (tracks_below c n) t → IsTrack
 in_below c zero t x = absurd (nothing_in t x)
 in_below c (suc n) t x =
     ⊎_elim (λ old. let r = in_below c n t old in ((let l = r.0 in omega (arith, l)), r.1))
-    (λ new. let r = in_seat n c t new in ((let q = r.0 in omega (arith, q)), r.1))
+    (λ new. let r = map_in (track n) (kinds c) t new in
+    let seat : n ≡ t.seat = ap (λ (y : Track). y.seat) r.2 in
+    (omega (arith, seat), subst (IsKind c) (ap (λ (y : Track). y.kind) r.2) (in_kinds c r.0 r.1)))
     (Contains-append_cases (tracks_below c n) (tracks_of_seat c n) t x)
 
 -- what an entry more leaves of the levels behind those before it
@@ -134,18 +140,6 @@ behind_last : (s : Start) (h : List Entry) (i : ℕ) (kind : Kind) (n : ℕ) →
     level_behind s h i kind n ≡ level s h i kind
 behind_last s h i kind n q =
     let none : length h - (n + 1) ≡ 0 = omega (arith, q) in ap (λ m. level s (drop m h) i kind) none
-
--- A bar, but for what stands behind it.
-record IsRun (s : Start) (from : ℕ) (h : List Entry) (b : Bar) : Type 0 where
-  seat : b.seat < s.header.seats
-  kind : IsKind s.header.conditions b.kind
-  some : 0 < b.holds
-  begins_within : from ≤ b.first
-  order : b.first ≤ b.last
-  ends_within : b.last < length h
-  throughout : (number : ℕ) → b.first ≤ number → number ≤ b.last →
-      level_behind s h b.seat b.kind number ≡ b.holds
-  before : (b.first ≡ from) ⊎ (level_behind s h b.seat b.kind (b.first - 1) ≢ b.holds)
 
 run_later : (s : Start) (from : ℕ) (e : Entry) (h : List Entry) (b : Bar) → IsRun s from h b →
     IsRun s from (e ∷ h) b
@@ -404,30 +398,14 @@ pub bars_exact : (s : Start) (from : ℕ) (h : List Entry) (b : Bar) →
     Contains (bars s from h) b ↔ IsBar s from h b
 bars_exact s from h b = (to, back)
   where
-    whole : IsRun s from h b
-        → (b.last + 1 ≡ length h) ⊎ (level_behind s h b.seat b.kind (b.last + 1) ≢ b.holds)
-        → IsBar s from h b
-    whole r behind =
-        record {
-          seat = r.seat;
-          kind = r.kind;
-          some = r.some;
-          begins_within = r.begins_within;
-          order = r.order;
-          ends_within = r.ends_within;
-          throughout = r.throughout;
-          before = r.before;
-          behind = behind;
-        }
-
     to : Contains (bars s from h) b → IsBar s from h b
-    to c = ⊎_elim (λ old. let r = ended_run s from h b old in whole r.run (inr r.behind))
+    to c = ⊎_elim (λ old. let r = ended_run s from h b old in record { run = r.run; behind = inr r.behind })
         (λ new. let x = flat_in (bar_at s from h) (tracks s.header) b new in
         let r = in_bar_at s from h x.0 b x.2 in
         let is = in_below s.header.conditions s.header.seats x.0 x.1 in
         let run = subst (IsRun s from h) r.0 (reaching_run s from h x.0 is r.1 r.2) in
         let last : length h - 1 ≡ b.last = ap (λ (y : Bar). y.last) r.0 in
-        whole run (inl (let l = r.2 in omega (arith, l, last))))
+        record { run = run; behind = inl (let l = r.2 in omega (arith, l, last)) })
         (Contains-append_cases (ended s from h) (flat_map (bar_at s from h) (tracks s.header)) b c)
 
     reaches : IsRun s from h b → b.last + 1 ≡ length h → Contains (bars s from h) b
@@ -438,20 +416,10 @@ bars_exact s from h b = (to, back)
 
     back : IsBar s from h b → Contains (bars s from h) b
     back r =
-        let run : IsRun s from h b = record {
-          seat = r.seat;
-          kind = r.kind;
-          some = r.some;
-          begins_within = r.begins_within;
-          order = r.order;
-          ends_within = r.ends_within;
-          throughout = r.throughout;
-          before = r.before;
-        } in
-        ⊎_elim (λ last. reaches run last)
+        ⊎_elim (λ last. reaches r.run last)
         (λ ne. ⊎_elim
         (λ more. Contains-append_left (ended s from h) (flat_map (bar_at s from h) (tracks s.header)) b
-        (run_ended s from h b (record { run = run; more = more; behind = ne })))
-        (λ less. reaches run (omega (arith, less, r.ends_within)))
+        (run_ended s from h b (record { run = r.run; more = more; behind = ne })))
+        (λ less. reaches r.run (omega (arith, less, r.run.ends_within)))
         (cases_lt (b.last + 1) (length h)))
         r.behind

@@ -1,13 +1,7 @@
-mod Walks
-mod TablesFollow
-mod StandingOnBase
+mod Asking
+mod LevelsKept
 mod StretchesFollow
+mod Walks
 mod MarksFollow
-mod AskersFollow
-mod TracksSeated
-mod TrackPlaces
-mod Unmoved
-mod PlacesFollow
 mod BarsExact
 mod Examples
-pub mod Begins

@@ -21,9 +21,9 @@ IsKind conditions Shared = Unit {0}
 IsKind conditions InLine = Unit {0}
 IsKind conditions (Asleep c) = c < conditions
 
--- A bar of the entries from a number on: a longest stretch of entries after each of which the seat has the
--- bar's level, which is at least 1.
-pub record IsBar (s : Start) (from : ℕ) (h : List Entry) (b : Bar) : Type 0 where
+-- A stretch of entries from a number on, after each of which the seat has the bar's level, at least 1. The seat
+-- has another level before it, or it begins where drawing does.
+pub record IsRun (s : Start) (from : ℕ) (h : List Entry) (b : Bar) : Type 0 where
   pub seat : b.seat < s.header.seats
   pub kind : IsKind s.header.conditions b.kind
   pub some : 0 < b.holds
@@ -33,4 +33,8 @@ pub record IsBar (s : Start) (from : ℕ) (h : List Entry) (b : Bar) : Type 0 wh
   pub throughout : (number : ℕ) → b.first ≤ number → number ≤ b.last →
       level_behind s h b.seat b.kind number ≡ b.holds
   pub before : (b.first ≡ from) ⊎ (level_behind s h b.seat b.kind (b.first - 1) ≢ b.holds)
+
+-- A bar: a longest such stretch.
+pub record IsBar (s : Start) (from : ℕ) (h : List Entry) (b : Bar) : Type 0 where
+  pub run : IsRun s from h b
   pub behind : (b.last + 1 ≡ length h) ⊎ (level_behind s h b.seat b.kind (b.last + 1) ≢ b.holds)

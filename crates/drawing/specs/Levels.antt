@@ -1,5 +1,5 @@
 -- The state of a seat after a history, as a number for each kind of bar.
-use Rattle.std.specs.Prelude.{ℕ, zero, suc, Bool, if◌then◌else◌, List, [], ◌∷◌, ◌++◌}
+use Rattle.std.specs.Prelude.{ℕ, zero, suc, Bool, if◌then◌else◌, List, [], ◌∷◌, ◌++◌, map}
 use Rattle.drawing.specs.Below.{Entry, X, S, Header, held, line, place_of, is_placed, sleepers, has, Start}
 use Rattle.drawing.specs.declared.kind.Kind.{Kind}
 use Rattle.drawing.specs.declared.kind.Kind.TheVariants.{Exclusive, Shared, InLine, Asleep}
@@ -27,13 +27,15 @@ abbrev pub level_of : Start → List Entry → Track → ℕ
 level_of s h t = level s h t.seat t.kind
 
 -- the kinds of the first n conditions
-abbrev pub asleep_tracks : ℕ → ℕ → List Track
-asleep_tracks i zero = []
-asleep_tracks i (suc c) = asleep_tracks i c ++ track i (Asleep c) ∷ []
+abbrev pub asleep_kinds : ℕ → List Kind
+asleep_kinds zero = []
+asleep_kinds (suc c) = asleep_kinds c ++ Asleep c ∷ []
+
+abbrev pub kinds : ℕ → List Kind
+kinds conditions = Exclusive ∷ Shared ∷ InLine ∷ asleep_kinds conditions
 
 abbrev pub tracks_of_seat : ℕ → ℕ → List Track
-tracks_of_seat conditions i =
-    track i Exclusive ∷ track i Shared ∷ track i InLine ∷ asleep_tracks i conditions
+tracks_of_seat conditions i = map (track i) (kinds conditions)
 
 abbrev pub tracks_below : ℕ → ℕ → List Track
 tracks_below conditions zero = []

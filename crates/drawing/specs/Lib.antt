@@ -3,10 +3,8 @@ pub mod Below
 pub mod Levels
 pub mod IsBar
 pub mod Bars
-pub mod Standings
 pub mod Stretches
 pub mod Barging
-pub mod Askers
 pub mod Marks
 pub mod Curve
 pub mod Drawing

@@ -1,8 +1,8 @@
--- The stretches that a drawing keeps, one for each track, and how an entry changes them.
-use Rattle.std.specs.Prelude.{ℕ, ◌-◌, nat_lt, if◌then◌else◌, List, length, map}
+-- The stretches that a drawing keeps, one for each track.
+use Rattle.std.specs.Prelude.{◌≡◌, ◌<◌, ℕ, ◌-◌, nat_lt, if◌then◌else◌, List, [], length, map, slice_index_or}
 use Rattle.drawing.specs.Below.{Entry, Start}
 use Rattle.drawing.specs.declared.bar.Stretch.{Stretch}
-use Rattle.drawing.specs.Levels.{Track, level_of, tracks}
+use Rattle.drawing.specs.Levels.{Track, level_of, tracks_of_seat}
 use Rattle.drawing.specs.Bars.{lasting}
 
 -- a stretch begins with no holds at the first entry that is drawn
@@ -21,5 +21,11 @@ stretch s from h t =
     }
     else fresh from t
 
-abbrev pub stretches : Start → ℕ → List Entry → List Stretch
-stretches s from h = map (stretch s from h) (tracks s.header)
+-- the stretches of a seat
+abbrev pub stretches : Start → ℕ → List Entry → ℕ → List Stretch
+stretches s from h i = map (stretch s from h) (tracks_of_seat s.header.conditions i)
+
+-- these are the stretches of all seats
+pub record AreStretches (s : Start) (from : ℕ) (h : List Entry) (found : List (List Stretch)) : Type 0 where
+  pub seats : length found ≡ s.header.seats
+  pub each : (i : ℕ) → i < s.header.seats → slice_index_or found i [] ≡ stretches s from h i

@@ -1,5 +1,3 @@
 -- What only contracts of private functions cite: no promise of the crate rests on it.
-pub mod Tables
 pub mod Stretches
-pub mod Places
-pub mod Askers
+pub mod Barging

@@ -1,31 +1,27 @@
 //! The number whose curve is drawn.
 
 ghost use Rattle.std.specs.Prelude.{◌≡◌, ◌++◌, List, OnOk};
+ghost use Rattle.audit.specs.Ledger.{LedgerStand};
+ghost use Rattle.deciding.specs.ObjectState.{HasHistory};
 ghost use Rattle.history.specs.Start.{Start};
 ghost use Rattle.history.specs.declared.entry.Entry.{Entry};
-ghost use Rattle.deciding.specs.Amounts.{AreAmounts};
 ghost use Rattle.drawing.specs.Curve.{amount_of, point};
 
-use deciding::amounts::Amounts;
+use audit::ledger::Ledger;
+use deciding::situation::ObjectState;
 use history::header::Object;
 use std::alloc::AllocError;
 
 /// Adds the number whose curve is drawn, if the object has one.
-pub(crate) fn put_point(
-    amounts: &Amounts,
-    object: Object,
-    curve: &mut Vec<i128>,
-) -> Result<(), AllocError>
-    ensures { OnOk result ((s : Start) (h : List Entry) → AreAmounts s h amounts.now →
-        s.header.object ≡ object → curve.new.items ≡ curve.old.items ++ point (amount_of object s h)) }
+pub(crate) fn put_point(ledger: &Ledger, curve: &mut Vec<i128>) -> Result<(), AllocError>
+    requires { HasHistory LedgerStand ledger.now }
+    ensures { OnOk result ((s : Start) (h : List Entry) → LedgerStand s h ledger.now →
+        curve.new.items ≡ curve.old.items ++ point (amount_of s.header.object s h)) }
 {
-    match object {
+    match ledger.header().object {
         Object::Lock(_) | Object::ReadWrite(_) => {}
-        Object::Semaphore(_, _permits) => curve.push(amounts.free)?,
-        Object::Latch(count) => {
-            let left = u64::from(count).saturating_sub(amounts.counted);
-            curve.push(i128::from(left))?;
-        }
+        Object::Semaphore(_, _) => curve.push(i128::from(ledger.free()))?,
+        Object::Latch(_) => curve.push(i128::from(ledger.latch_count()))?,
     }
     Ok(())
 }

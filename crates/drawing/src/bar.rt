@@ -1,6 +1,6 @@
 //! Bars, and the stretches that become bars.
 
-ghost use Rattle.std.specs.Prelude.{◌≡◌, ◌<◌, ◌++◌, OnOk};
+ghost use Rattle.std.specs.Prelude.{◌≡◌, ◌++◌, OnOk};
 ghost use Rattle.drawing.specs.inner.Stretches.{bar_of};
 
 use crate::kind::Kind;
@@ -30,7 +30,6 @@ pub(crate) struct Stretch {
 
 /// Adds the bar of a stretch that ends before the entry of a number, if the stretch has holds.
 pub(crate) fn put_bar(bars: &mut Vec<Bar>, stretch: Stretch, number: u64) -> Result<(), AllocError>
-    requires { 0 < stretch.holds → 0 < number }
     ensures { OnOk result (bars.new.items ≡ bars.old.items ++ bar_of number stretch) }
 {
     if stretch.holds > 0 {
@@ -38,7 +37,7 @@ pub(crate) fn put_bar(bars: &mut Vec<Bar>, stretch: Stretch, number: u64) -> Res
             seat: stretch.seat,
             kind: stretch.kind,
             first: stretch.first,
-            last: number - 1,
+            last: number.saturating_sub(1),
             holds: stretch.holds,
         })?;
     }

@@ -1,46 +1,66 @@
 //! Which acquires pass a waiter.
 
-ghost use Rattle.std.specs.Prelude.{◌≡◌, ◌<◌, List};
+ghost use Rattle.std.specs.Prelude.{◌≡◌, ◌<◌, ◌^◌, ◌∷◌, List, is_some};
+ghost use Rattle.audit.specs.Ledger.{LedgerStand};
 ghost use Rattle.history.specs.Start.{Start};
 ghost use Rattle.history.specs.declared.entry.Entry.{Entry};
-ghost use Rattle.drawing.specs.Askers.{AreAsking};
-ghost use Rattle.drawing.specs.Barging.{barges};
-ghost use Rattle.drawing.specs.Standings.{AreStanding};
-ghost use Rattle.summing.specs.Passing.{takes_again, takes_anew};
+ghost use Rattle.drawing.specs.Barging.{askers, barges};
+ghost use Rattle.drawing.specs.inner.Barging.{IsCounted, others};
+ghost use Rattle.summing.specs.Waits.{begun};
 
-use crate::askers::Askers;
-use crate::standings::Standings;
-use deciding::checks::is_lock;
-use history::entry::{Entry, Mode};
-use history::header::Object;
-use summing::words::is_take;
+use audit::ledger::Ledger;
+use deciding::situation::ObjectState;
+use history::entry::Entry;
+use summing::passing::takes_anew;
+use summing::words::is_queued;
 
-/// Returns whether an entry acquires at once while another seat waits in the queue for a first acquire. The state is
-/// the one before the entry. A lock that is acquired again passes nobody.
-pub(crate) fn barges(askers: &Askers, standings: &Standings, object: Object, entry: Entry) -> bool
-    requires { (s : Start) × (h : List Entry) × AreStanding s h standings.now × AreAsking s h askers.now
-        × (entry.seat < s.header.seats) }
-    ensures { (s : Start) (h : List Entry) → AreStanding s h standings.now → AreAsking s h askers.now →
-        s.header.object ≡ object → entry.seat < s.header.seats → result ≡ barges s entry h }
+/// Returns whether a seat waits in the queue for a first acquire. One that comes back from a condition
+/// doesn't.
+fn asks(ledger: &Ledger, seat: u16) -> bool
+    ensures { (s : Start) (h : List Entry) → LedgerStand s h ledger.now → result ≡ is_some (begun s h seat) }
 {
-    takes_anew(standings, object, entry) && askers.others(entry.seat) > 0
+    match ledger.place_of(seat) {
+        Some(arrival) => !arrival.back,
+        None => false,
+    }
 }
 
-/// Returns whether an entry acquires at once, and not again.
-fn takes_anew(standings: &Standings, object: Object, entry: Entry) -> bool
-    requires { (s : Start) × (h : List Entry) × AreStanding s h standings.now × (entry.seat < s.header.seats) }
-    ensures { (s : Start) (h : List Entry) → AreStanding s h standings.now → s.header.object ≡ object →
-        result ≡ takes_anew s entry h }
+/// Returns how many seats wait so.
+pub(crate) fn askers(ledger: &Ledger) -> u64
+    ensures { (s : Start) (h : List Entry) → LedgerStand s h ledger.now → result ≡ askers s h s.header.seats }
 {
-    is_take(entry.word) && !takes_again(standings, object, entry)
+    let mut count = 0;
+    for seat in 0..ledger.header().seats {
+        count += u64::from(asks(ledger, seat));
+    }
+    count
 }
 
-/// Returns whether the seat of an acquire holds the lock already.
-fn takes_again(standings: &Standings, object: Object, entry: Entry) -> bool
-    requires { (s : Start) × (h : List Entry) × AreStanding s h standings.now × (entry.seat < s.header.seats) }
-    ensures { (s : Start) (h : List Entry) → AreStanding s h standings.now → s.header.object ≡ object →
-        result ≡ takes_again s entry h }
+/// Returns how many wait so beside one seat, if `count` do in all.
+fn askers_beside(ledger: &Ledger, count: u64, seat: u16) -> u64
+    requires { IsCounted ledger.now count seat }
+    ensures is { (s : Start) (h : List Entry) → LedgerStand s h ledger.now →
+        count ≡ askers s h s.header.seats → seat < s.header.seats → result ≡ others s h seat s.header.seats }
+    ensures few { result < 2 ^ 63 }
 {
-    is_lock(object)
-        && (standings.held(entry.seat, Mode::X) > 0 || standings.held(entry.seat, entry.mode) > 0)
+    count - u64::from(asks(ledger, seat))
+}
+
+/// Returns how many wait so after an entry, if `count` do before it. The ledger is the one before it.
+pub(crate) fn askers_after(ledger: &Ledger, count: u64, entry: Entry) -> u64
+    requires { IsCounted ledger.now count entry.seat }
+    ensures { (s : Start) (h : List Entry) → LedgerStand s h ledger.now → count ≡ askers s h s.header.seats →
+        entry.seat < s.header.seats → result ≡ askers s (entry ∷ h) s.header.seats }
+{
+    askers_beside(ledger, count, entry.seat) + u64::from(is_queued(entry.word))
+}
+
+/// Returns whether an entry acquires at once while another seat waits so. The ledger is the one before it. A
+/// lock that is acquired again passes nobody.
+pub(crate) fn barges(ledger: &Ledger, count: u64, entry: Entry) -> bool
+    requires { IsCounted ledger.now count entry.seat }
+    ensures { (s : Start) (h : List Entry) → LedgerStand s h ledger.now → count ≡ askers s h s.header.seats →
+        entry.seat < s.header.seats → result ≡ barges s entry h }
+{
+    takes_anew(ledger, entry) && askers_beside(ledger, count, entry.seat) > 0
 }

@@ -1,4 +1,5 @@
-//! Marks of entries that end a wait or pass one, and of entries that change no holds, or not those of their seat alone.
+//! Marks of entries that end a wait or pass one, and of entries that change no holds, or not those of their seat
+//! alone.
 
 ghost use Rattle.std.specs.Prelude.{◌≡◌, ◌++◌, OnOk};
 ghost use Rattle.drawing.specs.Marks.{given_up, mark_of, sign_at, sign_of};

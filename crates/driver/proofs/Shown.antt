@@ -158,15 +158,6 @@ module _ (telling : Telling) (h : List Entry) (j : Judged) (k : IsJudged telling
           legal = taken_legal (based j.base) n shown legal;
         })
 
-pub in_seats : (j : Judged) (v : Verdict) (xs kept : List Entry) (n : ℕ) (ys : List Entry) →
-    kept ≡ j.entries.items → xs ≡ legal_front v kept → ys ≡ take n xs →
-    All (λ e. e.seat < j.base.header.seats) j.entries.items → All (λ e. e.seat < j.base.header.seats) ys
-in_seats j v xs kept n ys same is taken all =
-    let P : Entry → Type 0 = λ e. e.seat < j.base.header.seats in
-    subst (All P) (sym taken)
-    (All-take P n xs (subst (All P) (sym (is ∙ ap (legal_front v) same))
-    (shown_seated v j.base.header.seats j.entries.items all)))
-
 pub turned : (xs : List Entry) → length xs < 2 ^ 32 → length (reverse xs) < 2 ^ 32
 turned xs few = omega (arith, few, length-reverse xs)
 

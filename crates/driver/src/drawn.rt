@@ -55,7 +55,7 @@ pub(crate) fn picture_of(
     let legal = legal_front(&judged.entries, verdict);
     let shown = front(legal, end);
     let from = choice.first(folded);
-    let drawn = drawn_of(alloc, header, Some(&judged.base), from, shown)?;
+    let drawn = drawn_of(alloc, &judged.base, from, shown)?;
     let entries = folded + judged.count;
     Ok(Picture {
         header,

@@ -27,8 +27,8 @@ const THREADS: u16 = 4;
 /// How often the threads count together, if the command line names no number.
 const TIMES: u32 = 20_000;
 
-/// The most entries of the history.
-const CAP: u32 = 1000;
+/// The most entries of the history: so few that the threads often fold it.
+const CAP: u32 = 16;
 
 /// Each worker counts in a thread of its own.
 fn count_in_threads<S: Sum + Send + Sync, R: Threads + Wait + Clock + Sync>(

@@ -1,11 +1,11 @@
 -- What the calls of readers leave of a pass's holds.
-use Rattle.std.proofs.Common.{◌≡◌, ℕ, ◌<◌, true, Option, Some, Result, sym, ap, ◌∙◌, subst, arith}
+use Rattle.std.proofs.Common.{◌≡◌, ℕ, ◌<◌, true, Option, Some, Result, Err, sym, ap, ◌∙◌, subst, arith}
 use Rattle.std.specs.Option.{IfSome}
 use Rattle.guarded.specs.Below.{Entry, Mode, X, S, Fault, counts, held, is_lock, opening, Deed, start_at, holds_of, IsLook, Shown, IsSound, IsSame, WhenFull, holds, whether_of}
 use Rattle.history.proofs.GoodFolds.{owned_behind}
 use Rattle.monitor.proofs.Loads.{true_holds}
 use Rattle.monitor_fronts.proofs.Counting.{of_lock}
-use Rattle.monitor_fronts.proofs.Exactly.{acquire_gains, try_gains}
+use Rattle.monitor_fronts.proofs.Exactly.{acquire_gains, still, try_gains}
 use Rattle.monitor_fronts.proofs.MakingRoom.{in_room}
 use Rattle.guarded.specs.declared.asking.Reading.{Reading}
 use Rattle.guarded.specs.declared.asking.Reading.TheVariants as asks
@@ -47,19 +47,24 @@ saw_there {T} {I} {A} inv returns p load slot seen answer lies at sees is =
     let x = subst (λ (z : Slot T I). Lies inv z (counts (start_at p.seen) p.seen.entries)) same lies in
     (there.0, x.0, x.1, there.2)
 
+-- a call that failed and recorded nothing adds none
+still_reads : (old new : Shown) (f : Fault) → IsSame old new → new.mine ≡ old.mine → GainsReads old (Err f) new
+still_reads old new f same mine =
+    let adds = still old new S f same mine in record { reads = adds.own; writes = adds.others }
+
 -- a call of a reader adds the read holds that it returns
 pub reading_gains : (did : Deed → Type 0) (w : WhenFull) (a : Reading) (old new : Shown) (r : Result Entry Fault) →
     is_lock old.lock.header.object ≡ true → IsSame old new → reading_of did a w old r new →
     GainsReads old (whether_of r) new
 reading_gains did w (asks.Acquire how) old new r lock same made =
-    in_room (λ (from : Shown). λ (s : Result Entry Fault). GainsReads from (whether_of s) new) w _ _ old new r same
+    in_room (λ (from : Shown). λ (s : Result Entry Fault). GainsReads from (whether_of s) new) w _ old new r same
     (λ p. λ b. λ x. record { reads = x.reads; writes = x.writes })
-    (λ x. record { reads = x.reads; writes = x.writes })
+    (λ f. λ mine. λ b. still_reads old new f same mine)
     (λ from. λ s. λ of. λ at. λ one. let adds = acquire_gains did from new S how s (of_lock of lock) at one in
     record { reads = adds.own; writes = adds.others }) made
 reading_gains did w (asks.Try) old new r lock same made =
-    in_room (λ (from : Shown). λ (s : Result Entry Fault). GainsReads from (whether_of s) new) w _ _ old new r same
+    in_room (λ (from : Shown). λ (s : Result Entry Fault). GainsReads from (whether_of s) new) w _ old new r same
     (λ p. λ b. λ x. record { reads = x.reads; writes = x.writes })
-    (λ x. record { reads = x.reads; writes = x.writes })
+    (λ f. λ mine. λ b. still_reads old new f same mine)
     (λ from. λ s. λ of. λ at. λ one. let adds = try_gains did from new S s (of_lock of lock) at one in
     record { reads = adds.own; writes = adds.others }) made

@@ -1,6 +1,6 @@
 -- What the calls of a lock ask of its monitor, and what they return.
 use Rattle.std.specs.Prelude.{◌≡◌, ℕ, Bool, true, false, Option, Some, None, Result, Ok, Err}
-use Rattle.guarded.specs.Below.{Entry, X, Fault, Step, Try, Signal, SignalAll, IsCallIn, IsEnteredIn, Shown, IsEntered, How, Acquire, AwaitOn, WhenFull, done_of, whether_of, Deed}
+use Rattle.guarded.specs.Below.{Entry, X, Fault, Step, Try, IsCallIn, IsEnteredIn, signal_step, Shown, IsEntered, How, Acquire, AwaitOn, WhenFull, done_of, whether_of, Deed}
 use Rattle.guarded.specs.Full.{Call}
 
 -- the calls of the monitor
@@ -14,10 +14,6 @@ abbrev pub awaits : (Deed → Type 0) → ℕ → How → Call
 awaits did condition how w old reply new = IsCallIn w did old (AwaitOn condition) how reply new
 
 -- to one sleeper, or to all
-abbrev pub signal_step : Bool → ℕ → Step
-signal_step true condition = SignalAll condition
-signal_step false condition = Signal condition
-
 abbrev pub signals : (Deed → Type 0) → Bool → ℕ → Call
 signals did all condition w old reply new = IsEnteredIn w did old (signal_step all condition) reply new
 

@@ -22,18 +22,18 @@ pub use Rattle.history.specs.Start.{Start, opening}
 pub use Rattle.monitor.specs.declared.how.How.{How}
 pub use Rattle.monitor.specs.declared.how.How.TheVariants.{Interruptible, Timed}
 pub use Rattle.monitor.specs.declared.machine.Request.TheVariants.{Acquire, AwaitOn}
-pub use Rattle.monitor.specs.declared.room.WhenFull.{WhenFull}
 pub use Rattle.monitor.specs.Acquire.{is_timed, moment_after}
 pub use Rattle.monitor.specs.Calling.{CanCall, Called}
 pub use Rattle.monitor.specs.Lawful.{start_at, blank}
 pub use Rattle.monitor.specs.Load.{holds_of, free_of, opened_counts, given_by, LetsGo, IsTurn, IsFree, Moves}
 pub use Rattle.monitor.specs.Observing.{IsLook}
-pub use Rattle.monitor.specs.Room.{IsEnteredIn, IsCallIn}
 pub use Rattle.monitor.specs.Shown.{Shown, IsSound}
 pub use Rattle.monitor.specs.Stepping.{IsSame, IsEntered}
+pub use Rattle.monitor_fronts.specs.declared.room.WhenFull.{WhenFull}
 pub use Rattle.monitor_fronts.specs.FrontCalls.{AreLeft}
 pub use Rattle.monitor_fronts.specs.Holding.{holds, gained, with_yes, Takes}
 pub use Rattle.monitor_fronts.specs.Permits.{if_ok, DrainsFree}
+pub use Rattle.monitor_fronts.specs.Room.{IsEnteredIn, IsCallIn, signal_step}
 pub use Rattle.monitor_fronts.specs.Returned.{whether_of, is_done, done_of, number_of}
 pub use Rattle.permit.specs.Deed.{Deed, showed}
 pub use Rattle.word_lock.specs.Ticket.{LockId}

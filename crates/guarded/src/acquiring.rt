@@ -16,7 +16,7 @@ use crate::shelf::Shelf;
 use history::fault::Fault;
 use history::step::Step;
 use monitor::{How, Pass};
-use monitor_fronts::{milliseconds_left, number, whether};
+use monitor_fronts::{enter_in_room, milliseconds_left, number, whether};
 use permit::Parking;
 use std::alloc::Global;
 use std::collections::LinkedList;
@@ -149,9 +149,15 @@ impl<T: Drop, I: Keeps<T>> Pool<T, I> {
             items: LinkedList::new(self.alloc),
             keeps: PhantomData,
         };
-        let reply = self
-            .monitor
-            .enter(rt, parking, pass, &mut shelf, Step::Drain, self.when_full);
+        let reply = enter_in_room(
+            &self.monitor,
+            rt,
+            parking,
+            pass,
+            &mut shelf,
+            Step::Drain,
+            self.when_full,
+        );
         match number(reply) {
             Ok(_) => {
                 let Shelf { items, keeps: _ } = shelf;

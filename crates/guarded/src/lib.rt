@@ -1,20 +1,20 @@
-//! Locks and pools that own data. The thread that holds the lock has the value. The thread that acquired items
-//! has them. No other thread has either.
+//! Locks and pools that own data. The thread that holds the lock has the value. The thread that acquired
+//! items has them. No other thread has either.
 //!
-//! A [`Mutex`] is a reentrant lock with conditions, over a monitor with a load ([`Slot`]). While no thread holds
-//! the lock, the value is in the monitor. While a thread holds it, that thread has the value. The value moves in
-//! the turn of the lock that records the first hold or releases the last one. So it is always in exactly one
-//! place.
+//! A [`Mutex`] is a reentrant lock with conditions, over a monitor with a load ([`Slot`]). While no thread
+//! holds the lock, the value is in the monitor. While a thread holds it, that thread has the value. The
+//! value moves in the turn of the lock that records the first hold or releases the last one. So it is
+//! always in exactly one place.
 //!
 //! An [`RwMutex`] is a read-write lock of the same kind. A writer has the value. While no thread writes, the
 //! value is in the lock, which shows it to one reader at a time.
 //!
-//! A [`Pool`] is a semaphore with an item for each permit ([`Shelf`]). It has as many items as permits are free.
-//! An acquire returns items, which move in the turn that takes the permits. A release puts items back. The thread
-//! that acquired an item owns it, and may give it to another thread.
+//! A [`Pool`] is a semaphore with an item for each permit ([`Shelf`]). It has as many items as permits are
+//! free. An acquire returns items, which move in the turn that takes the permits. A release puts items
+//! back. The thread that acquired an item owns it, and may give it to another thread.
 //!
-//! A [`Guard`] has the value from `lock` until the end of its scope, where it unlocks. It borrows its pass, so
-//! a pass that holds the lock makes no other call.
+//! A [`Guard`] has the value from `lock` until the end of its scope, where it unlocks. It borrows its pass,
+//! so a pass that holds the lock makes no other call.
 //!
 //! ## Invariants
 //!
@@ -32,16 +32,13 @@
 //!
 //! ## A full history
 //!
-//! Each call records its steps in the history of the lock or pool, which has room for `cap` entries, owed ones
-//! included. [`WhenFull`] says what a call does if its first step finds no room:
+//! Each call records its steps in the history of the lock or pool, which has room for `cap` entries, owed
+//! ones included. [`WhenFull`] says what a call does if its first step finds no room:
 //!
 //! - [`WhenFull::Refuse`]: it returns `HistoryFull`. Nothing is recorded.
-//! - [`WhenFull::Trim`]: it folds all entries and makes the step from there, in the same turn of the lock. It
-//!   returns `HistoryFull` only if a history without entries has no room, and `TrimFull` only if more than
-//!   1000000000000000 entries would be folded.
-//!
-//! That `Refuse` folds nothing, that `Trim` folds only if there was no room, and that it folds and makes its
-//! step in one turn, is in the code and in no contract: the contracts would allow a fold in a turn before.
+//! - [`WhenFull::Trim`]: it folds all entries, and is made anew. With threads that fill the history meanwhile it
+//!   may do so more than once. It returns `HistoryFull` only if a history without entries has no room, and
+//!   `TrimFull` only if more than 1000000000000000 entries would be folded.
 //!
 //! An `unlock` always has room and memory: both were reserved when the hold was recorded. The same holds for
 //! `unread` and [`downgrade`](Guard::downgrade). A `release` of items may lack them, and then returns the
@@ -68,7 +65,7 @@ mod view;
 pub use guard::Guard;
 pub use items::ItemFault;
 pub use keeps::{Any, Keeps};
-pub use monitor::WhenFull;
+pub use monitor_fronts::WhenFull;
 pub use mutex::Mutex;
 pub use options::Options;
 pub use pool::Pool;

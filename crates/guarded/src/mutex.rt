@@ -18,7 +18,7 @@ ghost use Rattle.monitor.specs.Lawful.{blank};
 ghost use Rattle.monitor.specs.Load.{was_refused};
 ghost use Rattle.monitor.specs.Shown.{opening_passes};
 ghost use Rattle.monitor.specs.Stepping.{IsSame};
-ghost use Rattle.monitor.specs.declared.room.WhenFull.TheVariants.{Trim};
+ghost use Rattle.monitor_fronts.specs.declared.room.WhenFull.TheVariants.{Trim};
 ghost use Rattle.monitor_fronts.specs.Holding.{gained, holds};
 ghost use Rattle.guarded.specs.Asking.{IsRecorded, CallReturns, acquires, awaits};
 ghost use Rattle.guarded.specs.inner.Asking.{IsTake, LetsAllGo, call_of, gained_by};
@@ -37,8 +37,8 @@ use history::entry::{Entry, Mode};
 use history::fault::Fault;
 use history::header::Policy;
 use history::step::Step;
-use monitor::{CloseFault, Closed, How, Monitor, Pass, WhenFull};
-use monitor_fronts::whether;
+use monitor::{CloseFault, Closed, How, Monitor, Pass, Request};
+use monitor_fronts::{WhenFull, call_in_room, enter_in_room, whether};
 use permit::Parking;
 use reentrant::lock::LockHooks;
 use std::alloc::Global;
@@ -270,16 +270,34 @@ impl<T: Drop, I: Keeps<T>, H: Hooks + Drop> Mutex<T, I, H> {
         let when_full = self.when_full;
         match asked {
             Asked::Acquire(how) => {
-                self.monitor
-                    .acquire_with(rt, parking, pass, slot, Mode::X, 1, how, when_full)
+                let request = Request::Acquire(Mode::X, 1);
+                call_in_room(
+                    &self.monitor,
+                    rt,
+                    parking,
+                    pass,
+                    slot,
+                    request,
+                    how,
+                    when_full,
+                )
             }
             Asked::Try => {
                 let step = Step::Try(Mode::X, 1);
-                self.monitor.enter(rt, parking, pass, slot, step, when_full)
+                enter_in_room(&self.monitor, rt, parking, pass, slot, step, when_full)
             }
             Asked::Await(condition, how) => {
-                self.monitor
-                    .await_on_with(rt, parking, pass, slot, condition, how, when_full)
+                let request = Request::AwaitOn(condition);
+                call_in_room(
+                    &self.monitor,
+                    rt,
+                    parking,
+                    pass,
+                    slot,
+                    request,
+                    how,
+                    when_full,
+                )
             }
         }
     }
@@ -351,10 +369,7 @@ impl<T: Drop, I: Keeps<T>, H: Hooks + Drop> Mutex<T, I, H> {
     {
         pass.is_true();
         let step = Step::Give(Mode::X, 1);
-        match self
-            .monitor
-            .enter(rt, parking, pass, slot, step, WhenFull::Refuse)
-        {
+        match self.monitor.enter(rt, parking, pass, slot, step) {
             Ok(_) => {}
             Err(_) => unreachable!(),
         }

@@ -1,10 +1,10 @@
 //! What the opening of a lock or a pool may choose.
 ghost use Rattle.std.specs.Prelude.{◌≡◌};
 ghost use Rattle.history.specs.declared.header.Policy.TheVariants.{NonFair};
-ghost use Rattle.monitor.specs.declared.room.WhenFull.TheVariants.{Trim};
+ghost use Rattle.monitor_fronts.specs.declared.room.WhenFull.TheVariants.{Trim};
 
 use history::header::Policy;
-use monitor::WhenFull;
+use monitor_fronts::WhenFull;
 
 // How many conditions a lock has if no number is chosen.
 pub(crate) const CONDITIONS: u8 = 16;

@@ -14,7 +14,7 @@ ghost use Rattle.monitor.specs.Closing.{Closes, IsMissing};
 ghost use Rattle.monitor.specs.declared.closing.CloseFault.TheVariants.{MissingPass};
 ghost use Rattle.monitor.specs.Lawful.{blank};
 ghost use Rattle.monitor.specs.Shown.{opening_passes};
-ghost use Rattle.monitor.specs.declared.room.WhenFull.TheVariants.{Trim};
+ghost use Rattle.monitor_fronts.specs.declared.room.WhenFull.TheVariants.{Trim};
 ghost use Rattle.monitor_fronts.specs.Returned.{whether_of};
 ghost use Rattle.guarded.specs.Asking.{CallReturns, yes_if_some};
 ghost use Rattle.monitor_fronts.specs.Holding.{with_yes};
@@ -32,8 +32,8 @@ use history::entry::{Entry, Mode};
 use history::fault::Fault;
 use history::header::Policy;
 use history::step::Step;
-use monitor::{CloseFault, Closed, How, Monitor, Pass, WhenFull};
-use monitor_fronts::whether;
+use monitor::{CloseFault, Closed, How, Monitor, Pass, Request};
+use monitor_fronts::{WhenFull, call_in_room, enter_in_room, whether};
 use permit::Parking;
 use std::alloc::Global;
 use std::collections::LinkedList;
@@ -261,18 +261,25 @@ impl<T: Drop, I: Keeps<T>> Pool<T, I> {
         let when_full = self.when_full;
         match asked {
             PoolCall::Acquire(n, how) => {
-                self.monitor
-                    .acquire_with(rt, parking, pass, shelf, Mode::S, n, how, when_full)
+                let request = Request::Acquire(Mode::S, n);
+                call_in_room(
+                    &self.monitor,
+                    rt,
+                    parking,
+                    pass,
+                    shelf,
+                    request,
+                    how,
+                    when_full,
+                )
             }
             PoolCall::Try(n) => {
                 let step = Step::Try(Mode::S, n);
-                self.monitor
-                    .enter(rt, parking, pass, shelf, step, when_full)
+                enter_in_room(&self.monitor, rt, parking, pass, shelf, step, when_full)
             }
             PoolCall::Release(n) => {
                 let step = Step::Give(Mode::S, n);
-                self.monitor
-                    .enter(rt, parking, pass, shelf, step, when_full)
+                enter_in_room(&self.monitor, rt, parking, pass, shelf, step, when_full)
             }
         }
     }

@@ -24,8 +24,8 @@ use frame::hooks::Hooks;
 use history::entry::{Entry, Mode};
 use history::fault::Fault;
 use history::step::Step;
-use monitor::{How, Pass, WhenFull};
-use monitor_fronts::{done, whether};
+use monitor::{How, Pass, Request};
+use monitor_fronts::{call_in_room, done, enter_in_room, whether};
 use permit::Parking;
 use std::marker::PhantomData;
 use std::sync::Wait;
@@ -51,12 +51,21 @@ impl<T: Drop, I: Keeps<T>, H: Hooks + Drop> Mutex<T, I, H> {
         let when_full = self.when_full;
         match asked {
             Reading::Acquire(how) => {
-                self.monitor
-                    .acquire_with(rt, parking, pass, slot, Mode::S, 1, how, when_full)
+                let request = Request::Acquire(Mode::S, 1);
+                call_in_room(
+                    &self.monitor,
+                    rt,
+                    parking,
+                    pass,
+                    slot,
+                    request,
+                    how,
+                    when_full,
+                )
             }
             Reading::Try => {
                 let step = Step::Try(Mode::S, 1);
-                self.monitor.enter(rt, parking, pass, slot, step, when_full)
+                enter_in_room(&self.monitor, rt, parking, pass, slot, step, when_full)
             }
         }
     }
@@ -142,10 +151,7 @@ impl<T: Drop, I: Keeps<T>, H: Hooks + Drop> Mutex<T, I, H> {
     {
         let step = Step::Give(Mode::S, 1);
         let slot = &mut Slot::Empty;
-        done(
-            self.monitor
-                .enter(rt, parking, pass, slot, step, WhenFull::Refuse),
-        )
+        done(self.monitor.enter(rt, parking, pass, slot, step))
     }
 
     // Shows the value to a pass that reads and doesn't write.

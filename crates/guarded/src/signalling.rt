@@ -1,7 +1,7 @@
 //! Signals to threads that wait on a condition.
 //!
-//! A signal leaves the value with the owner, so it is made without the value. If the history is full, a lock that
-//! trims folds it and signals in one turn of the lock, as its other calls do.
+//! A signal leaves the value with the owner, so it is made without the value. If the history is full, a
+//! lock that trims folds it and makes the signal anew, as its other calls do.
 ghost use Rattle.std.specs.Prelude.{◌≡◌};
 ghost use Rattle.guarded.specs.Asking.{signals};
 ghost use Rattle.monitor.specs.Calling.{CanCall, Called};
@@ -13,6 +13,7 @@ use frame::hooks::Hooks;
 use history::entry::Entry;
 use history::fault::Fault;
 use monitor::Pass;
+use monitor_fronts::signal_in_room;
 use permit::Parking;
 use std::sync::Wait;
 use std::time::Clock;
@@ -34,12 +35,6 @@ impl<T: Drop, I: Keeps<T>, H: Hooks + Drop> Mutex<T, I, H> {
         ensures keeps { holds pass.new ≡ holds pass.old }
     {
         let when_full = self.when_full;
-        if all {
-            self.monitor
-                .signal_all_when_full(rt, parking, pass, condition, when_full)
-        } else {
-            self.monitor
-                .signal_when_full(rt, parking, pass, condition, when_full)
-        }
+        signal_in_room(&self.monitor, rt, parking, pass, condition, all, when_full)
     }
 }

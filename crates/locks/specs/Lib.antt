@@ -28,7 +28,6 @@ pub use Rattle.monitor.specs.Closing
 pub use Rattle.monitor.specs.Lawful
 pub use Rattle.monitor.specs.Load
 pub use Rattle.monitor.specs.Observing
-pub use Rattle.monitor.specs.Room
 pub use Rattle.monitor.specs.Settled
 pub use Rattle.monitor.specs.Shown
 pub use Rattle.monitor.specs.Stepping
@@ -38,6 +37,7 @@ pub use Rattle.monitor_fronts.specs.Holding
 pub use Rattle.monitor_fronts.specs.OwnEntry
 pub use Rattle.monitor_fronts.specs.Permits
 pub use Rattle.monitor_fronts.specs.Returned
+pub use Rattle.monitor_fronts.specs.Room
 pub use Rattle.permit.specs.Deed
 pub use Rattle.word_lock.specs.Point
 pub use Rattle.word_lock.specs.Ticket

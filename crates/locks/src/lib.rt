@@ -35,9 +35,8 @@
 //! overtake them. With `Strict`, which Java lacks, not even an untimed try overtakes.
 //!
 //! `WhenFull` chooses what a lock or a pool does when its history is full. `Refuse` is for a program that wants
-//! every entry: the call returns `HistoryFull`. `Trim` is for a program that goes on: the call folds the entries
-//! and is made from there, in one turn of the lock. The types without a value are made by `of`, and then they
-//! trim, or by `of_when_full`.
+//! every entry: the call returns `HistoryFull`. `Trim` is for a program that goes on: the entries are folded, and
+//! the call is made anew. The types without a value are made by `of`, and then they trim, or by `of_when_full`.
 //!
 //! ## What is promised
 //!
@@ -106,9 +105,9 @@ pub use guarded::{
 pub use history::entries::History;
 pub use history::fault::Fault;
 pub use history::header::{Header, Object, Policy};
-pub use monitor::{CloseFault, Closed, How, Monitor, Pass, WhenFull};
+pub use monitor::{CloseFault, Closed, How, Monitor, Pass};
 pub use monitor_fronts::{
-    Latch, ReadWriteLock, ReentrantLock, Semaphore, open_latch, open_lock, open_read_write_lock,
-    open_semaphore, three_passes, two_passes,
+    Latch, ReadWriteLock, ReentrantLock, Semaphore, WhenFull, open_latch, open_lock,
+    open_read_write_lock, open_semaphore, three_passes, two_passes,
 };
 pub use permit::{Parking, ThreadParking};

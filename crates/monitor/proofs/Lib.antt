@@ -13,8 +13,8 @@ pub mod Freeing
 pub mod Letting
 pub mod Loads
 pub mod TurnByTurn
-pub mod Rooms
-pub mod RoomTurns
+pub mod Around
+pub mod FirstTurns
 pub mod StillWaiting
 pub mod FastWay
 pub mod Refusals

@@ -42,6 +42,9 @@ module _ (t o n : Ticket) (p q : Point) (seat share : ℕ) (r : Result ℕ Fault
       section t o n p q seat s.taken s.given s.was.one s.was.seat_is s.begins s.entries
       (follows_trim seat p q s.beside s.beside_left r s.found s.trimmed).0
 
+  pub trim_seen : Trim → n.seen ≡ q
+  trim_seen s = (went s).seen
+
   mine : Trim → first_entries n.logs ≡ first_entries t.logs
   mine s = mine_stays t n p q seat (went s)
       (follows_trim seat p q s.beside s.beside_left r s.found s.trimmed).1

@@ -48,7 +48,6 @@ pub use Rattle.permit.specs.declared.parking.Woke.TheVariants.{Permit, Deadline,
 pub use Rattle.permit.specs.Deed.{Deed, showed, parked, unparked, interrupted, took_interrupt}
 pub use Rattle.word_lock.specs.declared.view.SeatLog.{SeatLog}
 pub use Rattle.word_lock.specs.Held.{held_ticket}
-pub use Rattle.word_lock.specs.Point.{fold_of}
 unfoldable pub use Rattle.word_lock.specs.Point.{header_of, Before, Agrees, added, Follows}
 pub use Rattle.word_lock.specs.Rule.{AllAgree, AreDistinct}
 pub use Rattle.word_lock.specs.Ticket.{LockId, Ticket, first_seat, first_entries, opening_ticket, opening_tickets, after_lock, after_unlock, after_meet}

@@ -7,8 +7,6 @@ pub use Rattle.monitor.specs.declared.machine.Request.{Request}
 pub use Rattle.monitor.specs.declared.machine.Request.TheVariants.{Acquire, AwaitOn}
 pub use Rattle.monitor.specs.declared.machine.Turn.{Turn}
 pub use Rattle.monitor.specs.declared.machine.Waiting.{Waiting}
-pub use Rattle.monitor.specs.declared.room.WhenFull.{WhenFull}
-pub use Rattle.monitor.specs.declared.room.WhenFull.TheVariants.{Refuse, Trim}
 pub use Rattle.monitor.specs.declared.step.Now.{Now}
 pub use Rattle.monitor.specs.declared.step.Now.TheVariants.{Done, Busy}
 pub use Rattle.monitor.specs.declared.waiting.Limits.{Limits}
@@ -21,7 +19,6 @@ pub use Rattle.monitor.specs.Lawful.{point_of, Beside, view_of, start_at, blank,
 pub use Rattle.monitor.specs.Load.{holds_of, holds_by, holds_in, free_of, opened_counts, IsOneOwner, given_by, IsFreeAfter, LetsGo, IsTurn, IsFree, Brings, Moves, is_refused, leaves_holds, was_refused}
 pub use Rattle.monitor.specs.Machine.{IsCall, step_by, AsksAwait, begins_wait, limits_from, stage_for, begun, next_by, first_turn, IsBegun, limits_at, step_within, step_at, at_stage, next_behind, later_turn, step_of_waiting, IsGoneOn, IsRefusal}
 pub use Rattle.monitor.specs.Observing.{IsLook}
-pub use Rattle.monitor.specs.Room.{at_point, IsTooMany, IsFold, InRoom, IsStepIn, IsEnteredIn, IsBegunIn, IsCallIn}
 pub use Rattle.monitor.specs.Shown.{Shown, shown, IsSound, IsPass, opening_pass, opening_passes}
-pub use Rattle.monitor.specs.Stepping.{IsSame, IsStep, answer_of, IsStepNow, IsUnparked, IsEntered, IsTrim}
+pub use Rattle.monitor.specs.Stepping.{IsSame, IsStep, answer_of, IsStepNow, IsUnparked, IsEntered, IsTrim, in_all, IsTrimInAll}
 pub use Rattle.monitor.specs.Waits.{asking, StandsFor, with_entry, IsMade, IsLast, Cause, in_line, on_condition, on_way_back, WaitsAs, IsAllowed, AfterPark, no_limits, ComesOf, IsNotLost, HasGivenUp, EndComesOf, stage_asleep, is_lapse}

@@ -64,3 +64,13 @@ pub record IsTrim (old : Shown) (r : Result ℕ Fault) (new : Shown) : Type 0 wh
   pub after : Before old.seen new.seen
   pub mine : new.mine ≡ old.mine
   pub share : new.share ≡ old.share
+
+-- how many entries are folded in all, after a trim that folded so many
+abbrev pub in_all : Result ℕ Fault → ℕ → Result ℕ Fault
+in_all (Ok count) folded = Ok folded
+in_all (Err fault) folded = Err fault
+
+-- a trim, which returned that
+abbrev pub IsTrimInAll : Shown → Result ℕ Fault → Shown → Type 0
+IsTrimInAll old r new =
+    (count : Result ℕ Fault) × IsTrim old count new × (r ≡ in_all count new.seen.base.entries)

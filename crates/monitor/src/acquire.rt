@@ -2,10 +2,8 @@
 ghost use Rattle.std.specs.Prelude.{◌≡◌, true};
 ghost use Rattle.monitor.specs.Calling.{CanCall, Called};
 ghost use Rattle.monitor.specs.Load.{Brings, Moves, free_of, holds_of, was_refused};
-ghost use Rattle.monitor.specs.Machine.{AsksAwait};
+ghost use Rattle.monitor.specs.Machine.{AsksAwait, IsCall};
 ghost use Rattle.monitor.specs.Settled.{IsSettled};
-ghost use Rattle.monitor.specs.Room.{IsCallIn};
-ghost use Rattle.monitor.specs.declared.machine.Request.TheVariants.{Acquire};
 ghost use Rattle.monitor.specs.Acquire.{IsAcquire, WasInterrupted, first_step};
 
 use crate::at_once::First;
@@ -15,7 +13,6 @@ use crate::load::{Empty, Load};
 use crate::machine::{Next, Request, first_turn};
 use crate::monitor::Monitor;
 use crate::pass::Pass;
-use crate::room::WhenFull;
 use crate::step::unpark;
 use frame::hooks::Hooks;
 use frame::machine::entry_at_once;
@@ -71,50 +68,15 @@ impl<H: Hooks + Drop> Monitor<H> {
     {
         let request = Request::Acquire(mode, n);
         let load = &mut Empty {};
-        self.make(rt, parking, pass, load, request, how, WhenFull::Refuse)
+        self.call(rt, parking, pass, load, request, how)
     }
 }
 
 impl<H: Hooks + Drop, L: Load> Monitor<H, L> {
-    /// [`acquire`](Monitor::acquire) with a load: before and after, the caller carries what belongs to the
-    /// holds of its pass. `when_full` says what it does if the history is full.
+    /// A call that may wait, as [`acquire`](Monitor::acquire) and [`await_on`](Monitor::await_on), with a load: before
+    /// and after, the caller carries what belongs to the holds of its pass.
     #[inline(always)]
-    pub fn acquire_with<P: Parking, R: Wait + Clock>(
-        &self,
-        rt: &R,
-        parking: &P,
-        pass: &mut Pass,
-        load: &mut L,
-        mode: Mode,
-        n: u32,
-        how: How,
-        when_full: WhenFull,
-    ) -> Result<Entry, Fault>
-        requires can { CanCall self.now (P.seats parking.now) pass.old }
-        requires carries { L.carries load.old (holds_of pass.old) }
-        requires brings { Brings L.is_counted (L.amount load.old) 0 }
-        ensures called { Called pass.old pass.new }
-        ensures acquired { IsCallIn when_full (P.did parking.now) pass.old (Acquire mode n) how result
-            pass.new }
-        ensures carries { L.carries load.new (holds_of pass.new) }
-        ensures moves { Moves L.fit L.is_counted L.amount load.old (free_of pass.old) load.new
-            (free_of pass.new) }
-        ensures stays { was_refused result ≡ true → load.new ≡ load.old }
-    {
-        self.make(
-            rt,
-            parking,
-            pass,
-            load,
-            Request::Acquire(mode, n),
-            how,
-            when_full,
-        )
-    }
-
-    // A call that may wait.
-    #[inline(always)]
-    pub(crate) fn make<P: Parking, R: Wait + Clock>(
+    pub fn call<P: Parking, R: Wait + Clock>(
         &self,
         rt: &R,
         parking: &P,
@@ -122,25 +84,24 @@ impl<H: Hooks + Drop, L: Load> Monitor<H, L> {
         load: &mut L,
         request: Request,
         how: How,
-        when_full: WhenFull,
     ) -> Result<Entry, Fault>
         requires can { CanCall self.now (P.seats parking.now) pass.old }
         requires carries { L.carries load.old (holds_of pass.old) }
         requires brings { Brings L.is_counted (L.amount load.old) 0 }
         requires fit { AsksAwait request → L.fit load.old }
         ensures called { Called pass.old pass.new }
-        ensures made { IsCallIn when_full (P.did parking.now) pass.old request how result pass.new }
+        ensures made { IsCall (P.did parking.now) pass.old request how result pass.new }
         ensures carries { L.carries load.new (holds_of pass.new) }
         ensures moves { Moves L.fit L.is_counted L.amount load.old (free_of pass.old) load.new
             (free_of pass.new) }
         ensures stays { was_refused result ≡ true → load.new ≡ load.old }
     {
         if let Some(interrupts) = Interrupts::at_entry(parking, pass, how) {
-            return self.refuse(rt, parking, pass, load, request, how, when_full, interrupts);
+            return self.refuse(rt, parking, pass, load, request, how, interrupts);
         }
         let moment = moment(rt, parking, how);
         let step = request.step(how, false);
-        match self.step_first(rt, pass, load, step, when_full) {
+        match self.step_first(rt, pass, load, step) {
             First::Done(named) => {
                 unpark(parking, named, pass);
                 Ok(entry_at_once(pass.seat(), step))
@@ -165,7 +126,6 @@ impl<H: Hooks + Drop, L: Load> Monitor<H, L> {
         load: &mut L,
         request: Request,
         how: How,
-        when_full: WhenFull,
         interrupts: Interrupts,
     ) -> Result<Entry, Fault>
         requires can { CanCall self.now (P.seats parking.now) pass.old }
@@ -175,7 +135,7 @@ impl<H: Hooks + Drop, L: Load> Monitor<H, L> {
         requires brings { Brings L.is_counted (L.amount load.old) 0 }
         requires fit { AsksAwait request → L.fit load.old }
         ensures called { Called pass.old pass.new }
-        ensures made { IsCallIn when_full (P.did parking.now) pass.old request how result pass.new }
+        ensures made { IsCall (P.did parking.now) pass.old request how result pass.new }
         ensures settled { IsSettled result }
         ensures carries { L.carries load.new (holds_of pass.new) }
         ensures moves { Moves L.fit L.is_counted L.amount load.old (free_of pass.old) load.new
@@ -183,7 +143,7 @@ impl<H: Hooks + Drop, L: Load> Monitor<H, L> {
         ensures stays { was_refused result ≡ true → load.new ≡ load.old }
     {
         pass.is_true();
-        let refusal = self.begin(rt, pass, load, request, how, 0, true, when_full);
+        let refusal = self.begin(rt, pass, load, request, how, 0, true);
         unpark(parking, refusal.named, pass);
         match refusal.next {
             Next::Ends { reply, again: _ } => {

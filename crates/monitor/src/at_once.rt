@@ -7,14 +7,13 @@
 ghost use Rattle.std.specs.Prelude.{◌≡◌, ◌+◌, ◌<◌, ◌^◌, true};
 ghost use Rattle.monitor.specs.Calling.{Called};
 ghost use Rattle.monitor.specs.Load.{Brings, LetsGo, Moves, free_of, given_by, holds_of, leaves_holds};
-ghost use Rattle.monitor.specs.Room.{IsStepIn};
+ghost use Rattle.monitor.specs.Stepping.{IsStep};
 ghost use Rattle.monitor.specs.inner.AtOnce.{IsBusy, IsStepAtOnce, IsStepFirst, LeavesHolds, LeavesHoldsFirst, Wakes};
 ghost use Rattle.word_lock.specs.Woken.{WasWoken};
 
 use crate::load::Load;
 use crate::monitor::Monitor;
 use crate::pass::Pass;
-use crate::room::WhenFull;
 use crate::section::step_taken;
 use frame::hooks::Hooks;
 use history::fault::Fault;
@@ -50,24 +49,23 @@ impl<H: Hooks + Drop, L: Load> Monitor<H, L> {
         pass: &mut Pass,
         load: &mut L,
         step: Step,
-        when_full: WhenFull,
     ) -> First
         requires is_of { pass.old.lock ≡ self.now }
         requires carries { L.carries load.old (holds_of pass.old) }
         requires brings { Brings L.is_counted (L.amount load.old) (given_by step) }
         requires fit { LetsGo step (holds_of pass.old) → L.fit load.old }
         ensures called { Called pass.old pass.new }
-        ensures stepped { IsStepFirst when_full pass.old step result pass.new }
+        ensures stepped { IsStepFirst pass.old step result pass.new }
         ensures woken { WasWoken self.now }
         ensures carries { L.carries load.new (holds_of pass.new) }
         ensures moves { Moves L.fit L.is_counted L.amount load.old (free_of pass.old) load.new
             (free_of pass.new) }
         ensures stays { LeavesHoldsFirst result → load.new ≡ load.old }
     {
-        match self.step_at_once(pass, load, step, when_full) {
+        match self.step_at_once(pass, load, step) {
             AtOnce::Done(named) => First::Done(named),
             AtOnce::Otherwise(answer) => First::Otherwise(answer),
-            AtOnce::Busy => First::Otherwise(self.step_later(rt, pass, load, step, when_full)),
+            AtOnce::Busy => First::Otherwise(self.step_later(rt, pass, load, step)),
         }
     }
 
@@ -80,39 +78,31 @@ impl<H: Hooks + Drop, L: Load> Monitor<H, L> {
         pass: &mut Pass,
         load: &mut L,
         step: Step,
-        when_full: WhenFull,
     ) -> Result<Answer, Fault>
         requires is_of { pass.old.lock ≡ self.now }
         requires carries { L.carries load.old (holds_of pass.old) }
         requires brings { Brings L.is_counted (L.amount load.old) (given_by step) }
         requires fit { LetsGo step (holds_of pass.old) → L.fit load.old }
         ensures called { Called pass.old pass.new }
-        ensures stepped { IsStepIn when_full pass.old step result pass.new }
+        ensures stepped { IsStep pass.old step result pass.new }
         ensures woken { WasWoken self.now }
         ensures carries { L.carries load.new (holds_of pass.new) }
         ensures moves { Moves L.fit L.is_counted L.amount load.old (free_of pass.old) load.new
             (free_of pass.new) }
         ensures stays { leaves_holds result ≡ true → load.new ≡ load.old }
     {
-        self.step_with(rt, pass, load, step, when_full)
+        self.step_with(rt, pass, load, step)
     }
 
-    /// One step of the pass's seat, unless another call has its turn. `when_full` says what it does if the
-    /// history is full.
+    /// One step of the pass's seat, unless another call has its turn.
     #[inline(always)]
-    pub(crate) fn step_at_once(
-        &self,
-        pass: &mut Pass,
-        load: &mut L,
-        step: Step,
-        when_full: WhenFull,
-    ) -> AtOnce
+    pub(crate) fn step_at_once(&self, pass: &mut Pass, load: &mut L, step: Step) -> AtOnce
         requires is_of { pass.old.lock ≡ self.now }
         requires carries { L.carries load.old (holds_of pass.old) }
         requires brings { Brings L.is_counted (L.amount load.old) (given_by step) }
         requires fit { LetsGo step (holds_of pass.old) → L.fit load.old }
         ensures called { Called pass.old pass.new }
-        ensures stepped { IsStepAtOnce when_full pass.old step result pass.new }
+        ensures stepped { IsStepAtOnce pass.old step result pass.new }
         ensures busy { IsBusy result → load.new ≡ load.old }
         ensures woken { Wakes result (WasWoken self.now) }
         ensures carries { L.carries load.new (holds_of pass.new) }
@@ -138,7 +128,6 @@ impl<H: Hooks + Drop, L: Load> Monitor<H, L> {
                     load,
                     held,
                     step,
-                    when_full,
                 );
                 self.lock.wake();
                 AtOnce::Otherwise(answer)

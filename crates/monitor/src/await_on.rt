@@ -1,17 +1,13 @@
 //! An await on a condition.
-ghost use Rattle.std.specs.Prelude.{◌≡◌, true};
+ghost use Rattle.std.specs.Prelude.{◌≡◌};
 ghost use Rattle.monitor.specs.Calling.{CanCall, Called};
-ghost use Rattle.monitor.specs.Load.{Brings, Moves, free_of, holds_of, was_refused};
-ghost use Rattle.monitor.specs.Room.{IsCallIn};
-ghost use Rattle.monitor.specs.declared.machine.Request.TheVariants.{AwaitOn};
 ghost use Rattle.monitor.specs.AwaitOn.{IsAwait, first_stage};
 
 use crate::how::How;
-use crate::load::{Empty, Load};
+use crate::load::Empty;
 use crate::machine::Request;
 use crate::monitor::Monitor;
 use crate::pass::Pass;
-use crate::room::WhenFull;
 use crate::waiting::Stage;
 use frame::hooks::Hooks;
 use history::entry::Entry;
@@ -64,43 +60,6 @@ impl<H: Hooks + Drop> Monitor<H> {
     {
         let request = Request::AwaitOn(condition);
         let load = &mut Empty {};
-        self.make(rt, parking, pass, load, request, how, WhenFull::Refuse)
-    }
-}
-
-impl<H: Hooks + Drop, L: Load> Monitor<H, L> {
-    /// [`await_on`](Monitor::await_on) with a load: before and after, the caller carries what belongs to the
-    /// holds of its pass. `when_full` says what it does if the history is full.
-    pub fn await_on_with<P: Parking, R: Wait + Clock>(
-        &self,
-        rt: &R,
-        parking: &P,
-        pass: &mut Pass,
-        load: &mut L,
-        condition: u8,
-        how: How,
-        when_full: WhenFull,
-    ) -> Result<Entry, Fault>
-        requires can { CanCall self.now (P.seats parking.now) pass.old }
-        requires carries { L.carries load.old (holds_of pass.old) }
-        requires brings { Brings L.is_counted (L.amount load.old) 0 }
-        requires fit { L.fit load.old }
-        ensures called { Called pass.old pass.new }
-        ensures awaited { IsCallIn when_full (P.did parking.now) pass.old (AwaitOn condition) how result
-            pass.new }
-        ensures carries { L.carries load.new (holds_of pass.new) }
-        ensures moves { Moves L.fit L.is_counted L.amount load.old (free_of pass.old) load.new
-            (free_of pass.new) }
-        ensures stays { was_refused result ≡ true → load.new ≡ load.old }
-    {
-        self.make(
-            rt,
-            parking,
-            pass,
-            load,
-            Request::AwaitOn(condition),
-            how,
-            when_full,
-        )
+        self.call(rt, parking, pass, load, request, how)
     }
 }

@@ -2,14 +2,12 @@
 ghost use Rattle.history.specs.declared.entry.Mode.TheVariants.{S};
 ghost use Rattle.history.specs.declared.step.Step.TheVariants.{Try, Give, Signal, SignalAll, Drain};
 ghost use Rattle.monitor.specs.Calling.{CanCall, Called};
-ghost use Rattle.monitor.specs.Room.{IsEnteredIn};
 ghost use Rattle.monitor.specs.Stepping.{IsEntered};
 ghost use Rattle.word_lock.specs.Woken.{WasWoken};
 
 use crate::load::{Empty, Load};
 use crate::monitor::Monitor;
 use crate::pass::Pass;
-use crate::room::WhenFull;
 use frame::hooks::Hooks;
 use history::entry::{Entry, Mode};
 use history::fault::Fault;
@@ -38,7 +36,7 @@ impl<H: Hooks + Drop> Monitor<H> {
     {
         pass.is_true();
         let step = Step::Try(mode, n);
-        self.enter(rt, parking, pass, &mut Empty {}, step, WhenFull::Refuse)
+        self.enter(rt, parking, pass, &mut Empty {}, step)
     }
 
     /// Releases a hold or permits: `Gave`. `Refused` if the seat doesn't own what it releases.
@@ -58,7 +56,7 @@ impl<H: Hooks + Drop> Monitor<H> {
     {
         pass.is_true();
         let step = Step::Give(mode, n);
-        self.enter(rt, parking, pass, &mut Empty {}, step, WhenFull::Refuse)
+        self.enter(rt, parking, pass, &mut Empty {}, step)
     }
 
     /// Counts a latch down by one: `Counted`.
@@ -75,7 +73,7 @@ impl<H: Hooks + Drop> Monitor<H> {
     {
         pass.is_true();
         let step = Step::Give(Mode::S, 1);
-        self.enter(rt, parking, pass, &mut Empty {}, step, WhenFull::Refuse)
+        self.enter(rt, parking, pass, &mut Empty {}, step)
     }
 
     /// Takes all free permits of a semaphore: `Drained`, with their number.
@@ -92,7 +90,7 @@ impl<H: Hooks + Drop> Monitor<H> {
     {
         pass.is_true();
         let step = Step::Drain;
-        self.enter(rt, parking, pass, &mut Empty {}, step, WhenFull::Refuse)
+        self.enter(rt, parking, pass, &mut Empty {}, step)
     }
 }
 
@@ -111,26 +109,8 @@ impl<H: Hooks + Drop, L: Load> Monitor<H, L> {
         ensures signalled { IsEntered (P.did parking.now) pass.old (Signal condition) result pass.new }
         ensures woken { WasWoken self.now }
     {
-        self.signal_when_full(rt, parking, pass, condition, WhenFull::Refuse)
-    }
-
-    /// [`signal`](Monitor::signal), where the caller says what it does if the history is full.
-    pub fn signal_when_full<P: Parking, R: Wait + Clock>(
-        &self,
-        rt: &R,
-        parking: &P,
-        pass: &mut Pass,
-        condition: u8,
-        when_full: WhenFull,
-    ) -> Result<Entry, Fault>
-        requires can { CanCall self.now (P.seats parking.now) pass.old }
-        ensures called { Called pass.old pass.new }
-        ensures signalled { IsEnteredIn when_full (P.did parking.now) pass.old (Signal condition) result
-            pass.new }
-        ensures woken { WasWoken self.now }
-    {
         pass.is_true();
-        self.tell(rt, parking, pass, Step::Signal(condition), when_full)
+        self.tell(rt, parking, pass, Step::Signal(condition))
     }
 
     /// Moves all waiters of a condition into the wait queue, in order. `Refused` if the seat isn't the owner.
@@ -146,25 +126,7 @@ impl<H: Hooks + Drop, L: Load> Monitor<H, L> {
         ensures signalled { IsEntered (P.did parking.now) pass.old (SignalAll condition) result pass.new }
         ensures woken { WasWoken self.now }
     {
-        self.signal_all_when_full(rt, parking, pass, condition, WhenFull::Refuse)
-    }
-
-    /// [`signal_all`](Monitor::signal_all), where the caller says what it does if the history is full.
-    pub fn signal_all_when_full<P: Parking, R: Wait + Clock>(
-        &self,
-        rt: &R,
-        parking: &P,
-        pass: &mut Pass,
-        condition: u8,
-        when_full: WhenFull,
-    ) -> Result<Entry, Fault>
-        requires can { CanCall self.now (P.seats parking.now) pass.old }
-        ensures called { Called pass.old pass.new }
-        ensures signalled { IsEnteredIn when_full (P.did parking.now) pass.old (SignalAll condition) result
-            pass.new }
-        ensures woken { WasWoken self.now }
-    {
         pass.is_true();
-        self.tell(rt, parking, pass, Step::SignalAll(condition), when_full)
+        self.tell(rt, parking, pass, Step::SignalAll(condition))
     }
 }

@@ -26,9 +26,8 @@
 //! `trim` folds the entries so far into the base, so that an object runs on past its cap. What a pass had
 //! seen before stays true: the fold says the same about all that comes after.
 //!
-//! A call that is given a [`WhenFull`] trims by itself, if it is asked to and the history has no room for
-//! its first step. It folds and makes the step in one turn of the lock, so that nobody fills the history in
-//! between.
+//! No other call folds: one that finds no room returns `HistoryFull`, and its caller may `trim` and call again.
+//! Other threads may fill the history in between.
 //!
 //! The calls that wait are `acquire` and `await_on`. Both wait in the same loop: park, step, and return at
 //! the entry that ends the wait. [`How`] says what else ends it. A permit leads to the step Look, by which a
@@ -73,7 +72,6 @@ mod monitor;
 mod observing;
 mod pass;
 mod quiet;
-mod room;
 mod section;
 mod step;
 mod trimming;
@@ -87,6 +85,5 @@ pub use machine::{Next, Request, Turn, Waiting};
 pub use monitor::Monitor;
 pub use pass::Pass;
 pub use quiet::Contention;
-pub use room::WhenFull;
 pub use step::Now;
 pub use waiting::Limits;

@@ -30,7 +30,6 @@ ghost use Rattle.monitor.specs.Machine.{
   step_of_waiting,
   step_within,
 };
-ghost use Rattle.monitor.specs.Room.{IsBegunIn};
 ghost use Rattle.monitor.specs.Stepping.{answer_of};
 ghost use Rattle.monitor.specs.Waits.{Waits, is_lapse};
 ghost use Rattle.word_lock.specs.Woken.{WasWoken};
@@ -42,7 +41,6 @@ use crate::interrupts::tells_interrupt;
 use crate::load::Load;
 use crate::monitor::Monitor;
 use crate::pass::Pass;
-use crate::room::WhenFull;
 use crate::step::Now;
 use crate::waiting::{Limits, Stage, stage_asleep};
 use frame::hooks::Hooks;
@@ -295,7 +293,7 @@ pub(crate) fn first_turn(
 impl<H: Hooks + Drop, L: Load> Monitor<H, L> {
     /// The first turn of a call. `interrupted` says that the call heeds interrupts and that one was pending:
     /// it was taken. `moment` is what the clock shows. A timed call counts from it, and other calls ignore
-    /// it. `when_full` says what it does if the history is full.
+    /// it.
     #[inline(always)]
     pub fn begin<R: Wait>(
         &self,
@@ -306,14 +304,13 @@ impl<H: Hooks + Drop, L: Load> Monitor<H, L> {
         how: How,
         moment: u64,
         interrupted: bool,
-        when_full: WhenFull,
     ) -> Turn
         requires is_of { pass.old.lock ≡ self.now }
         requires carries { L.carries load.old (holds_of pass.old) }
         requires brings { Brings L.is_counted (L.amount load.old) 0 }
         requires fit { AsksAwait request → L.fit load.old }
         ensures called { Called pass.old pass.new }
-        ensures begun { IsBegunIn when_full pass.old request how moment interrupted result pass.new }
+        ensures begun { IsBegun pass.old request how moment interrupted result pass.new }
         ensures woken { WasWoken self.now }
         ensures carries { L.carries load.new (holds_of pass.new) }
         ensures moves { Moves L.fit L.is_counted L.amount load.old (free_of pass.old) load.new
@@ -321,7 +318,7 @@ impl<H: Hooks + Drop, L: Load> Monitor<H, L> {
         ensures stays { IsRefusal result.next → load.new ≡ load.old }
     {
         let step = request.step(how, interrupted);
-        let answer = self.step_with(rt, pass, load, step, when_full);
+        let answer = self.step_with(rt, pass, load, step);
         first_turn(request, how, moment, interrupted, answer)
     }
 
@@ -376,7 +373,7 @@ impl<H: Hooks + Drop, L: Load> Monitor<H, L> {
     {
         pass.is_true();
         let step = waiting.step(woke);
-        let answer = self.step_with(rt, pass, load, step, WhenFull::Refuse);
+        let answer = self.step_with(rt, pass, load, step);
         waiting.turn(step, answer)
     }
 

@@ -14,15 +14,13 @@ ghost use Rattle.word_lock.specs.Ticket.{Ticket};
 
 use crate::load::Load;
 use crate::pass::share_behind;
-use crate::room::WhenFull;
 use crate::under_lock::UnderLock;
 use frame::hooks::Hooks;
 use history::fault::Fault;
 use history::step::{Answer, Step};
 use word_lock::{Held, Token, WordLock};
 
-// Makes a step of the seat with the object that its token took, and puts the object back. `when_full` says
-// what it does if the history is full. It wakes nobody.
+// Makes a step of the seat with the object that its token took, and puts the object back. It wakes nobody.
 pub(crate) fn step_taken<H: Hooks + Drop, L: Load>(
     lock: &WordLock<UnderLock<H, L>>,
     token: &mut Token,
@@ -31,7 +29,6 @@ pub(crate) fn step_taken<H: Hooks + Drop, L: Load>(
     load: &mut L,
     held: Held<UnderLock<H, L>>,
     step: Step,
-    when_full: WhenFull,
 ) -> Result<Answer, Fault>
     requires own { (held_ticket held).lock ≡ lock.now }
     requires without { token.old.free ≡ false }
@@ -41,7 +38,7 @@ pub(crate) fn step_taken<H: Hooks + Drop, L: Load>(
     requires brings { Brings L.is_counted (L.amount load.old) (given_by step) }
     requires fit { LetsGo step (holds_in held.value.laden.value.core seat) → L.fit load.old }
     ensures went { (t : Ticket) → Taking t (held_ticket held) held.value.laden.value.core seat share.old
-        → Went when_full t token.new seat share.old share.new step result }
+        → Went t token.new seat share.old share.new step result }
     ensures carries { L.carries load.new (holds_of (shown token.new seat share.new)) }
     ensures moves { (t : Ticket) → Taking t (held_ticket held) held.value.laden.value.core seat share.old
         → Moves L.fit L.is_counted L.amount load.old (free_of (shown t seat share.old))
@@ -49,7 +46,7 @@ pub(crate) fn step_taken<H: Hooks + Drop, L: Load>(
     ensures stays { leaves_holds result ≡ true → load.new ≡ load.old }
 {
     let mut held = held;
-    let answer = held.value.step(seat, step, load, when_full);
+    let answer = held.value.step(seat, step, load);
     lock.unlock_quietly(token, held);
     *share = share_behind(*share, &answer);
     answer
@@ -63,7 +60,6 @@ pub(crate) fn signal_taken<H: Hooks + Drop, L: Load>(
     share: &mut u64,
     held: Held<UnderLock<H, L>>,
     step: Step,
-    when_full: WhenFull,
 ) -> Result<Answer, Fault>
     requires own { (held_ticket held).lock ≡ lock.now }
     requires without { token.old.free ≡ false }
@@ -71,10 +67,10 @@ pub(crate) fn signal_taken<H: Hooks + Drop, L: Load>(
     requires rests { L.rests held.value.laden.value.load (counts_of held.value.laden.value.core) }
     requires signals { is_signal step ≡ true }
     ensures went { (t : Ticket) → Taking t (held_ticket held) held.value.laden.value.core seat share.old
-        → Went when_full t token.new seat share.old share.new step result }
+        → Went t token.new seat share.old share.new step result }
 {
     let mut held = held;
-    let told = held.value.signal(seat, step, when_full);
+    let told = held.value.signal(seat, step);
     lock.unlock_quietly(token, held);
     *share = share_behind(*share, &told);
     told

@@ -3,10 +3,9 @@ ghost use Rattle.std.specs.Prelude.{◌≡◌, ◌≢◌, ◌<◌, false, true, 
 ghost use Rattle.history.specs.declared.step.Answer.TheVariants.{Sleep};
 ghost use Rattle.history.specs.Phase.{waits};
 ghost use Rattle.monitor.specs.Calling.{CanCall, Called};
-ghost use Rattle.monitor.specs.Load.{Brings, LetsGo, Moves, free_of, given_by, holds_of, was_refused};
+ghost use Rattle.monitor.specs.Load.{Brings, LetsGo, Moves, free_of, given_by, holds_of, leaves_holds, was_refused};
 ghost use Rattle.monitor.specs.inner.Load.{is_signal};
-ghost use Rattle.monitor.specs.Room.{IsEnteredIn, IsStepIn};
-ghost use Rattle.monitor.specs.Stepping.{IsStep, IsStepNow, IsUnparked};
+ghost use Rattle.monitor.specs.Stepping.{IsEntered, IsStep, IsStepNow, IsUnparked};
 ghost use Rattle.monitor.specs.inner.Stepping.{entry_in, named_in, now_of};
 ghost use Rattle.word_lock.specs.Woken.{WasWoken};
 
@@ -14,8 +13,7 @@ use crate::at_once::First;
 use crate::load::{Empty, Load};
 use crate::monitor::Monitor;
 use crate::pass::Pass;
-use crate::room::WhenFull;
-use crate::section::step_taken;
+use crate::section::{signal_taken, step_taken};
 use frame::hooks::Hooks;
 use frame::machine::entry_at_once;
 use history::entry::Entry;
@@ -42,7 +40,7 @@ impl<H: Hooks + Drop> Monitor<H> {
         ensures stepped { IsStep pass.old step result pass.new }
         ensures woken { WasWoken self.now }
     {
-        self.step_with(rt, pass, &mut Empty {}, step, WhenFull::Refuse)
+        self.step_with(rt, pass, &mut Empty {}, step)
     }
 
     /// One step of the pass's seat, unless another call has its turn. It waits for nobody.
@@ -58,6 +56,67 @@ impl<H: Hooks + Drop> Monitor<H> {
 
 /// The same with a load. The caller carries what belongs to the holds of its pass, before and after.
 impl<H: Hooks + Drop, L: Load> Monitor<H, L> {
+    /// One step of the pass's seat. It waits for the object.
+    #[inline(always)]
+    pub fn step_with<R: Wait>(
+        &self,
+        rt: &R,
+        pass: &mut Pass,
+        load: &mut L,
+        step: Step,
+    ) -> Result<Answer, Fault>
+        requires is_of { pass.old.lock ≡ self.now }
+        requires carries { L.carries load.old (holds_of pass.old) }
+        requires brings { Brings L.is_counted (L.amount load.old) (given_by step) }
+        requires fit { LetsGo step (holds_of pass.old) → L.fit load.old }
+        ensures called { Called pass.old pass.new }
+        ensures stepped { IsStep pass.old step result pass.new }
+        ensures woken { WasWoken self.now }
+        ensures carries { L.carries load.new (holds_of pass.new) }
+        ensures moves { Moves L.fit L.is_counted L.amount load.old (free_of pass.old) load.new
+            (free_of pass.new) }
+        ensures stays { leaves_holds result ≡ true → load.new ≡ load.old }
+    {
+        let held = self.lock.lock(rt, &mut pass.token);
+        let answer = step_taken(
+            &self.lock,
+            &mut pass.token,
+            pass.seat,
+            &mut pass.share,
+            load,
+            held,
+            step,
+        );
+        self.lock.wake();
+        answer
+    }
+
+    // A signal of the pass's seat. It needs no load.
+    pub(crate) fn signal_step<R: Wait>(
+        &self,
+        rt: &R,
+        pass: &mut Pass,
+        step: Step,
+    ) -> Result<Answer, Fault>
+        requires is_of { pass.old.lock ≡ self.now }
+        requires signals { is_signal step ≡ true }
+        ensures called { Called pass.old pass.new }
+        ensures stepped { IsStep pass.old step result pass.new }
+        ensures woken { WasWoken self.now }
+    {
+        let held = self.lock.lock(rt, &mut pass.token);
+        let answer = signal_taken(
+            &self.lock,
+            &mut pass.token,
+            pass.seat,
+            &mut pass.share,
+            held,
+            step,
+        );
+        self.lock.wake();
+        answer
+    }
+
     /// One step of the pass's seat, unless another call has its turn. It waits for nobody.
     pub fn step_now_with(&self, pass: &mut Pass, load: &mut L, step: Step) -> Result<Now, Fault>
         requires is_of { pass.old.lock ≡ self.now }
@@ -100,13 +159,11 @@ impl<H: Hooks + Drop, L: Load> Monitor<H, L> {
             load,
             held,
             step,
-            WhenFull::Refuse,
         );
         done(answer)
     }
 
     /// A step of an idle seat. Returns its entry or a fault, and unparks the seat that the step names.
-    /// `when_full` says what it does if the history is full.
     #[inline(always)]
     pub fn enter<P: Parking, R: Wait + Clock>(
         &self,
@@ -115,7 +172,6 @@ impl<H: Hooks + Drop, L: Load> Monitor<H, L> {
         pass: &mut Pass,
         load: &mut L,
         step: Step,
-        when_full: WhenFull,
     ) -> Result<Entry, Fault>
         requires can { CanCall self.now (P.seats parking.now) pass.old }
         requires idle { waits step ≡ false }
@@ -123,14 +179,14 @@ impl<H: Hooks + Drop, L: Load> Monitor<H, L> {
         requires brings { Brings L.is_counted (L.amount load.old) (given_by step) }
         requires fit { LetsGo step (holds_of pass.old) → L.fit load.old }
         ensures called { Called pass.old pass.new }
-        ensures entered { IsEnteredIn when_full (P.did parking.now) pass.old step result pass.new }
+        ensures entered { IsEntered (P.did parking.now) pass.old step result pass.new }
         ensures woken { WasWoken self.now }
         ensures carries { L.carries load.new (holds_of pass.new) }
         ensures moves { Moves L.fit L.is_counted L.amount load.old (free_of pass.old) load.new
             (free_of pass.new) }
         ensures stays { was_refused result ≡ true → load.new ≡ load.old }
     {
-        match self.step_first(rt, pass, load, step, when_full) {
+        match self.step_first(rt, pass, load, step) {
             First::Done(named) => {
                 unpark(parking, named, pass);
                 Ok(entry_at_once(pass.seat(), step))
@@ -146,16 +202,15 @@ impl<H: Hooks + Drop, L: Load> Monitor<H, L> {
         parking: &P,
         pass: &mut Pass,
         step: Step,
-        when_full: WhenFull,
     ) -> Result<Answer, Fault>
         requires can { CanCall self.now (P.seats parking.now) pass.old }
         requires signals { is_signal step ≡ true }
         ensures called { Called pass.old pass.new }
-        ensures stepped { IsStepIn when_full pass.old step result pass.new }
+        ensures stepped { IsStep pass.old step result pass.new }
         ensures unparked { IsUnparked (P.did parking.now) pass.new.lock (named_in result) pass.new.seen }
         ensures woken { WasWoken self.now }
     {
-        let told = self.signal_step(rt, pass, step, when_full);
+        let told = self.signal_step(rt, pass, step);
         unpark(parking, named_in(told), pass);
         told
     }
@@ -167,15 +222,14 @@ impl<H: Hooks + Drop, L: Load> Monitor<H, L> {
         parking: &P,
         pass: &mut Pass,
         step: Step,
-        when_full: WhenFull,
     ) -> Result<Entry, Fault>
         requires can { CanCall self.now (P.seats parking.now) pass.old }
         requires signals { is_signal step ≡ true }
         ensures called { Called pass.old pass.new }
-        ensures entered { IsEnteredIn when_full (P.did parking.now) pass.old step result pass.new }
+        ensures entered { IsEntered (P.did parking.now) pass.old step result pass.new }
         ensures woken { WasWoken self.now }
     {
-        match self.signal_call(rt, parking, pass, step, when_full) {
+        match self.signal_call(rt, parking, pass, step) {
             Ok(Answer::Recorded(entry, _)) => Ok(entry),
             Ok(Answer::Sleep) => unreachable!(),
             Err(fault) => Err(fault),

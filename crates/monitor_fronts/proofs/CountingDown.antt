@@ -1,12 +1,13 @@
 -- What the calls of a latch leave of its count.
 use Rattle.std.proofs.Common.{◌≡◌, inl, inr, ℕ, zero, suc, ◌+◌, ◌-◌, ◌<◌, ◌≤◌, eqb, Bool, true, false, not, ◌&&◌, cond, List, [], ◌∷◌, ◌++◌, Option, Some, None, Result, Ok, Err, IfOk, refl, sym, ap, ◌∙◌, subst, arith, eqb-true}
 use Rattle.history.specs.declared.entry.End.TheVariants as end
-use Rattle.monitor_fronts.specs.Below.{Entry, Mode, S, Word, Fault, Header, Object, Lock, ReadWrite, Semaphore, Latch, Point, Step, Acquire, Give, TryFair, Base, based, could, could_of, held_back, is_reentrant, limit, line_blocks, Counts, counted, counted_after, counts, first_mode, is_latch, opening_count, Start, entry_for, gave, Deed, Before, LockId, AtOnce, IsAcquire, first_step, is_timed, start_at, Shown, IsSound, IsEntered, IsSame, IsMade, with_entry, How, Timed, WhenFull}
+use Rattle.monitor_fronts.specs.Below.{Entry, Mode, S, Word, Fault, Header, Object, Lock, ReadWrite, Semaphore, Latch, Point, Step, Acquire, Give, TryFair, Base, based, could, could_of, held_back, is_reentrant, limit, line_blocks, Counts, counted, counted_after, counts, first_mode, is_latch, opening_count, Start, entry_for, gave, Deed, Before, LockId, AtOnce, IsAcquire, first_step, is_timed, start_at, Shown, IsSound, IsEntered, IsSame, IsMade, with_entry, How, Timed}
 use Rattle.history.specs.declared.entry.Word.TheVariants as word
 use Rattle.history.specs.declared.fault.Fault.TheVariants as fault
 use Rattle.word_lock.proofs.PointLaws.{before_trans}
 use Rattle.monitor.proofs.Acquiring.{idle_made}
 use Rattle.monitor_fronts.specs.CountingDown.{CountsDown, FallsBy, IsCounted, IsOpen, WasShut, count_at}
+use Rattle.monitor_fronts.specs.declared.room.WhenFull.{WhenFull}
 use Rattle.monitor_fronts.specs.FrontCalls.{Acquires, Steps}
 use Rattle.monitor_fronts.specs.Holding.{gained, with_yes}
 use Rattle.monitor_fronts.specs.OwnEntry.{AtOwnEntry}
@@ -99,7 +100,7 @@ pub awaits_open : (w : WhenFull) (did : Deed → Type 0) (how : How) (old new : 
     IsSame old new → Acquires w did S 1 how old new r → whether_of r ≡ Ok true → IsOpen new
 awaits_open w did how old new r same x =
     in_room (λ (from : Shown). λ (s : Result Entry Fault). whether_of s ≡ Ok true → IsOpen new)
-    w _ _ old new r same (λ p. λ b. λ y. y) (λ y. λ t. absurd (never_refused fault.TrimFull true t))
+    w _ old new r same (λ p. λ b. λ y. y) (λ f. λ mine. λ b. λ t. absurd (never_refused f true t))
     (λ from. λ s. λ of. λ at. λ one. await_open did from new how s one) x
 
 -- the same of an await of which is told only that it ended
@@ -230,10 +231,10 @@ pub awaits_shut : (w : WhenFull) (did : Deed → Type 0) (how : How) (old new : 
     whether_of r ≡ Ok false → WasShut old new
 awaits_shut w did how old new r latch same shows x =
     in_room (λ (from : Shown). λ (s : Result Entry Fault). whether_of s ≡ Ok false → WasShut from new)
-    w _ _ old new r same
+    w _ old new r same
     (λ p. λ b. λ y. λ t. let z = y t in
     shut_at old new z.place (before_trans old.seen p z.place b z.begins) z.there z.above)
-    (λ y. λ t. absurd (never_refused fault.TrimFull false t))
+    (λ f. λ mine. λ b. λ t. absurd (never_refused f false t))
     (λ from. λ s. λ of. λ at. λ one. await_shut did from new how s (as_latch old from of latch) at shows one) x
 
 -- A count down takes 1 from the count, unless it is 0.
@@ -277,8 +278,8 @@ count_downs w did old new r told same shows x is = λ latch.
     subst (λ (z : Result Bool Fault). z ≡ Ok true → AtOwnEntry IsCounted old new)
     (sym (gives_told w did S 1 old new r told same x is))
     (in_room (λ (from : Shown). λ (s : Result Entry Fault). whether_of s ≡ Ok true → AtOwnEntry IsCounted from new)
-    w _ _ old new r same (λ p. λ b. λ y. λ t. at_later old new p b (y t))
-    (λ y. λ t. absurd (never_refused fault.TrimFull true t))
+    w _ old new r same (λ p. λ b. λ y. λ t. at_later old new p b (y t))
+    (λ f. λ mine. λ b. λ t. absurd (never_refused f true t))
     (λ from. λ s. λ of. λ at. λ one. counts_own did from new s (as_latch old from of latch) at shows one) x)
 
 -- so the count that the pass has seen since is less
@@ -323,7 +324,7 @@ pub count_down_falls : (w : WhenFull) (did : Deed → Type 0) (old new : Shown) 
 count_down_falls w did old new r told same x is =
     subst (λ (z : Result Bool Fault). FallsBy (gained z) old new) (sym (gives_told w did S 1 old new r told same x is))
     (in_room (λ (from : Shown). λ (s : Result Entry Fault). FallsBy (gained (whether_of s)) from new)
-    w _ _ old new r same
+    w _ old new r same
     (λ p. λ b. λ y. less_later (count_at new.seen) (count_at p) (count_at old.seen) (gained (whether_of r))
-    (count_falls old.seen p b) y) (λ y. y)
+    (count_falls old.seen p b) y) (λ f. λ mine. λ b. falls_on old new b)
     (λ from. λ s. λ of. λ at. λ one. falls_own did from new s one) x)

@@ -106,13 +106,13 @@ end_gains m how k i e lock (inr (inr q)) =
     gains_as m k i e _ q.0 (gains_by m k i word.Left 1 0 end.Interrupt (λ had. adds_none had))
 
 -- the holds of a pass, by what its own entries are now
-by_own : (old new : Shown) (m : Mode) (mine : List Entry) → IsSame old new → new.mine ≡ mine →
+pub by_own : (old new : Shown) (m : Mode) (mine : List Entry) → IsSame old new → new.mine ≡ mine →
     holds_of new m ≡ held (opening old.lock.header) mine old.seat m
 by_own old new m mine same is =
     of_own old new m same ∙ ap (λ (l : List Entry). held (opening old.lock.header) l old.seat m) is
 
 -- a pass with no entry more
-still : (old new : Shown) (m : Mode) (f : Fault) → IsSame old new → new.mine ≡ old.mine → Adds m old (Err f) new
+pub still : (old new : Shown) (m : Mode) (f : Fault) → IsSame old new → new.mine ≡ old.mine → Adds m old (Err f) new
 still old new m f same mine =
     record {
       own = by_own old new m old.mine same mine ∙ adds_none (holds_of old m);

@@ -1,7 +1,7 @@
 -- The entries of a call, where they were recorded, and that what the call got could be had there.
 use Rattle.std.proofs.Common.{◌≡◌, ◌⊎◌, inl, inr, ℕ, Bool, true, false, List, [], ◌∷◌, Some, Result, Ok, Err, refl, sym, ap, ◌∙◌, subst}
 use Rattle.history.specs.declared.entry.End.TheVariants as end
-use Rattle.monitor_fronts.specs.Below.{Entry, Mode, Word, Fault, Object, Point, Step, Give, Try, could, limit, try_held_back, counts, first_mode, Start, ended, entry_for, plain, Deed, Before, header_of, LockId, AtOnce, IsAcquire, IsEndFor, start_at, at_point, Shown, IsSound, IsEntered, IsSame, IsMade, asking, with_entry, How}
+use Rattle.monitor_fronts.specs.Below.{Entry, Mode, Word, Fault, Object, Point, Step, Give, Try, could, limit, try_held_back, counts, first_mode, Start, ended, entry_for, plain, Deed, Before, header_of, LockId, AtOnce, IsAcquire, IsEndFor, start_at, Shown, IsSound, IsEntered, IsSame, IsMade, asking, with_entry, How}
 use Rattle.history.specs.declared.entry.Word.TheVariants as word
 use Rattle.history.specs.declared.fault.Fault.TheVariants as fault
 use Rattle.history.proofs.Entering.{GaveWord, KnownBy, gave_word, known}
@@ -10,6 +10,7 @@ use Rattle.word_lock.proofs.PointLaws.{before_header, before_refl, before_trans}
 use Rattle.monitor.proofs.Acquiring.{idle_made}
 use Rattle.monitor.proofs.InLine.{made_in, same_self}
 use Rattle.monitor_fronts.specs.OwnEntry.{AtOwnEntry}
+use Rattle.monitor_fronts.specs.Room.{at_point}
 use Rattle.monitor_fronts.specs.Returned.{whether_by, whether_of}
 use Rattle.monitor_fronts.proofs.Exactly.{first_plain, tried_words}
 

@@ -1,12 +1,14 @@
 -- What the calls of a semaphore leave of the permits: of those that the pass has, and of those that are free.
 use Rattle.std.proofs.Common.{◌≡◌, ◌⊎◌, inl, inr, ℕ, Bool, true, false, cond, List, [], Some, Result, Ok, Err, refl, sym, ap, ◌∙◌, subst, arith, ℤ, pos, ◌+ℤ◌, ◌-ℤ◌, ◌≤ℤ◌, int_le, int_lt}
 use Rattle.std.proofs.lemmas.Int.{ints}
-use Rattle.monitor_fronts.specs.Below.{MOST_AMOUNT, Entry, S, Word, Fault, Header, Object, Lock, ReadWrite, Semaphore, Latch, Point, Step, Drain, EntryInterrupt, Give, Try, could, could_of, limit, try_held_back, Counts, counts, free, free_after, first_mode, is_semaphore, opening, at_least_none, ended, entry_for, gave, plain, Deed, Before, LockId, AtOnce, EndsAtOnce, IsAcquire, IsAtOnce, IsEndFor, is_timed, start_at, free_of, IsCallIn, IsEnteredIn, at_point, Shown, IsSound, IsEntered, IsSame, asking, with_entry, How, WhenFull}
+use Rattle.monitor_fronts.specs.Below.{MOST_AMOUNT, Entry, S, Word, Fault, Header, Object, Lock, ReadWrite, Semaphore, Latch, Point, Step, Drain, EntryInterrupt, Give, Try, could, could_of, limit, try_held_back, Counts, counts, free, free_after, first_mode, is_semaphore, opening, at_least_none, ended, entry_for, gave, plain, Deed, Before, LockId, AtOnce, EndsAtOnce, IsAcquire, IsAtOnce, IsEndFor, is_timed, start_at, free_of, Shown, IsSound, IsEntered, IsSame, asking, with_entry, How}
 use Rattle.history.specs.declared.entry.End.TheVariants as end
 use Rattle.history.specs.declared.entry.Word.TheVariants as word
 use Rattle.history.specs.declared.fault.Fault.TheVariants as fault
 use Rattle.monitor.specs.declared.machine.Request.TheVariants as request
 use Rattle.monitor.proofs.Acquiring.{idle_made}
+use Rattle.monitor_fronts.specs.Room.{IsCallIn, IsEnteredIn, at_point}
+use Rattle.monitor_fronts.specs.declared.room.WhenFull.{WhenFull}
 use Rattle.monitor_fronts.specs.FrontCalls.{Acquires, Steps}
 use Rattle.monitor_fronts.specs.Holding.{with_yes}
 use Rattle.monitor_fronts.specs.OwnEntry.{AtOwnEntry}
@@ -194,20 +196,29 @@ release_left did old new n (Err f) semaphore same shows s =
       answers = tt;
     }
 
+-- a call that failed and recorded nothing leaves them as they were
+failed_left : (asked : PermitCall) (old new : Shown) (f : Fault) → IsSame old new → new.mine ≡ old.mine →
+    Left asked old (Err f) new
+failed_left asked old new f same mine =
+    record {
+      free = own_free old new same ∙ ap (λ (l : List Entry). free (opening old.lock.header) l) mine;
+      answers = tt;
+    }
+
 acquires_left : (did : Deed → Type 0) (w : WhenFull) (n : ℕ) (how : How) (old new : Shown) (r : Result Entry Fault) →
     IsSame old new → Acquires w did S n how old new r → Left (Acquiring n how) old r new
 acquires_left did w n how old new r same made =
-    in_room (λ (from : Shown). λ (s : Result Entry Fault). Left (Acquiring n how) from s new) w _ _ old new r same
+    in_room (λ (from : Shown). λ (s : Result Entry Fault). Left (Acquiring n how) from s new) w _ old new r same
     (λ p. λ b. λ x. record { free = x.free; answers = x.answers })
-    (λ x. record { free = x.free; answers = x.answers })
+    (λ f. λ mine. λ b. failed_left (Acquiring n how) old new f same mine)
     (λ from. λ s. λ of. λ at. λ one. acquire_left did from new n how s at one) made
 
 tries_left : (did : Deed → Type 0) (w : WhenFull) (n : ℕ) (old new : Shown) (r : Result Entry Fault) →
     IsSame old new → Steps w did (Try S n) old new r → Left (Trying n) old r new
 tries_left did w n old new r same made =
-    in_room (λ (from : Shown). λ (s : Result Entry Fault). Left (Trying n) from s new) w _ _ old new r same
+    in_room (λ (from : Shown). λ (s : Result Entry Fault). Left (Trying n) from s new) w _ old new r same
     (λ p. λ b. λ x. record { free = x.free; answers = x.answers })
-    (λ x. record { free = x.free; answers = x.answers })
+    (λ f. λ mine. λ b. failed_left (Trying n) old new f same mine)
     (λ from. λ s. λ of. λ at. λ one. try_left did from new n s at one) made
 
 pub permits_left : (did : Deed → Type 0) (w : WhenFull) (asked : PermitCall) (old new : Shown)
@@ -217,9 +228,9 @@ permits_left did w (Acquiring n how) old new r semaphore same shows made =
     acquires_left did w n how old new r same made
 permits_left did w (Trying n) old new r semaphore same shows made = tries_left did w n old new r same made
 permits_left did w (Releasing n) old new r semaphore same shows made =
-    in_room (λ (from : Shown). λ (s : Result Entry Fault). Left (Releasing n) from s new) w _ _ old new r same
+    in_room (λ (from : Shown). λ (s : Result Entry Fault). Left (Releasing n) from s new) w _ old new r same
     (λ p. λ b. λ x. record { free = x.free; answers = x.answers })
-    (λ x. record { free = x.free; answers = x.answers })
+    (λ f. λ mine. λ b. failed_left (Releasing n) old new f same mine)
     (λ from. λ s. λ of. λ at. λ one. release_left did from new n s
     (ap (λ (l : LockId). is_semaphore l.header.object) of ∙ semaphore) at shows one) made
 
@@ -236,25 +247,29 @@ drained_by : (e : Entry) (i m : ℕ) (had : ℤ) → e ≡ plain i word.Drained 
 drained_by e i m had q =
     subst (λ (z : Entry). free_after z.word z.n had ≡ had -ℤ pos (if_ok (number_of (Ok z)))) (sym q) refl
 
+failed_drain : (old new : Shown) (f : Fault) → IsSame old new → new.mine ≡ old.mine →
+    free_of new ≡ free_of old -ℤ pos (if_ok (number_of (Err f)))
+failed_drain old new f same mine =
+    own_free old new same
+    ∙ (ap (λ (l : List Entry). free (opening old.lock.header) l) mine ∙ nothing (free_of old))
+  where
+    nothing : (f : ℤ) → f ≡ f -ℤ pos 0
+    nothing f = omega (arith, ints)
+
 drain_left : (did : Deed → Type 0) (old new : Shown) (r : Result Entry Fault) → IsSame old new →
     IsEntered did old Drain r new → free_of new ≡ free_of old -ℤ pos (if_ok (number_of r))
 drain_left did old new (Ok e) same s =
     own_free old new same
     ∙ (ap (λ (l : List Entry). free (opening old.lock.header) l) s.1.mine
     ∙ drained_by e old.seat _ (free_of old) (drain_is did old new e s))
-drain_left did old new (Err f) same s =
-    own_free old new same
-    ∙ (ap (λ (l : List Entry). free (opening old.lock.header) l) s.mine ∙ nothing (free_of old))
-  where
-    nothing : (f : ℤ) → f ≡ f -ℤ pos 0
-    nothing f = omega (arith, ints)
+drain_left did old new (Err f) same s = failed_drain old new f same s.mine
 
 pub drains_left : (did : Deed → Type 0) (w : WhenFull) (old new : Shown) (r : Result Entry Fault) →
     IsSame old new → Steps w did Drain old new r → free_of new ≡ free_of old -ℤ pos (if_ok (number_of r))
 drains_left did w old new r same made =
     in_room (λ (from : Shown). λ (s : Result Entry Fault). free_of new ≡ free_of from -ℤ pos (if_ok (number_of s)))
-    w _ _ old new r same (λ p. λ b. λ x. x) (λ x. x) (λ from. λ s. λ of. λ at. λ one. drain_left did from new s at one)
-    made
+    w _ old new r same (λ p. λ b. λ x. x) (λ f. λ mine. λ b. failed_drain old new f same mine)
+    (λ from. λ s. λ of. λ at. λ one. drain_left did from new s at one) made
 
 -- the permits that a pass took, by what its own entries leave free
 took : (asked : PermitCall) (n : ℕ) (f g k : ℤ) (told : Result Bool Fault) →
@@ -384,8 +399,8 @@ pub acquires_take_free : (w : WhenFull) (did : Deed → Type 0) (n : ℕ) (how :
     TakesFree n old (whether_of r) new
 acquires_take_free w did n how old new r same shows x = λ semaphore.
     in_room (λ (from : Shown). λ (s : Result Entry Fault). whether_of s ≡ Ok true → AtOwnEntry (IsTaken n) from new)
-    w _ _ old new r same (λ p. λ b. λ y. λ t. at_later old new p b (y t))
-    (λ y. λ t. absurd (never_refused fault.TrimFull true t))
+    w _ old new r same (λ p. λ b. λ y. λ t. at_later old new p b (y t))
+    (λ f. λ mine. λ b. λ t. absurd (never_refused f true t))
     (λ from. λ s. λ of. λ at. λ one. acquire_taken did from new n how s (as_semaphore old from of semaphore) at shows
     one) x
 
@@ -393,16 +408,16 @@ pub tries_take_free : (w : WhenFull) (did : Deed → Type 0) (n : ℕ) (old new 
     IsSame old new → IsSound new → Steps w did (Try S n) old new r → TakesFree n old (whether_of r) new
 tries_take_free w did n old new r same shows x = λ semaphore.
     in_room (λ (from : Shown). λ (s : Result Entry Fault). whether_of s ≡ Ok true → AtOwnEntry (IsTaken n) from new)
-    w _ _ old new r same (λ p. λ b. λ y. λ t. at_later old new p b (y t))
-    (λ y. λ t. absurd (never_refused fault.TrimFull true t))
+    w _ old new r same (λ p. λ b. λ y. λ t. at_later old new p b (y t))
+    (λ f. λ mine. λ b. λ t. absurd (never_refused f true t))
     (λ from. λ s. λ of. λ at. λ one. try_taken did from new n s (as_semaphore old from of semaphore) at shows one) x
 
 pub releases_give_free : (w : WhenFull) (did : Deed → Type 0) (n : ℕ) (old new : Shown) (r : Result Entry Fault) →
     IsSame old new → IsSound new → Steps w did (Give S n) old new r → GivesFree n old (whether_of r) new
 releases_give_free w did n old new r same shows x = λ semaphore.
     in_room (λ (from : Shown). λ (s : Result Entry Fault). whether_of s ≡ Ok true → AtOwnEntry (IsGiven n) from new)
-    w _ _ old new r same (λ p. λ b. λ y. λ t. at_later old new p b (y t))
-    (λ y. λ t. absurd (never_refused fault.TrimFull true t))
+    w _ old new r same (λ p. λ b. λ y. λ t. at_later old new p b (y t))
+    (λ f. λ mine. λ b. λ t. absurd (never_refused f true t))
     (λ from. λ s. λ of. λ at. λ one. release_given did from new n s (as_semaphore old from of semaphore) at shows one)
     x
 
@@ -410,7 +425,7 @@ pub drains_take_free : (w : WhenFull) (did : Deed → Type 0) (old new : Shown) 
     IsSame old new → Steps w did Drain old new r → DrainsFree old (number_of r) new
 drains_take_free w did old new r same x =
     in_room (λ (from : Shown). λ (s : Result Entry Fault). DrainsFree from (number_of s) new)
-    w _ _ old new r same (λ p. λ b. λ y. later p b (number_of r) y) (λ y. tt)
+    w _ old new r same (λ p. λ b. λ y. later p b (number_of r) y) (λ f. λ mine. λ b. tt)
     (λ from. λ s. λ of. λ at. λ one. drain_taken did from new s one) x
   where
     later : (p : Point) → Before old.seen p → (z : Result ℕ Fault) → DrainsFree (at_point old p) z new →

@@ -29,17 +29,15 @@ pub use Rattle.history.specs.Start.{Sleep, Start, opening}
 pub use Rattle.history.specs.Steps.{plain, gave, awaits, signals, at_most_one, at_least_none, ended, phase_entry, entry_for}
 pub use Rattle.monitor.specs.declared.how.How.{How}
 pub use Rattle.monitor.specs.declared.how.How.TheVariants.{Plain, Interruptible, Timed}
-pub use Rattle.monitor.specs.declared.room.WhenFull.{WhenFull}
-pub use Rattle.monitor.specs.declared.room.WhenFull.TheVariants.{Refuse, Trim}
+pub use Rattle.monitor.specs.declared.machine.Request.{Request}
 pub use Rattle.monitor.specs.Acquire.{has_time, is_timed, first_step, EndsAtOnce, AtOnce, IsAtOnce, IsEndFor, IsAcquire}
 pub use Rattle.monitor.specs.AwaitOn.{IsAwaitRefused, LapsesAndReturns, ReturnsSignalled, IsAwait}
 pub use Rattle.monitor.specs.Lawful.{view_of, start_at, IsLawful}
 pub use Rattle.monitor.specs.Load.{holds_of, free_of}
-pub use Rattle.monitor.specs.Room.{at_point, InRoom, IsEnteredIn, IsCallIn}
+pub use Rattle.monitor.specs.Machine.{IsCall}
 pub use Rattle.monitor.specs.Shown.{Shown, IsSound, opening_pass, opening_passes}
-pub use Rattle.monitor.specs.Stepping.{IsSame, IsStep, IsEntered}
+pub use Rattle.monitor.specs.Stepping.{IsSame, IsStep, IsEntered, IsTrim}
 pub use Rattle.monitor.specs.Waits.{asking, with_entry, IsMade}
 pub use Rattle.permit.specs.Deed.{Deed, showed}
-pub use Rattle.word_lock.specs.Point.{fold_of}
 unfoldable pub use Rattle.word_lock.specs.Point.{header_of, Before}
 pub use Rattle.word_lock.specs.Ticket.{LockId}

@@ -4,16 +4,13 @@
 -- With Refuse it is the call of the monitor. If the history is full, the reply is HistoryFull, and nothing
 -- was recorded.
 --
--- With Trim it is one of three:
--- - There was room. It is the call of the monitor, and its reply is not HistoryFull.
--- - There was none. All entries were folded into the base, and it is the call of the monitor from there. Its
---   reply is HistoryFull only if a history without entries has no room.
--- - There was none, and more entries would be folded than there may be. The reply is TrimFull, and nothing
---   was recorded.
---
--- What the call found may itself be a fold, of a turn before. The code makes none.
+-- With Trim the call is made anew after a trim, as often as it finds the history full. It gives up if a history without
+-- entries has no room: the reply is HistoryFull. It gives up too if more entries would be folded than there may be: the
+-- reply is TrimFull. Then nothing was recorded.
 use Rattle.std.specs.Prelude.{◌≡◌, ◌-◌, ◌^◌, min, ℕ, Result}
-use Rattle.monitor_fronts.specs.Below.{Entry, Mode, Fault, Step, Deed, showed, IsCallIn, IsEnteredIn, Shown, How, Timed, WhenFull}
+use Rattle.monitor_fronts.specs.Below.{Entry, Mode, Fault, Step, Deed, showed, Shown, How, Timed}
+use Rattle.monitor_fronts.specs.Room.{IsCallIn, IsEnteredIn}
+use Rattle.monitor_fronts.specs.declared.room.WhenFull.{WhenFull}
 use Rattle.monitor.specs.declared.machine.Request.TheVariants as request
 
 -- an acquire of `n` in a mode, which waits as `how` says

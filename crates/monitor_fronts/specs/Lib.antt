@@ -1,7 +1,9 @@
 pub mod Below
+pub mod Room
 pub mod Returned
 pub mod FrontCalls
 pub mod Holding
 pub mod OwnEntry
 pub mod Permits
 pub mod CountingDown
+pub mod inner

@@ -1,24 +1,24 @@
 //! A count that goes down to 0, and threads that wait for that.
 ghost use Rattle.std.specs.Prelude.{◌≡◌, IfOk, Ok, false, true};
 ghost use Rattle.history.specs.Object.{is_latch};
-ghost use Rattle.history.specs.Phase.{waits};
 ghost use Rattle.history.specs.declared.entry.Mode.TheVariants.{S};
 ghost use Rattle.history.specs.declared.step.Step.TheVariants.{Give};
 ghost use Rattle.monitor.specs.Calling.{CanCall, Called};
 ghost use Rattle.monitor.specs.declared.how.How.TheVariants.{Interruptible, Timed};
-ghost use Rattle.monitor.specs.declared.room.WhenFull.TheVariants.{Trim};
+ghost use Rattle.monitor_fronts.specs.declared.room.WhenFull.TheVariants.{Trim};
 ghost use Rattle.monitor_fronts.specs.CountingDown.{CountsDown, FallsBy, IsOpen, WasShut};
 ghost use Rattle.monitor_fronts.specs.FrontCalls.{Acquires, LastsUntil, Steps};
 ghost use Rattle.monitor_fronts.specs.Holding.{gained, with_yes};
 ghost use Rattle.monitor_fronts.specs.Returned.{ReturnedAs, done_of, whether_of};
 
 use crate::returned::{done, whether};
+use crate::room::{WhenFull, call_in_room, enter_in_room};
 use crate::until::milliseconds_left;
 use counting::latch::LatchHooks;
 use history::entry::{Entry, Mode};
 use history::fault::Fault;
 use history::step::Step;
-use monitor::{Empty, How, Monitor, Pass, WhenFull};
+use monitor::{Empty, How, Monitor, Pass, Request};
 use permit::Parking;
 use std::sync::Wait;
 use std::time::Clock;
@@ -131,7 +131,16 @@ impl<'m> Latch<'m> {
         ensures counts { CountsDown pass.old (with_yes result) pass.new }
         ensures falls { FallsBy (gained (with_yes result)) pass.old pass.new }
     {
-        done(self.enter(rt, parking, pass, Step::Give(Mode::S, 1)))
+        let step = Step::Give(Mode::S, 1);
+        done(enter_in_room(
+            self.monitor,
+            rt,
+            parking,
+            pass,
+            &mut Empty {},
+            step,
+            self.when_full,
+        ))
     }
 
     // An acquire, which makes room if this front trims.
@@ -146,32 +155,16 @@ impl<'m> Latch<'m> {
         ensures called { Called pass.old pass.new }
         ensures acquired { Acquires self.now.when_full (P.did parking.now) S 1 how pass.old pass.new result }
     {
-        self.monitor.acquire_with(
+        let request = Request::Acquire(Mode::S, 1);
+        call_in_room(
+            self.monitor,
             rt,
             parking,
             pass,
             &mut Empty {},
-            Mode::S,
-            1,
+            request,
             how,
             self.when_full,
         )
-    }
-
-    // A step that doesn't wait, which makes room if this front trims.
-    fn enter<P: Parking, R: Wait + Clock>(
-        &self,
-        rt: &R,
-        parking: &P,
-        pass: &mut Pass,
-        step: Step,
-    ) -> Result<Entry, Fault>
-        requires can { CanCall self.now.monitor.now (P.seats parking.now) pass.old }
-        requires idle { waits step ≡ false }
-        ensures called { Called pass.old pass.new }
-        ensures entered { Steps self.now.when_full (P.did parking.now) step pass.old pass.new result }
-    {
-        self.monitor
-            .enter(rt, parking, pass, &mut Empty {}, step, self.when_full)
     }
 }

@@ -9,18 +9,18 @@ ghost use Rattle.monitor.specs.Calling.{CanCall, Called};
 ghost use Rattle.monitor.specs.inner.Load.{is_signal};
 ghost use Rattle.monitor.specs.Stepping.{IsEntered};
 ghost use Rattle.monitor.specs.declared.how.How.TheVariants.{Plain, Interruptible, Timed};
-ghost use Rattle.monitor.specs.declared.room.WhenFull.TheVariants.{Trim};
+ghost use Rattle.monitor_fronts.specs.declared.room.WhenFull.TheVariants.{Trim};
 ghost use Rattle.monitor_fronts.specs.FrontCalls.{Acquires, Awaits, LastsUntil, Steps};
 ghost use Rattle.monitor_fronts.specs.Holding.{AddsIn, TakesIn, holds, with_yes};
 ghost use Rattle.monitor_fronts.specs.Returned.{ReturnedAs, done_of, whether_of};
 
-use crate::lock::wait_as;
 use crate::returned::{done, whether};
+use crate::room::{WhenFull, call_in_room, enter_in_room};
 use crate::until::milliseconds_left;
 use history::entry::{Entry, Mode};
 use history::fault::Fault;
 use history::step::Step;
-use monitor::{Empty, How, Monitor, Pass, WhenFull};
+use monitor::{Empty, How, Monitor, Pass, Request};
 use permit::Parking;
 use read_write::hooks::RwHooks;
 use std::sync::Wait;
@@ -180,15 +180,7 @@ impl<'m> ReadWriteLock<'m> {
             (Awaits self.now.when_full (P.did parking.now) condition Interruptible pass.old pass.new) result }
         ensures keeps { holds pass.new ≡ holds pass.old }
     {
-        done(wait_as(
-            self.monitor,
-            rt,
-            parking,
-            pass,
-            condition,
-            How::Interruptible,
-            self.when_full,
-        ))
+        done(self.wait_as(rt, parking, pass, condition, How::Interruptible))
     }
 
     /// `Condition.awaitUninterruptibly()` of the condition of this number.
@@ -205,15 +197,7 @@ impl<'m> ReadWriteLock<'m> {
             (Awaits self.now.when_full (P.did parking.now) condition Plain pass.old pass.new) result }
         ensures keeps { holds pass.new ≡ holds pass.old }
     {
-        done(wait_as(
-            self.monitor,
-            rt,
-            parking,
-            pass,
-            condition,
-            How::Plain,
-            self.when_full,
-        ))
+        done(self.wait_as(rt, parking, pass, condition, How::Plain))
     }
 
     /// `Condition.await(time, unit)` of the condition of this number: whether it was signalled within `ms`
@@ -232,15 +216,7 @@ impl<'m> ReadWriteLock<'m> {
             (Awaits self.now.when_full (P.did parking.now) condition (Timed ms) pass.old pass.new) result }
         ensures keeps { holds pass.new ≡ holds pass.old }
     {
-        whether(wait_as(
-            self.monitor,
-            rt,
-            parking,
-            pass,
-            condition,
-            How::Timed(ms),
-            self.when_full,
-        ))
+        whether(self.wait_as(rt, parking, pass, condition, How::Timed(ms)))
     }
 
     /// [`write_wait_for`](ReadWriteLock::write_wait_for) until a moment on the clock of the parking, which
@@ -416,13 +392,42 @@ impl<'m> ReadWriteLock<'m> {
             result }
         ensures gains { AddsIn mode pass.old (whether_of result) pass.new }
     {
-        self.monitor.acquire_with(
+        let request = Request::Acquire(mode, 1);
+        call_in_room(
+            self.monitor,
             rt,
             parking,
             pass,
             &mut Empty {},
-            mode,
-            1,
+            request,
+            how,
+            self.when_full,
+        )
+    }
+
+    // An await, which makes room if this front trims.
+    fn wait_as<P: Parking, R: Wait + Clock>(
+        &self,
+        rt: &R,
+        parking: &P,
+        pass: &mut Pass,
+        condition: u8,
+        how: How,
+    ) -> Result<Entry, Fault>
+        requires can { CanCall self.now.monitor.now (P.seats parking.now) pass.old }
+        ensures called { Called pass.old pass.new }
+        ensures awaited { Awaits self.now.when_full (P.did parking.now) condition how pass.old pass.new
+            result }
+        ensures keeps { holds pass.new ≡ holds pass.old }
+    {
+        let request = Request::AwaitOn(condition);
+        call_in_room(
+            self.monitor,
+            rt,
+            parking,
+            pass,
+            &mut Empty {},
+            request,
             how,
             self.when_full,
         )
@@ -443,7 +448,14 @@ impl<'m> ReadWriteLock<'m> {
         ensures gains { (m : Mode) → step ≡ Try m 1 → AddsIn m pass.old (whether_of result) pass.new }
         ensures keeps { is_signal step ≡ true → holds pass.new ≡ holds pass.old }
     {
-        self.monitor
-            .enter(rt, parking, pass, &mut Empty {}, step, self.when_full)
+        enter_in_room(
+            self.monitor,
+            rt,
+            parking,
+            pass,
+            &mut Empty {},
+            step,
+            self.when_full,
+        )
     }
 }

@@ -5,7 +5,7 @@ ghost use Rattle.history.specs.declared.entry.Mode.TheVariants.{S};
 ghost use Rattle.history.specs.declared.step.Step.TheVariants.{Try, Give, Drain};
 ghost use Rattle.monitor.specs.Calling.{CanCall, Called};
 ghost use Rattle.monitor.specs.declared.how.How.TheVariants.{Plain, Interruptible, Timed};
-ghost use Rattle.monitor.specs.declared.room.WhenFull.TheVariants.{Trim};
+ghost use Rattle.monitor_fronts.specs.declared.room.WhenFull.TheVariants.{Trim};
 ghost use Rattle.monitor_fronts.specs.FrontCalls.{Acquires, LastsUntil, Steps};
 ghost use Rattle.monitor_fronts.specs.Holding.{with_yes};
 ghost use Rattle.monitor_fronts.specs.Permits.{DrainsFree, DrainsPermits, GivesFree, GivesPermits};
@@ -13,12 +13,13 @@ ghost use Rattle.monitor_fronts.specs.Permits.{TakesFree, TakesPermits};
 ghost use Rattle.monitor_fronts.specs.Returned.{ReturnedAs, done_of, number_of, whether_of};
 
 use crate::returned::{done, number, whether};
+use crate::room::{WhenFull, call_in_room, enter_in_room};
 use crate::until::milliseconds_left;
 use counting::semaphore::SemaphoreHooks;
 use history::entry::{Entry, Mode};
 use history::fault::Fault;
 use history::step::Step;
-use monitor::{Empty, How, Monitor, Pass, WhenFull};
+use monitor::{Empty, How, Monitor, Pass, Request};
 use permit::Parking;
 use std::sync::Wait;
 use std::time::Clock;
@@ -203,13 +204,14 @@ impl<'m> Semaphore<'m> {
         ensures called { Called pass.old pass.new }
         ensures acquired { Acquires self.now.when_full (P.did parking.now) S n how pass.old pass.new result }
     {
-        self.monitor.acquire_with(
+        let request = Request::Acquire(Mode::S, n);
+        call_in_room(
+            self.monitor,
             rt,
             parking,
             pass,
             &mut Empty {},
-            Mode::S,
-            n,
+            request,
             how,
             self.when_full,
         )
@@ -228,7 +230,14 @@ impl<'m> Semaphore<'m> {
         ensures called { Called pass.old pass.new }
         ensures entered { Steps self.now.when_full (P.did parking.now) step pass.old pass.new result }
     {
-        self.monitor
-            .enter(rt, parking, pass, &mut Empty {}, step, self.when_full)
+        enter_in_room(
+            self.monitor,
+            rt,
+            parking,
+            pass,
+            &mut Empty {},
+            step,
+            self.when_full,
+        )
     }
 }

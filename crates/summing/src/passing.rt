@@ -43,7 +43,7 @@ fn takes_again(ledger: &Ledger, entry: Entry) -> bool
 }
 
 /// Returns whether an entry acquires at once, and not again.
-pub(crate) fn takes_anew(ledger: &Ledger, entry: Entry) -> bool
+pub fn takes_anew(ledger: &Ledger, entry: Entry) -> bool
     requires { HasSeat ledger.now entry.seat }
     ensures { (s : Start) (h : List Entry) → LedgerStand s h ledger.now → result ≡ takes_anew s entry h }
 {

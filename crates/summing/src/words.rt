@@ -58,7 +58,7 @@ pub(crate) fn is_await(word: Word) -> bool
 }
 
 /// Returns whether one waiter of a condition was signalled, or all.
-pub(crate) fn is_signal(word: Word) -> bool
+pub fn is_signal(word: Word) -> bool
     ensures { result ≡ is_signal word }
 {
     match word {

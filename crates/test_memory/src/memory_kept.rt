@@ -112,7 +112,7 @@ const BASED: [(&[u8], bool); 4] = [
     (WRONG, false),
 ];
 
-const OPENED: [Play; 14] = [
+const OPENED: [Play; 13] = [
     Play::Steps(STEPS),
     Play::Script(SCRIPT),
     Play::Run,
@@ -131,7 +131,6 @@ const OPENED: [Play; 14] = [
     Play::Latch,
     Play::Threads,
     Play::Scripted,
-    Play::Bars,
 ];
 
 /// Texts with trims, and histories on a base or not legal.

@@ -9,12 +9,9 @@ use crate::streamed::{Came, Stream, through};
 use crate::texts::{HISTORY, SCRIPT, STEPS};
 use acquire_queue::queue::Queue;
 use condition_queue::waiters::Waiters;
-use deciding::entries::plain;
-use drawing::drawn_entries::drawn_of;
 use frame::acts::Act;
 use history::base::Base;
 use history::entries::History;
-use history::entry::{Mode, Word};
 use history::fault::Fault;
 use history::header::{Header, Object, Policy};
 use history::step::Step;
@@ -25,7 +22,7 @@ use node_arena::node_list::NodeList;
 use permit::{ScriptedParking, ThreadParking};
 use read_write::hooks::RwHooks;
 use script::{ScriptFault, read_script};
-use std::alloc::{AllocError, Global};
+use std::alloc::Global;
 use std::time::Clock;
 use steps::read_steps;
 use streams::device::Device;
@@ -45,8 +42,6 @@ pub enum Play<'a> {
     /// Bytes are read whole.
     Bytes(&'a [u8]),
     Script(&'a [u8]),
-    /// Bars of two entries.
-    Bars,
     /// A core performs many steps in one run.
     Run,
     /// The same as a list of acts.
@@ -141,15 +136,6 @@ const THREE_SEATS: Header = Header {
     cap: 64,
 };
 
-fn bars(alloc: Global) -> Came {
-    let got = plain(0, Word::Got, Mode::X, 1);
-    let gave = plain(0, Word::Gave, Mode::X, 1);
-    match drawn_of(alloc, THREE_SEATS, None, 0, &[got, gave]) {
-        Ok(drawn) => Ok(drawn.bars.len() == 1),
-        Err(AllocError) => Err(StreamFault::Memory),
-    }
-}
-
 /// Performs many looks of a core in one run. Each fails with a fault, and none allocates.
 fn look(alloc: Global, core: &mut AnyCore, by_acts: bool) -> Came {
     if by_acts {
@@ -198,7 +184,6 @@ fn front(alloc: Global, what: Play) -> Came {
 pub fn perform(rt: &(impl AllocGlobal + Clock), what: Play, out: &mut Vec<u8>) -> Came {
     let alloc = rt.alloc();
     match what {
-        Play::Bars => bars(alloc),
         Play::Run => opened_and_run(alloc, false),
         Play::RunActs => opened_and_run(alloc, true),
         Play::Core(header) => opened(AnyCore::open(alloc, &header)),

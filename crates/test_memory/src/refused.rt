@@ -160,7 +160,6 @@ fn monitors_and_parkings_are_opened_whole_or_not_at_all(rt: HostRuntime) -> Resu
             Row(Play::Latch, FINE, 260, 300),
             Row(Play::Threads, 64, 8, 18),
             Row(Play::Scripted, 32, 30, 64),
-            Row(Play::Bars, FINE, 5, 1100),
         ],
     )?;
     Ok(())

@@ -1,14 +1,14 @@
 -- The laws of points. The proof of the lock rests on the first six, and on none of the definitions.
-use Rattle.std.proofs.Common.{◌≡◌, ◌≢◌, inl, inr, ℕ, ◌+◌, ◌-◌, List, [], ◌∷◌, ◌++◌, length, take, refl, ap, sym, ◌∙◌, subst, arith, append-nil, length-append}
+use Rattle.std.proofs.Common.{◌≡◌, ◌≢◌, inl, inr, ℕ, ◌+◌, ◌-◌, List, [], ◌∷◌, ◌++◌, length, take, refl, ap, sym, ◌∙◌, subst, arith, length-append}
 use Rattle.std.specs.List.{AllByRecursion}
-use Rattle.std.proofs.Math.Seq.{take-append_seam, take-length}
+use Rattle.std.proofs.Math.Seq.{take-append_seam, take-nil}
 use Rattle.history.specs.declared.entry.Entry.{Entry}
 use Rattle.history.specs.declared.header.Header.{Header}
 use Rattle.history.specs.declared.point.Point.{Point}
 use Rattle.history.specs.Base.{Base, folded, opening_base}
 use Rattle.history.specs.Point.{CanFold}
 use Rattle.history.proofs.Points.{agrees_folded, agrees_grown, agrees_opened, all_of, further_point, none_of_other, same_point}
-use Rattle.word_lock.specs.Point.{header_of, Before, Agrees, added, AllOfSeat, Follows, fold_of}
+use Rattle.word_lock.specs.Point.{header_of, Before, Agrees, added, AllOfSeat, Follows}
 
 -- what stands in front of an old list, where so many entries were folded before
 front_is : {A : Type 0} (n : ℕ) (old new more : List A) → new ≡ more ++ old →
@@ -44,9 +44,8 @@ unfolding Agrees Follows AllOfSeat
 follows_own seat p q es (inl grown) a =
     agrees_grown p q seat (added p q) (added p q) es grown.0 grown.1 (all_of seat (added p q) grown.2) a
 follows_own seat p q es (inr folds) a =
-    agrees_grown (fold_of p) q seat (added p q) (added p q) es folds.1 (folds.2 ∙ sym (append-nil (added p q)))
-    (all_of seat (added p q) folds.3)
-    (agrees_folded p (fold_of p) seat es folds.0 refl refl a)
+    subst (λ (more : List Entry). Agrees q seat (more ++ es)) (sym folds.3)
+    (agrees_folded p q seat es folds.0 folds.1 folds.2 a)
 
 -- what another seat had is what it has
 pub follows_other : (seat other : ℕ) (p q : Point) (es : List Entry) → Follows seat p q → other ≢ seat →
@@ -56,9 +55,7 @@ follows_other seat other p q es (inl grown) apart a =
     agrees_grown p q other (added p q) [] es grown.0 grown.1
     (none_of_other seat other (added p q) (λ is. apart (sym is)) grown.2) a
 follows_other seat other p q es (inr folds) apart a =
-    agrees_grown (fold_of p) q other (added p q) [] es folds.1 (folds.2 ∙ sym (append-nil (added p q)))
-    (none_of_other seat other (added p q) (λ is. apart (sym is)) folds.3)
-    (agrees_folded p (fold_of p) other es folds.0 refl refl a)
+    agrees_folded p q other es folds.0 folds.1 folds.2 a
 
 -- a point as it is opened has no entry of any seat
 pub agrees_empty : (k : Header) (seat : ℕ) (p : Point) → p.base ≡ opening_base k → p.entries ≡ [] →
@@ -73,17 +70,12 @@ added_more p q more base e =
     ap (λ (b : Base). take ((b.entries + length q.entries) - (p.base.entries + length p.entries)) q.entries) (sym base)
     ∙ front_is p.base.entries p.entries q.entries more e
 
--- what stands behind a fold was added
-pub added_behind : (p q : Point) (more : List Entry) → q.base ≡ folded p.base p.entries → q.entries ≡ more →
-    added p q ≡ more
+-- nothing stands behind a fold
+pub added_none : (p q : Point) → q.entries ≡ [] → added p q ≡ []
 unfolding added
-added_behind p q more base e =
-    ap (λ (b : Base). take ((b.entries + length q.entries) - (p.base.entries + length p.entries)) q.entries) base
-    ∙ (ap (λ (n : ℕ). take n q.entries) count ∙ (take-length q.entries ∙ e))
-  where
-    count : ((p.base.entries + length p.entries) + length q.entries) - (p.base.entries + length p.entries)
-        ≡ length q.entries
-    count = omega arith
+added_none p q none =
+    ap (λ (es : List Entry). take ((q.base.entries + length q.entries) - (p.base.entries + length p.entries)) es) none
+    ∙ take-nil ((q.base.entries + length q.entries) - (p.base.entries + length p.entries))
 
 -- entries of the seat were added
 pub follows_more : (seat : ℕ) (p q : Point) (more : List Entry) → p.base ≡ q.base →
@@ -106,22 +98,8 @@ pub follows_push : (seat : ℕ) (p q : Point) (e : Entry) → e.seat ≡ seat �
     q.entries ≡ e ∷ p.entries → Follows seat p q
 follows_push seat p q e own base list = follows_more seat p q (e ∷ []) base list (own, tt)
 
--- the list was folded, and entries of the seat were added behind the fold
-pub follows_behind : (seat : ℕ) (p q : Point) (more : List Entry) → CanFold p.base p.entries →
-    q.base ≡ folded p.base p.entries → q.entries ≡ more → AllByRecursion (λ e. e.seat ≡ seat) more →
-    Follows seat p q
-unfolding Follows AllOfSeat
-follows_behind seat p q more can base list own =
-    let same = sym (added_behind p q more base list) in
-    inr (
-      can,
-      base,
-      list ∙ same,
-      subst (λ (es : List Entry). AllByRecursion (λ e. e.seat ≡ seat) es) same own,
-    )
-
 -- the list was folded
 pub follows_fold : (seat : ℕ) (p q : Point) → CanFold p.base p.entries → q.base ≡ folded p.base p.entries →
     q.entries ≡ [] → (Follows seat p q) × (added p q ≡ [])
-follows_fold seat p q can base none =
-    (follows_behind seat p q [] can base none tt, added_behind p q [] base none)
+unfolding Follows
+follows_fold seat p q can base none = (inr (can, base, none, added_none p q none), added_none p q none)

@@ -34,12 +34,12 @@ added p q = take (entries_at q - entries_at p) q.entries
 unfoldable pub AllOfSeat : ℕ → List Entry → Type 0
 AllOfSeat seat es = AllByRecursion (λ e. e.seat ≡ seat) es
 
--- A seat that took p may put back q: entries of the seat were added to the list, or to its fold.
+-- A seat that took p may put back q: entries of the seat were added to the list, or the list was folded and nothing was
+-- added.
 unfoldable pub Follows : ℕ → Point → Point → Type 0
 Follows seat p q =
     ((q.base ≡ p.base) × (q.entries ≡ added p q ++ p.entries) × AllOfSeat seat (added p q))
-    ⊎ (CanFold p.base p.entries × (q.base ≡ folded p.base p.entries) × (q.entries ≡ added p q)
-    × AllOfSeat seat (added p q))
+    ⊎ (CanFold p.base p.entries × (q.base ≡ folded p.base p.entries) × (q.entries ≡ []) × (added p q ≡ []))
 
 -- the stand-in for a point that nobody reads
 abbrev pub blank_point : Point
@@ -48,7 +48,3 @@ blank_point =
       base = opening_base (record { object = Latch 0; seats = 0; conditions = 0; cap = 0 });
       entries = [];
     }
-
--- all entries of a point folded
-abbrev pub fold_of : Point → Point
-fold_of p = record { base = folded p.base p.entries; entries = [] }

@@ -2,26 +2,25 @@
 use Rattle.std.specs.Prelude.{◌≡◌, true, Ok}
 use Rattle.monitor.specs.Below.{Recorded, Step, entry_at_once}
 use Rattle.monitor.specs.Load.{leaves_holds}
-use Rattle.monitor.specs.Room.{IsStepIn}
 use Rattle.monitor.specs.Shown.{Shown}
+use Rattle.monitor.specs.Stepping.{IsStep}
 use Rattle.monitor.specs.declared.at_once.AtOnce.{AtOnce}
 use Rattle.monitor.specs.declared.at_once.AtOnce.TheVariants as once
 use Rattle.monitor.specs.declared.at_once.First.{First}
 use Rattle.monitor.specs.declared.at_once.First.TheVariants as first
-use Rattle.monitor.specs.declared.room.WhenFull.{WhenFull}
 
 -- the step was made; if it was done at once, its entry is that of such a step; or nothing has changed
-abbrev pub IsStepAtOnce : WhenFull → Shown → Step → AtOnce → Shown → Type 0
-IsStepAtOnce w old step (once.Done name) new =
-    IsStepIn w old step (Ok (Recorded (entry_at_once old.seat step) name)) new
-IsStepAtOnce w old step (once.Otherwise r) new = IsStepIn w old step r new
-IsStepAtOnce w old step once.Busy new = new ≡ old
+abbrev pub IsStepAtOnce : Shown → Step → AtOnce → Shown → Type 0
+IsStepAtOnce old step (once.Done name) new =
+    IsStep old step (Ok (Recorded (entry_at_once old.seat step) name)) new
+IsStepAtOnce old step (once.Otherwise r) new = IsStep old step r new
+IsStepAtOnce old step once.Busy new = new ≡ old
 
 -- the same of a step that waits for the object
-abbrev pub IsStepFirst : WhenFull → Shown → Step → First → Shown → Type 0
-IsStepFirst w old step (first.Done name) new =
-    IsStepIn w old step (Ok (Recorded (entry_at_once old.seat step) name)) new
-IsStepFirst w old step (first.Otherwise r) new = IsStepIn w old step r new
+abbrev pub IsStepFirst : Shown → Step → First → Shown → Type 0
+IsStepFirst old step (first.Done name) new =
+    IsStep old step (Ok (Recorded (entry_at_once old.seat step) name)) new
+IsStepFirst old step (first.Otherwise r) new = IsStep old step r new
 
 -- who slept at the object was woken, unless it was busy
 abbrev pub Wakes : AtOnce → Type 0 → Type 0

@@ -3,9 +3,8 @@ use Rattle.std.specs.Prelude.{◌≡◌, ℕ, Result}
 use Rattle.monitor.specs.Below.{CoreView, Fault, Answer, Step, Before, AllAgree, Ticket, after_lock}
 use Rattle.monitor.specs.Calling.{Called}
 use Rattle.monitor.specs.Lawful.{IsLawfulCore, point_of}
-use Rattle.monitor.specs.Room.{IsStepIn}
 use Rattle.monitor.specs.Shown.{IsPass, shown}
-use Rattle.monitor.specs.declared.room.WhenFull.{WhenFull}
+use Rattle.monitor.specs.Stepping.{IsStep}
 
 -- The token of a pass took this core. It was `t`, and has been `o` since.
 pub record Taking (t o : Ticket) (v : CoreView) (seat share : ℕ) : Type 0 where
@@ -16,8 +15,8 @@ pub record Taking (t o : Ticket) (v : CoreView) (seat share : ℕ) : Type 0 wher
   pub kept : IsLawfulCore v
 
 -- The token is that of a pass again, which has made one step since it was `t`.
-pub record Went (w : WhenFull) (t n : Ticket) (seat share next : ℕ) (step : Step) (r : Result Answer Fault) :
+pub record Went (t n : Ticket) (seat share next : ℕ) (step : Step) (r : Result Answer Fault) :
     Type 0 where
   pub pass : IsPass n seat next
   pub called : Called (shown t seat share) (shown n seat next)
-  pub stepped : IsStepIn w (shown t seat share) step r (shown n seat next)
+  pub stepped : IsStep (shown t seat share) step r (shown n seat next)

@@ -1,7 +1,6 @@
 use Rattle.word_lock.specs.Held.{held_ticket}
-use Rattle.monitor.proofs.FastWay.{follows_by, went}
-use Rattle.monitor.proofs.Rooms.{around}
-use Rattle.monitor.proofs.Taking.{seat_taken, share_fits}
+use Rattle.monitor.proofs.Around.{around, went}
+use Rattle.monitor.proofs.Taking.{follows_made, seat_taken, share_fits}
 use Rattle.monitor.proofs.section.signal_taken.Goals as goal
 
 pub signal-told-requires-clause-seat : goal.signal-told-requires-clause-seat
@@ -10,9 +9,9 @@ signal-told-requires-clause-seat g c = seat_taken _ _ _ _ _ c.requires.taken.1
 pub unlock_quietly-requires-clause-follows : goal.unlock_quietly-requires-clause-follows
 unlock_quietly-requires-clause-follows g c =
     let k = c.requires.taken.1 in
-    follows_by c.args.when_full c.requires.taken.0 (held_ticket c.args.held) _ c.args.held.value.laden.value.core
+    follows_made c.requires.taken.0 (held_ticket c.args.held) c.args.held.value.laden.value.core
     c.signal-told.new.self.laden.value.core c.args.seat c.args.share.now c.args.step c.signal-told.result k.taken
-    k.was k.kept c.signal-told.ensures.kept c.signal-told.ensures.stepped
+    k.was k.kept c.signal-told.ensures.kept c.signal-told.ensures.stepped.answered
 
 pub share_behind-requires : goal.share_behind-requires
 share_behind-requires g c = share_fits _ _ _ c.requires.taken.1.was
@@ -20,8 +19,8 @@ share_behind-requires g c = share_fits _ _ _ c.requires.taken.1.was
 pub returns : goal.returns
 returns g c = record {
   went = λ t k.
-      went c.args.when_full t (held_ticket c.args.held) c.unlock_quietly.new.token c.args.held.value.laden.value.core
+      went t (held_ticket c.args.held) c.unlock_quietly.new.token c.args.held.value.laden.value.core
       c.signal-told.new.self.laden.value.core c.args.seat c.args.share.now
-      (around t _ _ _ _ _ _ k c.unlock_quietly.ensures c.signal-told.ensures.kept) _ c.args.step c.signal-told.result
+      (around t _ _ _ _ _ _ k c.unlock_quietly.ensures c.signal-told.ensures.kept) c.args.step c.signal-told.result
       c.signal-told.ensures.stepped c.share_behind.result c.share_behind.ensures;
 }

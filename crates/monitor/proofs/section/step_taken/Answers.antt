@@ -1,9 +1,8 @@
 use Rattle.std.proofs.Common.{ap}
 use Rattle.monitor.specs.Below.{held_ticket, Ticket}
 use Rattle.monitor.specs.inner.Sections.{Taking, Went}
-use Rattle.monitor.proofs.FastWay.{follows_by, moves_by, went}
-use Rattle.monitor.proofs.Rooms.{around}
-use Rattle.monitor.proofs.Taking.{carries_left, carries_taken, seat_taken, share_fits}
+use Rattle.monitor.proofs.Around.{around, moves_by, went}
+use Rattle.monitor.proofs.Taking.{carries_left, carries_taken, follows_made, seat_taken, share_fits}
 use Rattle.monitor.proofs.section.step_taken.Goals as goal
 
 pub step-answer-requires-clause-seat : goal.step-answer-requires-clause-seat
@@ -16,20 +15,20 @@ step-answer-requires-clause-carries g c =
 pub unlock_quietly-requires-clause-follows : goal.unlock_quietly-requires-clause-follows
 unlock_quietly-requires-clause-follows g c =
     let k = c.requires.taken.1 in
-    follows_by c.args.when_full c.requires.taken.0 (held_ticket c.args.held) _ c.args.held.value.laden.value.core
+    follows_made c.requires.taken.0 (held_ticket c.args.held) c.args.held.value.laden.value.core
     c.step-answer.new.self.laden.value.core c.args.seat c.args.share.now c.args.step c.step-answer.result k.taken k.was
-    k.kept c.step-answer.ensures.kept c.step-answer.ensures.stepped
+    k.kept c.step-answer.ensures.kept c.step-answer.ensures.stepped.answered
 
 pub share_behind-requires : goal.share_behind-requires
 share_behind-requires g c = share_fits _ _ _ c.requires.taken.1.was
 
 gone : (g : _) (c : goal.After-share_behind g) (t : Ticket) → Taking t (held_ticket c.args.held)
-    c.args.held.value.laden.value.core c.args.seat c.args.share.now → Went c.args.when_full t c.unlock_quietly.new.token
+    c.args.held.value.laden.value.core c.args.seat c.args.share.now → Went t c.unlock_quietly.new.token
     c.args.seat c.args.share.now c.share_behind.result c.args.step c.step-answer.result
 gone g c t k =
-    went c.args.when_full t (held_ticket c.args.held) c.unlock_quietly.new.token c.args.held.value.laden.value.core
+    went t (held_ticket c.args.held) c.unlock_quietly.new.token c.args.held.value.laden.value.core
     c.step-answer.new.self.laden.value.core c.args.seat c.args.share.now
-    (around t _ _ _ _ _ _ k c.unlock_quietly.ensures c.step-answer.ensures.kept) _ c.args.step c.step-answer.result
+    (around t _ _ _ _ _ _ k c.unlock_quietly.ensures c.step-answer.ensures.kept) c.args.step c.step-answer.result
     c.step-answer.ensures.stepped c.share_behind.result c.share_behind.ensures
 
 pub returns-clause-went : goal.returns-clause-went
@@ -43,8 +42,8 @@ returns-clause-carries g c =
 
 pub returns-clause-moves : goal.returns-clause-moves
 returns-clause-moves g c = λ t k.
-    moves_by c.args.when_full t (held_ticket c.args.held) c.unlock_quietly.new.token c.args.held.value.laden.value.core
-    c.step-answer.new.self.laden.value.core c.args.seat c.args.share.now c.share_behind.result
-    (around t _ _ _ _ _ _ k c.unlock_quietly.ensures c.step-answer.ensures.kept) g.L.Load.fit g.L.Load.is_counted
-    g.L.Load.amount
-    c.args.load.now c.step-answer.new.there c.args.step c.step-answer.result c.step-answer.ensures.stepped
+    moves_by t (held_ticket c.args.held) c.unlock_quietly.new.token c.args.held.value.laden.value.core
+    c.step-answer.new.self.laden.value.core c.args.seat c.args.share.now
+    (around t _ _ _ _ _ _ k c.unlock_quietly.ensures c.step-answer.ensures.kept) c.args.step c.step-answer.result
+    c.step-answer.ensures.stepped c.share_behind.result g.L.Load.fit g.L.Load.is_counted g.L.Load.amount
+    c.args.load.now c.step-answer.new.there c.step-answer.ensures.moves

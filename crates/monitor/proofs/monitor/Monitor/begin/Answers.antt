@@ -3,21 +3,21 @@ use Rattle.history.specs.declared.step.Step.{Step}
 use Rattle.monitor.specs.Load.{Brings, LetsGo, given_by, holds_of}
 use Rattle.monitor.specs.Prelude.{IsRefusal, Turn}
 use Rattle.monitor.proofs.Refusals.{refusal_leaves}
-use Rattle.monitor.proofs.RoomTurns.{awake_in, step_in_as}
+use Rattle.monitor.proofs.FirstTurns.{awake_first, step_as}
 use Rattle.monitor.proofs.TurnByTurn.{step_gives_none, step_lets}
 use Rattle.monitor.proofs.monitor.Monitor.begin.Goals as goal
 
 pub first_turn-requires : goal.first_turn-requires
 first_turn-requires g c =
-    awake_in c.args.when_full c.args.pass.now c.step_with-answer.new.pass c.args.request c.args.how
+    awake_first c.args.pass.now c.step_with-answer.new.pass c.args.request c.args.how
     c.args.interrupted c.step_with-answer.result
-    (step_in_as c.args.when_full c.args.pass.now c.step_with-answer.new.pass c.step-step.result _ _
+    (step_as c.args.pass.now c.step_with-answer.new.pass c.step-step.result _ _
     c.step-step.ensures c.step_with-answer.ensures.stepped)
 
 pub returns-clause-begun : goal.returns-clause-begun
 returns-clause-begun g c = (
   c.step_with-answer.result,
-  step_in_as c.args.when_full c.args.pass.now c.step_with-answer.new.pass c.step-step.result _ _
+  step_as c.args.pass.now c.step_with-answer.new.pass c.step-step.result _ _
       c.step-step.ensures c.step_with-answer.ensures.stepped,
   c.first_turn.ensures,
 )

@@ -3,7 +3,8 @@ use Rattle.monitor.specs.Below.{interrupted, LockId}
 use Rattle.monitor.specs.Prelude.{IsRefusal}
 use Rattle.monitor.specs.declared.machine.Next.{Next}
 use Rattle.monitor.proofs.InLine.{woken_as}
-use Rattle.monitor.proofs.RoomTurns.{never_waits_in, place_first_in, refused_in}
+use Rattle.monitor.proofs.FirstTurns.{place_first}
+use Rattle.monitor.proofs.TurnByTurn.{begun_refused, never_waits}
 use Rattle.monitor.proofs.monitor.Monitor.refuse.Goals as goal
 
 pub unpark-requires : goal.unpark-requires
@@ -11,22 +12,20 @@ unpark-requires g c =
     let seats = g.P.Parking.seats c.args.parking.now in
     let lock : c.begin-refusal.new.pass.lock ≡ c.args.self.now =
     c.begin-refusal.ensures.called.same.lock ∙ c.requires.can.is_of in
-    place_first_in c.args.when_full c.args.pass.now c.begin-refusal.new.pass c.args.request
+    place_first c.args.pass.now c.begin-refusal.new.pass c.args.request
     c.args.how 0 true c.begin-refusal.result seats c.begin-refusal.ensures.begun
     c.begin-refusal.ensures.called.shows
     (subst (λ (l : LockId). l.header.seats ≤ seats) (sym lock) c.requires.can.places)
 
 pub unreachable-requires : goal.unreachable-requires
 unreachable-requires g c =
-    never_waits_in c.args.when_full (g.P.Parking.did c.args.parking.now) c.args.pass.now
-    c.begin-refusal.new.pass c.args.request c.args.how 0 c.begin-refusal.result _
+    never_waits c.args.pass.now c.begin-refusal.new.pass c.args.request c.args.how 0 c.begin-refusal.result _
     c.begin-refusal.ensures.begun c.in-Waits.is
 
 pub returns-clause-made : goal.returns-clause-made
 returns-clause-made g c =
-    refused_in c.args.when_full (g.P.Parking.did c.args.parking.now) c.args.pass.now
-    c.begin-refusal.new.pass c.args.request c.args.how 0 c.begin-refusal.result c.in-Ends.reply _
-    c.requires.interrupted c.begin-refusal.ensures.begun
+    begun_refused (g.P.Parking.did c.args.parking.now) c.args.pass.now c.begin-refusal.new.pass c.args.how
+    c.requires.interrupted c.args.request 0 c.begin-refusal.result c.in-Ends.reply _ c.begin-refusal.ensures.begun
     (woken_as (g.P.Parking.did c.args.parking.now) c.args.pass.now c.begin-refusal.new.pass
     c.begin-refusal.result.named c.begin-refusal.new.pass.seen c.begin-refusal.ensures.called.same c.unpark.ensures)
     (λ untold. subst (λ i. g.P.Parking.did c.args.parking.now (interrupted i)) c.requires.taken.0

@@ -1,6 +1,6 @@
 use Rattle.std.proofs.Common.{subst}
 use Rattle.word_lock.specs.Held.{held_ticket}
-use Rattle.monitor.specs.Prelude.{Called, IsStepIn, Shown, shown}
+use Rattle.monitor.specs.Prelude.{Called, IsStep, Shown, shown}
 use Rattle.monitor.specs.inner.Sections.{Taking}
 use Rattle.monitor.proofs.monitor.Monitor.signal_step.Goals.{After-lock-held}
 use Rattle.monitor.proofs.monitor.Monitor.signal_step.Goals as goal
@@ -29,7 +29,7 @@ returns-clause-called g c =
 
 pub returns-clause-stepped : goal.returns-clause-stepped
 returns-clause-stepped g c =
-    subst (λ (s : Shown). IsStepIn c.args.when_full s c.args.step c.signal_taken-answer.result
+    subst (λ (s : Shown). IsStep s c.args.step c.signal_taken-answer.result
     (shown c.signal_taken-answer.new.token c.pass.inside.seat c.signal_taken-answer.new.share))
     c.pass.view_is (c.signal_taken-answer.ensures.went c.pass.inside.token
     (took g (goal.at.returns-clause-stepped g c).After-lock-held)).stepped

@@ -1,10 +1,9 @@
 use Rattle.std.proofs.Common.{rules, ◌≡◌, Ok, ap, sym, subst, ◌∙◌}
 use Rattle.monitor.specs.Below.{Recorded, entry_at_once, CoreView, counts_of, held_ticket, Ticket}
-use Rattle.monitor.specs.Prelude.{Called, LetsGo, Moves, free_of, holds_of, IsStepIn, Shown, shown}
-use Rattle.monitor.specs.inner.CoreSteps.{IsCoreStepBy}
+use Rattle.monitor.specs.Prelude.{Called, LetsGo, Moves, free_of, holds_of, IsStep, Shown, shown}
 use Rattle.monitor.specs.inner.Sections.{Taking, Went}
-use Rattle.monitor.proofs.FastWay.{found_room, moves_by, one_more, went}
-use Rattle.monitor.proofs.Rooms.{Around}
+use Rattle.monitor.proofs.Around.{Around, moves_by, went}
+use Rattle.monitor.proofs.FastWay.{one_more}
 use Rattle.monitor.proofs.Sections.{not_called}
 use Rattle.monitor.proofs.Taking.{carries_left, carries_taken, fit_taken, follows_made, seat_taken, share_fits}
 use Rattle.monitor.proofs.monitor.Monitor.step_at_once.Goals.{After-one_call_more-pass-inside, In-None, In-Some}
@@ -58,26 +57,14 @@ around_it g c =
       left_kept = c.in-Some-step_at_once.ensures.kept;
     }
 
-recorded : (g : _) (c : After-one_call_more-pass-inside g) → IsCoreStepBy c.args.when_full
-    (λ z. Moves g.L.Load.fit g.L.Load.is_counted g.L.Load.amount c.args.load.now (counts_of z).free c.step_at_once.new.there
-    (counts_of c.step_at_once.new.self.laden.value.core).free)
-    c.in-Some.held.value.laden.value.core c.pass.inside.seat c.args.step
-    (Ok (Recorded (entry_at_once c.pass.inside.seat c.args.step) c.in-Some-step_at_once.named))
-    c.step_at_once.new.self.laden.value.core
-recorded g c =
-    found_room c.args.when_full (λ z. Moves g.L.Load.fit g.L.Load.is_counted g.L.Load.amount c.args.load.now (counts_of z).free
-    c.step_at_once.new.there (counts_of c.step_at_once.new.self.laden.value.core).free)
-    c.in-Some.held.value.laden.value.core c.step_at_once.new.self.laden.value.core c.pass.inside.seat c.args.step
-    (entry_at_once c.pass.inside.seat c.args.step) c.in-Some-step_at_once.named
-    c.in-Some-step_at_once.ensures.done c.in-Some-step_at_once.ensures.moves
-
-done : (g : _) (c : After-one_call_more-pass-inside g) → Went c.args.when_full c.pass.inside.token
+done : (g : _) (c : After-one_call_more-pass-inside g) → Went c.pass.inside.token
     c.unlock.new.token c.pass.inside.seat c.pass.inside.share c.one_call_more-pass-inside.result c.args.step
     (Ok (Recorded (entry_at_once c.pass.inside.seat c.args.step) c.in-Some-step_at_once.named))
 done g c =
-    went c.args.when_full c.pass.inside.token (held_ticket c.in-Some.held) c.unlock.new.token
+    went c.pass.inside.token (held_ticket c.in-Some.held) c.unlock.new.token
     c.in-Some.held.value.laden.value.core c.step_at_once.new.self.laden.value.core c.pass.inside.seat
-    c.pass.inside.share (around_it g c) _ c.args.step _ (recorded g c) c.one_call_more-pass-inside.result
+    c.pass.inside.share (around_it g c) c.args.step _ c.in-Some-step_at_once.ensures.done
+    c.one_call_more-pass-inside.result
     (one_more c.pass.inside.seat c.args.step c.in-Some-step_at_once.named c.one_call_more-pass-inside.result
     c.pass.inside.share c.one_call_more-pass-inside.ensures)
 
@@ -88,7 +75,7 @@ invariant_of-pass-in-Some-step_at_once g c =
 pub returns-in-Some-step_at_once-clause-stepped : goal.returns-in-Some-step_at_once-clause-stepped
 returns-in-Some-step_at_once-clause-stepped g c =
     let at = (goal.at.returns-in-Some-step_at_once-clause-stepped g c).After-one_call_more-pass-inside in
-    subst (λ (s : Shown). IsStepIn c.args.when_full s c.args.step
+    subst (λ (s : Shown). IsStep s c.args.step
     (Ok (Recorded (entry_at_once s.seat c.args.step) c.in-Some-step_at_once.named))
     (shown c.unlock.new.token c.pass.inside.seat c.one_call_more-pass-inside.result)) c.pass.view_is
     (done g at).stepped
@@ -112,11 +99,11 @@ returns-in-Some-step_at_once-clause-moves g c =
     subst (λ (s : Shown). Moves g.L.Load.fit g.L.Load.is_counted g.L.Load.amount c.args.load.now (free_of s)
     c.step_at_once.new.there (free_of (shown c.unlock.new.token c.pass.inside.seat c.one_call_more-pass-inside.result)))
     c.pass.view_is
-    (moves_by c.args.when_full c.pass.inside.token (held_ticket c.in-Some.held) c.unlock.new.token
+    (moves_by c.pass.inside.token (held_ticket c.in-Some.held) c.unlock.new.token
     c.in-Some.held.value.laden.value.core c.step_at_once.new.self.laden.value.core c.pass.inside.seat
-    c.pass.inside.share c.one_call_more-pass-inside.result (around_it g at) g.L.Load.fit g.L.Load.is_counted
-    g.L.Load.amount
-    c.args.load.now c.step_at_once.new.there c.args.step _ (recorded g at))
+    c.pass.inside.share (around_it g at) c.args.step _ c.in-Some-step_at_once.ensures.done
+    c.one_call_more-pass-inside.result g.L.Load.fit g.L.Load.is_counted g.L.Load.amount
+    c.args.load.now c.step_at_once.new.there c.in-Some-step_at_once.ensures.moves)
 
 -- one that wasn't
 took_none : (g : _) (c : In-None g) → Taking c.pass.inside.token (held_ticket c.in-Some.held)
@@ -159,7 +146,7 @@ returns-in-None-clause-called g c =
 
 pub returns-in-None-clause-stepped : goal.returns-in-None-clause-stepped
 returns-in-None-clause-stepped g c =
-    subst (λ (s : Shown). IsStepIn c.args.when_full s c.args.step c.step_taken-answer.result
+    subst (λ (s : Shown). IsStep s c.args.step c.step_taken-answer.result
     (shown c.step_taken-answer.new.token c.pass.inside.seat c.step_taken-answer.new.share)) c.pass.view_is
     (c.step_taken-answer.ensures.went c.pass.inside.token
     (took_none g (goal.at.returns-in-None-clause-stepped g c).In-None)).stepped

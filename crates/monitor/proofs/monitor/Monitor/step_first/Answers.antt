@@ -1,5 +1,5 @@
 use Rattle.std.proofs.Common.{ap, subst, sym, ◌∙◌}
-use Rattle.monitor.specs.Prelude.{LetsGo, free_of, holds_of, IsStepIn, Shown}
+use Rattle.monitor.specs.Prelude.{LetsGo, free_of, holds_of, IsStep, Shown}
 use Rattle.monitor.proofs.Freeing.{brings_still, moves_since}
 use Rattle.monitor.proofs.Sections.{called_since}
 use Rattle.monitor.proofs.monitor.Monitor.step_first.Goals as goal
@@ -16,7 +16,7 @@ step_later-requires-clause-fit g c = λ go.
 
 pub returns-in-Busy-clause-stepped : goal.returns-in-Busy-clause-stepped
 returns-in-Busy-clause-stepped g c =
-    subst (λ (p : Shown). IsStepIn c.args.when_full p c.args.step c.step_later.result c.step_later.new.pass)
+    subst (λ (p : Shown). IsStep p c.args.step c.step_later.result c.step_later.new.pass)
     c.in-Busy.ensures.stepped c.step_later.ensures.stepped
 
 pub returns-in-Busy-clause-moves : goal.returns-in-Busy-clause-moves

@@ -1,6 +1,6 @@
 use Rattle.std.proofs.Common.{subst, sym}
 use Rattle.word_lock.specs.Held.{held_ticket}
-use Rattle.monitor.specs.Prelude.{Called, LetsGo, Moves, free_of, holds_of, IsStepIn, Shown, shown}
+use Rattle.monitor.specs.Prelude.{Called, LetsGo, Moves, free_of, holds_of, IsStep, Shown, shown}
 use Rattle.monitor.specs.inner.Sections.{Taking}
 use Rattle.monitor.proofs.Taking.{fit_taken}
 use Rattle.monitor.proofs.monitor.Monitor.step_with.Goals.{After-lock-held}
@@ -39,7 +39,7 @@ returns-clause-called g c =
 
 pub returns-clause-stepped : goal.returns-clause-stepped
 returns-clause-stepped g c =
-    subst (λ (s : Shown). IsStepIn c.args.when_full s c.args.step c.step_taken-answer.result
+    subst (λ (s : Shown). IsStep s c.args.step c.step_taken-answer.result
     (shown c.step_taken-answer.new.token c.pass.inside.seat c.step_taken-answer.new.share))
     c.pass.view_is (c.step_taken-answer.ensures.went c.pass.inside.token
     (took g (goal.at.returns-clause-stepped g c).After-lock-held)).stepped

@@ -1,0 +1,74 @@
+-- The section of the lock around a step of the core.
+use Rattle.std.proofs.Common.{◌≡◌, ℕ, ◌+◌, Bool, Result}
+use Rattle.monitor.specs.Below.{Fault, Answer, Step, ended_calls, opening, CoreView, free, counts_of, made_by, Before, AllAgree, Ticket, first_entries, after_lock, after_unlock}
+use Rattle.monitor.specs.Prelude.{point_of, IsLawfulCore, Moves, free_of, IsPass, shown}
+use Rattle.monitor.specs.inner.CoreSteps.{IsCoreStep}
+use Rattle.monitor.specs.inner.Sections.{Taking, Went}
+use Rattle.monitor.proofs.Freeing.{moves_own, section_frees}
+use Rattle.monitor.proofs.Sections.{Section, answered_shown, called_by, owed_shown, section_pass, section_step, sectioned}
+use Rattle.monitor.proofs.Beside.{beside_of}
+
+-- what was taken, and what is put back
+pub record Around (t o n : Ticket) (v w : CoreView) (seat share : ℕ) : Type 0 where
+  pub taken : o ≡ after_lock t (point_of v)
+  pub given : n ≡ after_unlock o (point_of w)
+  pub was : IsPass t seat share
+  pub begins : Before t.seen (point_of v)
+  pub entries : AllAgree (point_of v) t.logs
+  pub kept : IsLawfulCore v
+  pub left_kept : IsLawfulCore w
+
+pub around : (t o n : Ticket) (v w : CoreView) (seat share : ℕ) → Taking t o v seat share →
+    n ≡ after_unlock o (point_of w) → IsLawfulCore w → Around t o n v w seat share
+around t o n v w seat share k given left_kept = record {
+  taken = k.taken;
+  given = given;
+  was = k.was;
+  begins = k.begins;
+  entries = k.entries;
+  kept = k.kept;
+  left_kept = left_kept;
+}
+
+pub around_step : (t o n : Ticket) (v w : CoreView) (seat share : ℕ) (step : Step) (r : Result Answer Fault) →
+    Around t o n v w seat share → IsCoreStep v seat step r w →
+    Section t o n (point_of v) (point_of w) seat share step r
+around_step t o n v w seat share step r a s = record {
+  taken = a.taken;
+  given = a.given;
+  was = a.was;
+  begins = a.begins;
+  entries = a.entries;
+  beside = beside_of v;
+  beside_left = beside_of w;
+  answered = answered_shown v w seat step r a.kept a.left_kept s.answered;
+  told = s.told;
+  found = a.kept.lawful;
+  lawful = a.left_kept.lawful;
+}
+
+module _ (t o n : Ticket) (v w : CoreView) (seat share : ℕ) (a : Around t o n v w seat share) (step : Step)
+    (r : Result Answer Fault) (s : IsCoreStep v seat step r w) where
+  section_of : Section t o n (point_of v) (point_of w) seat share step r
+  section_of = around_step t o n v w seat share step r a s
+
+  -- the pass afterwards
+  pub went : (next : ℕ) → next ≡ ended_calls (made_by r) + share → Went t n seat share next step r
+  went next is =
+      let pass = section_pass t o n (point_of v) (point_of w) seat share step r section_of next is in
+      record {
+        pass = pass;
+        called = called_by t n (point_of v) (point_of w) seat share next
+            (sectioned t o n (point_of v) (point_of w) seat share step r section_of) pass;
+        stepped = section_step t o n (point_of v) (point_of w) seat share step r section_of next
+            (owed_shown v seat step r a.kept s.owed);
+      }
+
+  -- and what changed hands
+  pub moves_by : (next : ℕ) {A : Type 0} (fit : A → Type 0) (counted : Bool) (amount : A → ℕ) (x y : A) →
+      Moves fit counted amount x (counts_of v).free y (counts_of w).free →
+      Moves fit counted amount x (free_of (shown t seat share)) y (free_of (shown n seat next))
+  moves_by next fit counted amount x y m =
+      moves_own fit counted amount x y (free (opening t.lock.header) (first_entries t.logs))
+      (free (opening n.lock.header) (first_entries n.logs)) (counts_of v).free (counts_of w).free
+      (section_frees t o n (point_of v) (point_of w) seat share step r section_of) m

@@ -1,0 +1,62 @@
+use Rattle.std.proofs.Common.{rules, ◌≡◌, ◌∙◌, true, false, ℕ, refl, sym, subst}
+use Rattle.monitor_fronts.specs.Below.{Mode}
+use Rattle.monitor.proofs.Sections.{called_since}
+use Rattle.monitor_fronts.specs.inner.Room.{is_to_trim}
+use Rattle.monitor_fronts.proofs.Rounds.{again, begin, found_room, gives_up, call_recorded_none, refused_full, trim_holds}
+use Rattle.monitor_fronts.proofs.room.call_in_room.Goals.{After-trim_from}
+use Rattle.monitor_fronts.proofs.room.call_in_room.Goals as goal
+
+pub loop-init : goal.loop-init
+loop-init g c =
+    (tt, tt, begin c.args.when_full _ c.args.pass.now c.is_true.ensures, refl, tt)
+
+pub returns-then-not-is_to_trim-clause-called : goal.returns-then-not-is_to_trim-clause-called
+returns-then-not-is_to_trim-clause-called g c =
+    called_since c.args.pass.now c.loop.pass c.call-reply.new.pass c.loop.invariant.2.called
+    c.call-reply.ensures.called
+
+pub returns-then-not-is_to_trim-clause-made : goal.returns-then-not-is_to_trim-clause-made
+returns-then-not-is_to_trim-clause-made g c =
+    let no : c.is_to_trim.result ≡ false = search rules in
+    found_room c.args.when_full _ c.args.pass.now c.loop.pass c.call-reply.result c.call-reply.new.pass
+    c.loop.invariant.2 c.call-reply.ensures.made (sym c.is_to_trim.ensures ∙ no)
+
+full : (g : _) (c : After-trim_from g) → is_to_trim c.args.when_full c.call-reply.result ≡ true
+full g c = let yes : c.is_to_trim.result ≡ true = search rules in sym c.is_to_trim.ensures ∙ yes
+
+pub loop-preserved : goal.loop-preserved
+loop-preserved g c =
+    let at = (goal.at.loop-preserved g c).After-trim_from in
+    let q = full g at in
+    let trimmed = c.in-Ok.ensures.trimmed in (
+      tt,
+      tt,
+      again c.args.when_full _ c.args.pass.now c.loop.pass c.call-reply.new.pass c.trim_from.new.pass c.call-reply.result
+          c.loop.invariant.2 q c.call-reply.ensures.made c.call-reply.ensures.called
+          (call_recorded_none (g.P.Parking.did c.args.parking.now) c.loop.pass c.args.request c.args.how c.call-reply.result
+          c.args.when_full c.call-reply.new.pass q c.call-reply.ensures.made) c.trim_from.ensures.called
+          trimmed.0 trimmed.1,
+      c.call-reply.ensures.stays (refused_full c.args.when_full c.call-reply.result q) ∙ c.loop.invariant.3,
+      trimmed.2,
+    )
+
+pub returns-in-Err-clause-called : goal.returns-in-Err-clause-called
+returns-in-Err-clause-called g c =
+    called_since c.args.pass.now c.call-reply.new.pass c.trim_from.new.pass
+    (called_since c.args.pass.now c.loop.pass c.call-reply.new.pass c.loop.invariant.2.called c.call-reply.ensures.called)
+    c.trim_from.ensures.called
+
+pub returns-in-Err-clause-made : goal.returns-in-Err-clause-made
+returns-in-Err-clause-made g c =
+    let q = full g (goal.at.returns-in-Err-clause-made g c).After-trim_from in
+    gives_up c.args.when_full _ c.args.pass.now c.loop.pass c.call-reply.new.pass c.trim_from.new.pass c.call-reply.result
+    c.loop.invariant.2 q c.call-reply.ensures.made c.call-reply.ensures.called
+    (call_recorded_none (g.P.Parking.did c.args.parking.now) c.loop.pass c.args.request c.args.how c.call-reply.result
+    c.args.when_full c.call-reply.new.pass q c.call-reply.ensures.made) c.trim_from.ensures.called
+    c.loop.folded c.in-Err.fault c.loop.invariant.4 c.in-Err.ensures.trimmed
+
+pub returns-in-Err-clause-carries : goal.returns-in-Err-clause-carries
+returns-in-Err-clause-carries g c =
+    subst (λ (h : Mode → ℕ). g.L.Load.carries c.call-reply.new.load h)
+    (sym (trim_holds c.loop.folded c.call-reply.new.pass c.in-Err.fault c.trim_from.new.pass c.trim_from.ensures.called
+    c.in-Err.ensures.trimmed)) c.call-reply.ensures.carries

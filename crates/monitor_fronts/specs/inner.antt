@@ -1,0 +1,2 @@
+-- What only contracts of private functions cite: no promise of the crate rests on it.
+pub mod Room
