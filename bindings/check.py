@@ -141,12 +141,17 @@ class Tests:
         name = f"{name}, by {by},"
         self.count(f"{len(files)} histories of {name} are legal", bool(files) and not bad, "\n".join(bad))
 
-    def draw(self, name, file):
+    def draw(self, name, file, names=None):
+        """Draws a history. With the file of names that lies beside it, the picture has one of them at least."""
         if not has_program():
             self.left_out(f"the picture of {name}", f"{AQS} is not built")
             return
-        ran = subprocess.run([AQS, "draw", file], capture_output=True, timeout=60, errors="replace")
-        self.count(f"a picture of {name}", ran.returncode == 0 and ran.stdout.startswith("<svg"), ran.stderr)
+        words = [AQS, "draw", *(["--names", names] if names else []), file]
+        ran = subprocess.run(words, capture_output=True, timeout=60, errors="replace")
+        is_drawn = ran.returncode == 0 and ran.stdout.startswith("<svg")
+        given = pathlib.Path(names).read_text().split()[1::2] if names else []
+        is_named = not names or any(f" ({it})" in ran.stdout for it in given)
+        self.count(f"a picture of {name}", is_drawn and is_named, f"{ran.stderr}\n{given}")
 
     def histories(self, name):
         folder = os.path.join(self.folder, name)
@@ -209,7 +214,9 @@ def check_page(tests):
         words = [*compiler, "-Wall", "-Wextra", "-Werror", "-I.", source, OUT / "libaqs.a", "-pthread"]
         if tests.run(f"it compiles as it stands in the page: {language}", [*words, "-o", program]):
             tests.run(f"it prints what the page says: {language}", [program], cwd=folder, says="5050\n")
-    tests.audit("the page", tests.histories("page-c"))
+    kept = tests.histories("page-c")
+    tests.audit("the page", kept)
+    tests.draw("the page's history, with names", f"{kept}/jobs.history", f"{kept}/jobs.history.names")
 
 
 # How many blocks of 512 bytes a file may have: less than the history of the example, or some whole buffers. Then the
@@ -352,6 +359,8 @@ def check_rust(tests):
     words = ["cargo", "run", "-q", "--offline", "--example", "thread_pool", file]
     if tests.run("the thread pool of Rust", words, 240, cwd=RUST, says=SUM_OF_FACTORIALS, **environment):
         tests.draw("the thread pool", file)
+    words = ["cargo", "run", "-q", "--offline", "--manifest-path", rust_page(tests)]
+    tests.run("it runs as it stands in the page: Rust", words, 240, says="5050\n", **environment)
     words = ["cargo", "run", "-q", "--offline", "--example", "pairs"]
     tests.run("what a pair costs in Rust", words, 240, cwd=RUST, says="Mutex::lock ", **environment)
     tests.audit("Rust", kept)
@@ -365,12 +374,26 @@ def page_program(tests, folder, language, mark):
     return "".join(blocks[:1])
 
 
+def rust_page(tests):
+    """A crate of somebody else, of which the page's program is the whole source."""
+    folder = pathlib.Path(tests.histories("page-rust"))
+    (folder / "src").mkdir()
+    (folder / "src" / "main.rs").write_text(page_program(tests, "rust/aqs", "rust", "fn main("))
+    told = f'[package]\nname = "page"\nversion = "0.1.0"\nedition = "2021"\n[dependencies]\naqs = {{ path = "{RUST}" }}\n'
+    (folder / "Cargo.toml").write_text(told)
+    return folder / "Cargo.toml"
+
+
 def check_python(tests):
     kept = tests.histories("python")
     program = pathlib.Path(tests.histories("page-python")) / "page.py"
     program.write_text(page_program(tests, "python", "python", "import aqs"))
     environment = {"PYTHONPATH": str(HERE / "python")}
-    tests.run("it runs as it stands in the page: Python", [sys.executable, "-B", program], says="5050\n", **environment)
+    words = [sys.executable, "-B", program]
+    tests.run("it runs as it stands in the page: Python", words, cwd=program.parent, says="5050\n", **environment)
+    tests.audit("the page", program.parent)
+    file = program.parent / "example.history"
+    tests.draw("the page's history, with names", file, f"{file}.names")
     words = [sys.executable, "-B", "-m", "unittest", "-q", *(["-f"] if tests.until_one_fails else [])]
     tests.run("Python", [*words, "test_aqs"], 120, cwd=HERE / "python", AQS_HISTORIES=kept)
     words = [sys.executable, "-B", "bench.py"]

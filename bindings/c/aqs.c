@@ -1634,21 +1634,29 @@ aqs_status_t aqs_history_write(aqs_object_t *object, FILE *file) {
     }
 }
 
-/* The name that the system has of the thread of a place, or had as the last one ended. "" if nobody had it.
-   */
-static void put_name(const place_t *place, char name[16]) {
+/* The name that the system has of a thread. Returns whether it has one: the thread may have ended. */
+static bool reads_name(pid_t thread, char name[16]) {
     char path[64];
-    pthread_mutex_lock(&numbering);
-    memcpy(name, place->name, 16);
-    pid_t thread = place->thread;
-    pthread_mutex_unlock(&numbering);
-    if (thread == 0) return;
     snprintf(path, sizeof path, "/proc/self/task/%d/comm", (int)thread);
     int file = open(path, O_RDONLY | O_CLOEXEC);
     ssize_t length = file < 0 ? 0 : read(file, name, 15);
-    name[length > 0 ? length : 0] = 0;
     if (file >= 0) (void)close(file);
+    name[length > 0 ? length : 0] = 0;
     name[strcspn(name, "\n")] = 0;
+    return length > 0;
+}
+
+/* The name of the thread of a place, or of the last one that ended. "" if nobody had it. A thread that ends as its
+   name is read has left it at the place. */
+static void put_name(const place_t *place, char name[16]) {
+    for (pid_t thread = 0, before;;) {
+        before = thread;
+        pthread_mutex_lock(&numbering);
+        memcpy(name, place->name, 16);
+        thread = place->thread;
+        pthread_mutex_unlock(&numbering);
+        if (thread == 0 || reads_name(thread, name) || thread == before) return;
+    }
 }
 
 /* A line of a seat: its number and a name, in which there is nothing but letters, digits and signs. */

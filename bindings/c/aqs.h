@@ -477,8 +477,8 @@ AQS_CHECKED aqs_status_t aqs_history_text(aqs_object_t *object, char *buffer, si
 /* Writes that text to a file, which the caller opened and closes. AQS_IO_ERROR: some of it may be written. */
 AQS_CHECKED aqs_status_t aqs_history_write(aqs_object_t *object, FILE *file);
 /* Puts the names of the seats into a buffer, as aqs_history_text does: for each seat a line with its number
-   and the name that the system has of the thread which had it last. `aqs draw --names` reads them. A name of
-   no thread is left out. */
+   and the name that the system has of the thread which had it last, or of one that has got the number of that
+   thread since. `aqs draw --names` reads them. A seat that no thread had is left out. */
 AQS_CHECKED aqs_status_t aqs_history_names(aqs_object_t *object, char *buffer, size_t size, size_t *length);
 /* Writes the history to a file of this path, and the names of its seats to a file PATH.names. AQS_IO_ERROR.
    */

@@ -164,36 +164,7 @@ static void interrupt_itself(aqs_status_t (*call)(void), aqs_status_t otherwise,
     CHECK(at > 100);
 }
 
-/* A handler leaves two posts. Later another handler comes, at each instruction or at every seventh, also of those that
-   make the posts. It releases a third number of permits, or as many as the first post. Each release is made once. */
-static uint32_t late_n;
-
-static void release_in_turn(void) {
-    if (handled > 0) {
-        IS(aqs_sem_release(semaphore, late_n), AQS_OK);
-    } else {
-        IS(aqs_sem_release(semaphore, 1), AQS_OK);
-        IS(aqs_sem_release(semaphore, 2), AQS_OK);
-    }
-}
-
-static void interrupt_twice(void (*call)(void), int change, uint32_t n, int of) {
-    const int released_by[] = {0, 1 + 2, 1 + 2 + (int)n};
-    handler = release_in_turn, late_n = n;
-    for (wanted = 60, once_more = wanted + 1;; once_more += of) {
-        int64_t before = permits_of(semaphore);
-        instruction = handled = 0;
-        trace();
-        call();
-        trace_no_more();
-        CHECK(permits_of(semaphore) == before + change + released_by[handled]);
-        if (handled < 2) break;
-    }
-    once_more = -1;
-}
-
-/* A handler is interrupted at each instruction of its release, and the other one releases another number. Each
-   release is made once. The two take turns, so that a post has the number of the other from the time before. */
+/* A handler that is interrupted by another one at one instruction of its release. Each releases its number. */
 
 static uint32_t outer_n, inner_n;
 
@@ -207,6 +178,50 @@ static void release_under_traps(void) {
     is_in_handler = false;
     IS(status, AQS_OK);
 }
+
+/* A handler leaves two posts. Later another handler comes, at each instruction or at every seventh, also of those that
+   make the posts. It releases a third number of permits, or as many as the first post. A third handler interrupts
+   that one, and leaves a post too, which takes the place of the post that is being made. Each release is made once. */
+static void release_in_turn(void) {
+    if (handled > 0) {
+        release_under_traps();
+    } else {
+        IS(aqs_sem_release(semaphore, 1), AQS_OK);
+        IS(aqs_sem_release(semaphore, 2), AQS_OK);
+    }
+}
+
+/* Makes the call with the two handlers, and returns how many instructions it had. Before it the history is folded, so
+   that no call folds it on its way, and each has the same instructions. */
+static long calls_with_two(void (*call)(void), int change, uint32_t n) {
+    const int released_by[] = {0, 1 + 2, 1 + 2 + (int)n};
+    inner_handled = 0;
+    fold();
+    int64_t before = permits_of(semaphore);
+    instruction = handled = 0;
+    trace();
+    call();
+    trace_no_more();
+    CHECK(permits_of(semaphore) == before + change + released_by[handled] + inner_n * inner_handled);
+    return instruction;
+}
+
+static void interrupt_twice(void (*call)(void), int change, uint32_t n, int of) {
+    handler = release_in_turn, inner_handler = release_inner, inner_wanted = 60, outer_n = n, inner_n = 4;
+    wanted = once_more = LONG_MAX;
+    long alone = calls_with_two(call, change, n);
+    wanted = 60;
+    long most = calls_with_two(call, change, n);
+    CHECK(handled == 1 && most > 2 * alone); /* the call made both posts */
+    for (once_more = wanted + 1; once_more < most; once_more += of) {
+        (void)calls_with_two(call, change, n);
+        CHECK(handled == 2);
+    }
+    once_more = -1;
+}
+
+/* A handler is interrupted at each instruction of its release, and the other one releases another number. Each
+   release is made once. The two take turns, so that a post has the number of the other from the time before. */
 
 static void handler_in_handler(void) {
     handler = release_under_traps, inner_handler = release_inner, wanted = 60;

@@ -1,9 +1,13 @@
 /* named.c: the names of the seats of a history, as `aqs draw --names` reads them. */
 #include "check.h"
 
+#include <fcntl.h>
 #include <pthread.h>
+#include <sched.h>
+#include <stdatomic.h>
 #include <string.h>
 #include <sys/prctl.h>
+#include <sys/syscall.h>
 
 static aqs_lock_t *lock;
 
@@ -42,6 +46,51 @@ static void is(const char *found, const char *wanted) {
     _Exit(1);
 }
 
+/* A thread ends while its name is read: as its file is about to be opened, or about to be read. The linker puts these
+   in the place of open and read. */
+enum { NOWHERE, AT_OPEN, AT_READ };
+static int ends_at;
+static pthread_t ending;
+static char its_file[64];
+static atomic_bool has_locked, may_end;
+
+static void end_here(int here) {
+    if (ends_at != here) return;
+    ends_at = NOWHERE;
+    atomic_store(&may_end, true);
+    CHECK(pthread_join(ending, NULL) == 0);
+    while (access(its_file, F_OK) == 0) sched_yield();
+}
+
+int __real_open(const char *path, int flags, ...);
+int __wrap_open(const char *path, int flags, ...) {
+    if (strcmp(path, its_file) == 0) end_here(AT_OPEN);
+    return __real_open(path, flags);
+}
+
+ssize_t __real_read(int file, void *to, size_t size);
+ssize_t __wrap_read(int file, void *to, size_t size) {
+    end_here(AT_READ);
+    return __real_read(file, to, size);
+}
+
+static void *lock_and_wait(void *name) {
+    lock_once(name);
+    snprintf(its_file, sizeof its_file, "/proc/self/task/%d/comm", (int)syscall(SYS_gettid));
+    atomic_store(&has_locked, true);
+    while (!atomic_load(&may_end)) sched_yield();
+    return NULL;
+}
+
+static void ends_as_its_name_is_read(int here, const char *name, const char *wanted) {
+    atomic_store(&has_locked, false), atomic_store(&may_end, false);
+    CHECK(pthread_create(&ending, NULL, lock_and_wait, (void *)name) == 0);
+    while (!atomic_load(&has_locked)) sched_yield();
+    ends_at = here;
+    is(names(), wanted);
+    CHECK(ends_at == NOWHERE);
+}
+
 static void saved(const char *folder) {
     char path[1000], found[1000] = "", small[1100];
     snprintf(path, sizeof path, "%s/named.history", folder);
@@ -73,6 +122,8 @@ int main(int words, char **word) {
     CHECK(prctl(PR_SET_NAME, "main") == 0);
     is(names(), "0 main\n1 fifteen_letters\n");
     IS(aqs_lock_unlock(lock), AQS_OK);
+    ends_as_its_name_is_read(AT_OPEN, "opened", "0 main\n1 opened\n");
+    ends_as_its_name_is_read(AT_READ, "read", "0 main\n1 read\n");
     saved(words > 1 ? word[1] : "/tmp");
     aqs_lock_close(lock);
     puts("named: good");

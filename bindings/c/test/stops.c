@@ -3,29 +3,26 @@
    wake, interrupt or permit is lost, and memory that a close has freed is used by nobody.
 
    One run of the call is traced: the processor traps after each instruction. In each later run one
-   instruction that it had is replaced by a breakpoint. This is for x86-64, as the library is. */
+   instruction that it had is replaced by a breakpoint. What the test waits for is an event: a call has ended, or its
+   thread is stopped, or it sleeps. This is for x86-64, as the library is. */
 #include "heap.h"
 
 #define NEW_ADDRESSES 0 /* who uses an object after its close uses freed memory */
 #include "play.h"
 
-#include <sched.h>
+#include <limits.h>
+#include <linux/futex.h>
 #include <signal.h>
 #include <sys/mman.h>
 #include <sys/wait.h>
 #include <ucontext.h>
 
-enum { PLACES = 20000, OTHERS = 5, SOON = 400, CORE = 40, BEGINNING = 150 };
+enum { PLACES = 20000, OTHERS = 5, CORE = 40, BEGINNING = 150 };
 enum { TRAPS = 0x100, BREAKPOINT = 0xcc };
 
-/* The library lets others run when it waits for another's turn. The linker puts this in the place of sched_yield. */
-static _Thread_local bool is_forker;
-static atomic_bool forker_waits, another_waits;
-int __real_sched_yield(void);
-int __wrap_sched_yield(void) {
-    atomic_store(is_forker ? &forker_waits : &another_waits, true);
-    return __real_sched_yield();
-}
+/* The library lets others run before it sleeps. Here it sleeps the sooner, however busy the machine is: the linker puts
+   this in the place of sched_yield. */
+int __wrap_sched_yield(void) { return 0; }
 
 /* Traps ------------------------------------------------------------------------------------------------ */
 
@@ -33,7 +30,8 @@ extern char __executable_start, etext;
 
 static uint8_t *places[PLACES], *set_at, was;
 static int count_of_places;
-static atomic_bool is_set, traces, is_stopped, goes_on;
+static atomic_bool is_set, traces, is_stopped;
+static atomic_int goes_on;
 static greg_t return_to, stack_at;
 static _Thread_local bool is_traced, is_main;
 
@@ -47,7 +45,7 @@ static void note_place(uint8_t *at) {
 
 static void stay(void) {
     atomic_store(&is_stopped, true);
-    while (!atomic_load(&goes_on)) __real_sched_yield();
+    while (!atomic_load(&goes_on)) syscall(SYS_futex, &goes_on, FUTEX_WAIT_PRIVATE, 0, NULL, NULL, 0);
 }
 
 static void on_trap(int number, siginfo_t *info, void *context) {
@@ -76,14 +74,15 @@ static void set(uint8_t *at, bool is_trace) {
     set_at = at, was = *at;
     atomic_store(&traces, is_trace);
     atomic_store(&is_stopped, false);
-    atomic_store(&goes_on, false);
+    atomic_store(&goes_on, 0);
     atomic_store(&is_set, true);
     *(volatile uint8_t *)at = BREAKPOINT;
 }
 
 static void unset(void) {
     if (atomic_exchange(&is_set, false)) *set_at = was;
-    atomic_store(&goes_on, true);
+    atomic_store(&goes_on, 1);
+    syscall(SYS_futex, &goes_on, FUTEX_WAKE_PRIVATE, INT_MAX, NULL, NULL, 0);
 }
 
 static void prepare(void) {
@@ -154,16 +153,20 @@ static void ask_line(kind_t kind, player_t *it, const char *line) {
     ask(it, call_of(kind, word), a, b);
 }
 
-/* Waits a little, until a call has ended, or its thread sleeps, or stops. Returns whether it ended. */
-static bool ends_soon(const player_t *it, const atomic_bool *stops, int microseconds) {
-    int64_t until = nanoseconds(CLOCK_MONOTONIC) + microseconds * INT64_C(1000);
-    for (int seen = 0; seen < 2 && nanoseconds(CLOCK_MONOTONIC) < until;) {
+/* Whether a thread sleeps: two looks say so. */
+static bool sleeps(const player_t *it) {
+    if (!is_asleep(it)) return false;
+    usleep(10);
+    return is_asleep(it);
+}
+
+/* Waits until a call has ended, or its thread sleeps, or stops. Returns whether it ended. */
+static bool ends_soon(const player_t *it, const atomic_bool *stops) {
+    for (;; usleep(10)) {
         if (!atomic_load(&it->in_call)) return true;
         if (stops && atomic_load(stops)) return false;
-        seen = atomic_load(&it->has_begun) && is_asleep(it) ? seen + 1 : 0;
-        sched_yield();
+        if (atomic_load(&it->has_begun) && sleeps(it)) return !atomic_load(&it->in_call);
     }
-    return false;
 }
 
 /* Makes the calls of thread 1, until one doesn't end soon, or in the end for good. Returns how many were
@@ -172,7 +175,7 @@ static int make_others(kind_t kind, const stop_t *row, int begun, bool is_for_go
     player_t *other = &players[1];
     for (;; begun++) {
         if (begun > 0) {
-            if (is_for_good ? !ends(other, LIMIT) : !ends_soon(other, NULL, SOON)) {
+            if (is_for_good ? !ends(other, LIMIT) : !ends_soon(other, NULL)) {
                 if (is_for_good) FAIL("%s doesn't end", row->others[begun - 1]);
                 return begun;
             }
@@ -214,12 +217,12 @@ static void run(const stop_t *row, uint8_t *at, bool is_trace, int when) {
     int begun = when == FIRST ? make_others(kind, row, 0, false) : 0;
     if (when != WHILE_IT_WAITS) set(at, is_trace);
     ask_line(kind, &players[0], row->stopped);
-    ends_soon(&players[0], when != WHILE_IT_WAITS && !is_trace ? &is_stopped : NULL, LIMIT * 1000);
+    ends_soon(&players[0], when != WHILE_IT_WAITS && !is_trace ? &is_stopped : NULL);
     if (when == WHILE_IT_WAITS) {
         set(at, false);
         ask_line(kind, &players[1], row->others[begun++]);
-        ends_soon(&players[1], NULL, SOON);
-        ends_soon(&players[0], &is_stopped, SOON);
+        ends_soon(&players[1], NULL);
+        ends_soon(&players[0], &is_stopped);
     }
     begun = make_others(kind, row, begun, false);
     unset();
@@ -248,31 +251,44 @@ static void stop_everywhere(const stop_t *row) {
 
 /* Numbers of threads ----------------------------------------------------------------------------------- */
 
-static atomic_int alive, numbers[2];
+/* Without a function that the library calls too: a thread may be to stop there. */
+static int own_id(void) {
+    int id;
+    __asm__ volatile("syscall" : "=a"(id) : "a"(SYS_gettid) : "rcx", "r11", "memory");
+    return id;
+}
 
-static void *take_number(void *to) {
-    atomic_store((atomic_int *)to, aqs_thread_self());
+static atomic_int alive, numbers[2];
+static player_t takers[2]; /* of these the id alone is used */
+
+static void *take_number(void *given) {
+    player_t *me = given;
+    atomic_store(&me->id, own_id());
+    atomic_store(&numbers[me - takers], aqs_thread_self());
     while (atomic_load(&alive)) usleep(20);
     return NULL;
 }
 
+static pthread_t begin_to_take(int i) {
+    pthread_t thread;
+    atomic_store(&alive, 1), atomic_store(&numbers[i], -1), atomic_store(&takers[i].id, 0);
+    CHECK(pthread_create(&thread, NULL, take_number, &takers[i]) == 0);
+    while (atomic_load(&takers[i].id) == 0) usleep(10);
+    return thread;
+}
+
+static bool has_taken(int i) { return atomic_load(&numbers[i]) >= 0; }
+
 /* Two threads get two numbers, one of them stopped at this place of its first call. */
 static void take_two(uint8_t *at, bool is_trace) {
     pthread_t threads[2];
-    atomic_store(&alive, 1);
     set(at, is_trace);
-    for (int i = 0; i < 2; i++) {
-        atomic_store(&numbers[i], -1);
-        CHECK(pthread_create(&threads[i], NULL, take_number, &numbers[i]) == 0);
-        for (int looks = 0; looks < 60; looks++) {
-            if (atomic_load(&numbers[i]) >= 0 || (i == 0 && atomic_load(&is_stopped))) break;
-            usleep(20);
-        }
-    }
+    threads[0] = begin_to_take(0);
+    while (!has_taken(0) && !atomic_load(&is_stopped)) usleep(10);
+    threads[1] = begin_to_take(1);
+    while (!has_taken(1) && !sleeps(&takers[1])) usleep(10);
     unset();
-    for (int i = 0; i < 2; i++) {
-        while (atomic_load(&numbers[i]) < 0) usleep(20);
-    }
+    while (!has_taken(0) || !has_taken(1)) usleep(10);
     int one = atomic_load(&numbers[0]), two = atomic_load(&numbers[1]);
     if (one == two || one < PLAYERS || two < PLAYERS) FAIL("two threads have numbers %d and %d", one, two);
     atomic_store(&alive, 0);
@@ -302,9 +318,9 @@ static void claim_two(uint8_t *at, bool is_trace) {
     IS(aqs_rwlock_init(rwlock, &(aqs_options_t){.threads = 2, .history = 64}), AQS_OK);
     set(at, is_trace);
     ask(&players[0], RW_rdlock, 0, 0);
-    ends_soon(&players[0], is_trace ? NULL : &is_stopped, LIMIT * 1000);
+    ends_soon(&players[0], is_trace ? NULL : &is_stopped);
     ask(&players[2], RW_rdlock, 0, 0);
-    ends_soon(&players[2], NULL, SOON);
+    ends_soon(&players[2], NULL);
     unset();
     for (int i = 0; i < 3; i += 2) {
         if (!ends(&players[i], LIMIT)) FAIL("thread %d doesn't end", i);
@@ -329,22 +345,17 @@ static void seats_everywhere(void) {
 
 /* Whether a fork waits for no turn any more. */
 static atomic_bool forks_now;
+static player_t forker; /* of which the id alone is used */
 
 /* Where a release is stopped that begins when the fork waits no more, or NULL. */
 static uint8_t *begins_at;
-
-/* At most for some milliseconds: a thread may also wait for the numbers. */
-static void wait_for_either(const atomic_bool *one, const atomic_bool *other) {
-    for (int looks = 0; looks < 100 && !atomic_load(one) && !atomic_load(other); looks++) usleep(20);
-}
 
 static void fork_now(void) {
     atomic_store(&forks_now, true);
     if (!begins_at) return;
     set(begins_at, false);
-    atomic_store(&another_waits, false);
     ask(&players[0], SEM_release, 1, 0);
-    wait_for_either(&is_stopped, &another_waits);
+    ends_soon(&players[0], &is_stopped);
 }
 static __attribute__((constructor(101))) void before_the_library(void) {
     CHECK(pthread_atfork(fork_now, NULL, NULL) == 0);
@@ -355,15 +366,15 @@ static __attribute__((constructor(101))) void before_the_library(void) {
 static void *fork_and_close(void *none) {
     int64_t permits;
     int status;
-    is_forker = true;
+    atomic_store(&forker.id, own_id());
     pid_t child = fork();
     CHECK(child >= 0);
     if (child == 0) {
         alarm(10);
+        begins_at = NULL;
         atomic_store(&is_set, true), unset(); /* also where a thread that isn't here was about to */
         IS(aqs_sem_getvalue(semaphore, &permits), AQS_OK);
         aqs_sem_close(semaphore);
-        begins_at = NULL;
         child = fork();
         if (child == 0) _Exit(0);
         CHECK(child > 0 && waitpid(child, &status, 0) == child && status == 0);
@@ -382,18 +393,18 @@ static void open_semaphore(bool is_new) {
     IS(aqs_sem_init(semaphore, 0, &(aqs_options_t){.threads = 3, .history = 64}), AQS_OK);
 }
 
-static void close_semaphore(void) {
+static void close_semaphore(const char *last) {
     if (!ends(&players[0], LIMIT)) FAIL("it doesn't end");
-    play_lines(SEM, "0 getvalue = 1");
+    play_lines(SEM, last);
     aqs_sem_close(semaphore);
 }
 
-/* A thread is stopped at this place of a release, and another forks. */
+/* A thread is stopped, and another forks: it waits for a turn or for the numbers, or it need not. */
 static void fork_beside(void) {
     pthread_t thread;
-    atomic_store(&forker_waits, false), atomic_store(&forks_now, false);
+    atomic_store(&forker.id, 0), atomic_store(&forks_now, false);
     CHECK(pthread_create(&thread, NULL, fork_and_close, NULL) == 0);
-    wait_for_either(&forker_waits, &forks_now);
+    while (!atomic_load(&forks_now) && (atomic_load(&forker.id) == 0 || !sleeps(&forker))) usleep(10);
     unset();
     CHECK(pthread_join(thread, NULL) == 0);
 }
@@ -402,25 +413,38 @@ static void fork_at(uint8_t *at, bool is_new) {
     open_semaphore(is_new);
     set(at, false);
     ask(&players[0], SEM_release, 1, 0);
-    ends_soon(&players[0], &is_stopped, LIMIT * 1000);
+    ends_soon(&players[0], &is_stopped);
     fork_beside();
-    close_semaphore();
+    close_semaphore("0 getvalue = 1");
+}
+
+/* The same beside a thread that is stopped at this place as it comes out of its wait. */
+static void fork_at_wake(uint8_t *at, bool is_trace) {
+    open_semaphore(false);
+    if (is_trace) set(at, true);
+    ask(&players[0], SEM_acquire, 1, 0);
+    ends_soon(&players[0], NULL);
+    if (!is_trace) set(at, false);
+    ask(&players[1], SEM_release, 1, 0); /* which may be stopped in its place */
+    for (int i = 1; i >= 0; i--) ends_soon(&players[i], is_trace ? NULL : &is_stopped);
+    if (!is_trace) fork_beside();
+    unset();
+    if (!ends(&players[1], LIMIT)) FAIL("the release doesn't end");
+    close_semaphore("0 getvalue = 0");
 }
 
 /* The same beside a thread that is stopped at this place while it takes its number. */
 static void fork_beside_number(uint8_t *at) {
-    pthread_t thread;
     open_semaphore(false);
     play_lines(SEM, "0 release 1 = OK");
-    atomic_store(&alive, 1), atomic_store(&numbers[0], -1);
     set(at, false);
-    CHECK(pthread_create(&thread, NULL, take_number, &numbers[0]) == 0);
-    while (atomic_load(&numbers[0]) < 0 && !atomic_load(&is_stopped)) usleep(20);
+    pthread_t thread = begin_to_take(0);
+    while (!has_taken(0) && !atomic_load(&is_stopped)) usleep(10);
     fork_beside();
-    while (atomic_load(&numbers[0]) < 0) usleep(20);
+    while (!has_taken(0)) usleep(10);
     atomic_store(&alive, 0);
     CHECK(pthread_join(thread, NULL) == 0);
-    close_semaphore();
+    close_semaphore("0 getvalue = 1");
 }
 
 /* A process forks, and a release that another thread begins then is stopped at this place. */
@@ -432,7 +456,7 @@ static void begin_in_a_fork(uint8_t *at, bool is_new) {
     CHECK(pthread_join(thread, NULL) == 0);
     begins_at = NULL;
     unset();
-    close_semaphore();
+    close_semaphore("0 getvalue = 1");
 }
 
 static void trace_release(bool is_new) {
@@ -441,7 +465,7 @@ static void trace_release(bool is_new) {
     ask(&players[0], SEM_release, 1, 0);
     CHECK(ends(&players[0], LIMIT));
     unset();
-    close_semaphore();
+    close_semaphore("0 getvalue = 1");
 }
 
 static void forks_everywhere(void) {
@@ -460,11 +484,55 @@ static void forks_everywhere(void) {
         play_line = shown;
         if (!is_new || i < BEGINNING) begin_in_a_fork(places[i], is_new);
     }
+    play_name = "a fork beside a thread that wakes", play_line = shown;
+    count_of_places = 0;
+    fork_at_wake((uint8_t *)aqs_sem_acquire, true);
+    for (int i = 0; i < count_of_places; i++) {
+        if (!is_own(places[i])) continue;
+        snprintf(shown, sizeof shown, "stopped at %p", (void *)places[i]);
+        play_line = shown;
+        fork_at_wake(places[i], false);
+    }
     play_name = "a fork beside a number", play_line = "at each place";
     count_of_places = 0;
     take_two((uint8_t *)aqs_thread_self, true);
     for (int i = 0; i < count_of_places; i++) {
         if (is_own(places[i])) fork_beside_number(places[i]);
+    }
+}
+
+/* Openings --------------------------------------------------------------------------------------------- */
+
+/* A thread that opens a static object is stopped at this place, and another makes its first call of it. */
+static void open_by_two(uint8_t *at, bool is_trace) {
+    static aqs_sem_t statics[PLACES];
+    static int count_of_statics;
+    CHECK(count_of_statics < PLACES);
+    semaphore = &statics[count_of_statics++];
+    *semaphore = (aqs_sem_t)AQS_SEM_INIT(0);
+    set(at, is_trace);
+    ask(&players[0], SEM_release, 1, 0);
+    ends_soon(&players[0], is_trace ? NULL : &is_stopped);
+    ask(&players[1], SEM_release, 1, 0);
+    ends_soon(&players[1], NULL);
+    unset();
+    play_lines(SEM, "0 = OK; 1 = OK; 0 getvalue = 2");
+    aqs_sem_close(semaphore);
+}
+
+static void openings_everywhere(void) {
+    char shown[60];
+    play_name = "the first call of a static semaphore";
+    count_of_places = 0;
+    trace_release(true);
+    int count_of_others = count_of_places;
+    open_by_two((uint8_t *)aqs_sem_release, true);
+    CHECK(count_of_places > count_of_others + 50);
+    for (int i = count_of_others; i < count_of_places; i++) {
+        if (!is_own(places[i])) continue;
+        snprintf(shown, sizeof shown, "stopped at %p", (void *)places[i]);
+        play_line = shown;
+        open_by_two(places[i], false);
     }
 }
 
@@ -484,7 +552,7 @@ static void wait_with_two(uint8_t *at, bool is_trace) {
     play_lines(LOCK, "0 lock = OK");
     set(at, is_trace);
     ask(&players[0], LOCK_timedawait, 0, 0);
-    ends_soon(&players[0], is_trace ? NULL : &is_stopped, LIMIT * 1000);
+    ends_soon(&players[0], is_trace ? NULL : &is_stopped);
     lock = &one;
     play_lines(LOCK, "1 lock = OK");
     ask(&players[1], LOCK_timedawait, 0, 0);
@@ -517,13 +585,14 @@ static void conditions_everywhere(void) {
 }
 
 int main(void) {
-    alarm(100);
+    alarm(590);
     has_own_pages = true;
     start_players();
     prepare();
     numbers_everywhere();
     seats_everywhere();
     forks_everywhere();
+    openings_everywhere();
     conditions_everywhere();
     for (size_t i = 0; i < sizeof rows / sizeof rows[0]; i++) stop_everywhere(&rows[i]);
     return good("stops");

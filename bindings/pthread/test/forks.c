@@ -7,7 +7,7 @@
 #include <stdlib.h>
 #include <sys/wait.h>
 
-enum { FORKS = 20, MOST = 8 };
+enum { FORKS = 10, MOST = 8 };
 
 static atomic_int is_done;
 
@@ -20,7 +20,7 @@ static int status_of_child(void) {
     int status;
     pid_t child = fork();
     if (child == 0) {
-        alarm(20);
+        alarm(60);
         exit(7 + use_library());
     }
     CHECK(child > 0 && waitpid(child, &status, 0) == child && WIFEXITED(status));
@@ -30,7 +30,7 @@ static int status_of_child(void) {
 int main(int count, char **words) {
     pthread_t threads[MOST];
     int uses = count > 1 ? atoi(words[1]) : 0;
-    alarm(60);
+    alarm(110);
     CHECK(use_library() == 0);
     for (int i = 0; i < uses; i++) CHECK(pthread_create(&threads[i], NULL, use_it, NULL) == 0);
     for (int i = 0; i < FORKS; i++) CHECK(status_of_child() == 8);

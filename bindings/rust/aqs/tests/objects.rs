@@ -98,13 +98,18 @@ fn it_is_said_which_number_is_out_of_range() {
 fn seats_have_the_names_of_their_threads() {
     let mutex = Mutex::with(0, kept()).unwrap();
     let guard = mutex.lock();
-    thread::scope(|scope| {
+    // As long as both live no thread of another test has the number of one.
+    let names = thread::scope(|scope| {
         let waits = thread::Builder::new().name("waits-for-it".into());
-        waits.spawn_scoped(scope, || *mutex.lock() += 1).unwrap();
+        let count = || {
+            *mutex.lock() += 1;
+            mutex.names().unwrap()
+        };
+        let waits = waits.spawn_scoped(scope, count).unwrap();
         until(|| mutex.queue_length() == 1);
         drop(guard);
+        waits.join().unwrap()
     });
-    let names = mutex.names().unwrap();
     assert!(names.contains(" waits-for-it\n") && names.lines().count() == 2, "{names}");
 }
 

@@ -4,13 +4,14 @@
 
 mod support;
 
-use aqs::{Condvar, Mutex};
+use aqs::{Condvar, Mutex, RwLock, UpgradableReadGuard};
 use std::arch::asm;
 use std::cell::Cell;
 use std::ffi::c_void;
-use std::hint;
+use std::fs;
 use std::ptr;
 use std::sync::atomic::{AtomicBool, Ordering::SeqCst};
+use std::sync::OnceLock;
 use std::thread::{self, Scope, ScopedJoinHandle};
 use std::time::{Duration, Instant};
 use support::until;
@@ -75,7 +76,7 @@ extern "C" fn on_trap(_number: i32, _what: *const c_void, kept: *mut u64) {
         let begin = Instant::now();
         stop.has_come.store(true, SeqCst);
         while !stop.may_go.load(SeqCst) && begin.elapsed() < LONGEST_STOP + stop.more {
-            hint::spin_loop();
+            thread::sleep(Duration::from_micros(20));
         }
         stop.has_gone.store(true, SeqCst);
         // SAFETY: the thread has them again after the handler, and traps no more.
@@ -255,6 +256,64 @@ fn a_wait_begins_beside_a_notify() {
         notified_while_stopped(&both, &Stop::at(place), &stop);
         if !stop.has_come() {
             assert!(at > 200);
+            return;
+        }
+    }
+}
+
+/// The file in which the system tells of a thread, as soon as that has said which it is.
+#[derive(Default)]
+struct Task(OnceLock<String>);
+
+impl Task {
+    fn is_mine(&self) {
+        let task = fs::read_link("/proc/thread-self").unwrap();
+        self.0.set(format!("/proc/{}/stat", task.display())).unwrap();
+    }
+
+    /// Whether the thread sleeps: it waits for another one.
+    fn sleeps(&self) -> bool {
+        let told = self.0.get().and_then(|file| fs::read_to_string(file).ok());
+        told.is_some_and(|told| told.rsplit_once(") ").is_some_and(|(_, state)| state.starts_with('S')))
+    }
+}
+
+/// A reader that goes on to write is stopped somewhere, and another thread tries to write meanwhile. Returns whether
+/// that had ended before the stop.
+fn tried_while_it_upgrades(stop: &Stop) -> bool {
+    let (lock, tries) = (RwLock::new(0), Task::default());
+    thread::scope(|scope| {
+        let upgrader = scope.spawn(|| {
+            let reads = lock.upgradable_read();
+            let mut writes = stopped(stop, || UpgradableReadGuard::upgrade(reads));
+            *writes += 1;
+        });
+        until(|| stop.has_come() || upgrader.is_finished());
+        let other = scope.spawn(|| {
+            tries.is_mine();
+            lock.try_write().map(|value| *value)
+        });
+        // It waits for the other one's turn if that is stopped in it.
+        until(|| other.is_finished() || tries.sleeps());
+        let is_first = other.is_finished() && stop.has_come() && !stop.is_over();
+        stop.ends();
+        let found = other.join().unwrap();
+        assert!(found != Some(0), "another one writes before the upgrade, which is stopped at {}", stop.at);
+        is_first
+    })
+}
+
+/// Nobody writes between the read of a thread that goes on to write and its write.
+#[test]
+fn nobody_writes_while_a_reader_goes_on_to_write() {
+    // SAFETY: the handler looks at its own thread's variables alone.
+    unsafe { signal(SIGTRAP, on_trap) };
+    let mut first = 0;
+    for at in (1..).step_by(40) {
+        let stop = Stop { more: LOST, ..Stop::at(at) };
+        first += usize::from(tried_while_it_upgrades(&stop));
+        if !stop.has_come() {
+            assert!(at > 200 && first > 5, "{at} {first}");
             return;
         }
     }
