@@ -3,8 +3,8 @@
 
 First what the repository may take (`budget.py`). Then plain rt ci: each proof, each test and program, and the few wrong
 bodies of must-fail/. After that, over what it built, the program answers the files of examples/ and cases/
-(`examples.py`), and random, spoilt and endless texts, storms of threads and failing devices (`by_program.py`). Then
-four steps at the same time. The page of the first hour is followed by the letter (`first_hour.py`), also in a repository
+(`examples.py`), and random, spoilt and endless texts, storms of threads and failing devices (`by_program.py`). Threads at
+a lock and at a seat are stopped at each step on a word that they share (`stops.py`). Then four steps at the same time. The page of the first hour is followed by the letter (`first_hour.py`), also in a repository
 that has only taken the library (`own_repository.py`). The library for C is built, and its callers in other languages
 are tested (`bindings.py`). The wrong bodies of wrong-bodies/ are held to their ledger, of which a sample is tried again
 (`wrong_bodies.py`). Then the archive of the release is used as users without the kit would, and so is one that is made of
@@ -138,6 +138,7 @@ def steps(tree):
     yield ["rt", "ci"], COUNTED
     yield [*python, f"{tree}/checks/examples.py", program], COUNTED
     yield [*python, f"{tree}/checks/by_program.py", program, seed()], COUNTED
+    yield [*python, f"{tree}/checks/stops.py", f"{tree}/crates/test_stops/out/test_stops"], COUNTED
 
 
 def last_steps(tree, is_written):

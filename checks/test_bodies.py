@@ -5,6 +5,7 @@ import types
 import unittest
 
 from bodies import Body, body_of, composed, function_at, owner_of, symbol_of
+from kit import in_whole_lines
 from said import Said
 from shifts import MARK, marked, shifted
 from trial import picked
@@ -103,6 +104,15 @@ class Messages(unittest.TestCase):
         more = body("more", "2", 14)
         self.assertEqual(Said(REFUSED, 1).refused([more]), {})
         self.assertEqual(Said(REFUSED, 2).refused([body("first", "1", 8), more]), {})
+
+    def test_an_error_whose_second_line_says_that_a_name_is_gone_refuses_nothing(self):
+        first = body("first", "1", 8)
+        begin = "proofs/two/Two/first/Answers.antt:4:14: error: `returns`: in this term\n  "
+        end = "\nfn low::two::Two::first: not proved: 1 goal\nlogic=not-proved functions=2\n"
+        gone, wrong = "record `Lts` has no field `new-3`: it has\n  `new` and `args`", "`a` is not `b`"
+        said = lambda why: Said(in_whole_lines(begin + why + end), 1)
+        self.assertEqual(said(gone).refused([first]), {})
+        self.assertEqual([*said(wrong).refused([first])], [first])
 
     def test_a_body_tried_again_goes_without_what_stood_in_its_way(self):
         first, more = body("first", "1", 8), body("more", "2", 14)
