@@ -201,12 +201,15 @@ class Exclusive(Side, Waitable):
         if status == WOULD_BLOCK:
             raise RuntimeError("another thread holds the lock")
         self._opened.close()
-        for condition, users in enumerate(self._numbers.users):
-            if users:
-                self._all(handle, condition)
+        self._wake_all(handle)
         self._free(handle)
         if status == OK and not is_owned:
             self._unlock(handle)
+
+    def _wake_all(self, handle: Any) -> None:
+        for condition, users in enumerate(self._numbers.users):
+            if users:
+                self._all(handle, condition)
 
     def _reinit(self) -> None:
         self._open(self._opened, len(self._numbers.users))
@@ -336,9 +339,19 @@ class RWLock(Recorded):
         those that wait for it or on its conditions."""
         if {*self.read._holds} - {threads.me}:
             raise RuntimeError("another thread holds the lock")
-        if not self._opened.is_closed:
-            self.read._free(self._opened.handle)
+        opened = self._opened
+        if opened.is_closed:
+            return
+        handle = opened.handle
+        if not self.read._is_owned() or self.write._is_owned():
+            self.read._free(handle)
             self.write._close()
+            return
+        opened.close()  # while this thread reads, so who gets the write side after this finds it closed
+        self.read._free(handle)
+        if self.write._calls.plain(handle) == OK:
+            self.write._wake_all(handle)
+            self.write._unlock(handle)
 
     def __del__(self) -> None:
         if hasattr(self, "write") and not self._opened.is_closed:
