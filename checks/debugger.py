@@ -1,7 +1,7 @@
 """A debugger of threads that take turns: one runs at a time, and is stopped where others can tell where it stands.
 
 It is for x86-64 on Linux, and for the program of crates/test_stops. Each of its threads is at a mark before each of its
-calls: a sleep of so many nanoseconds, which tell the number of the thread and what came of its last call. While a
+calls: a sleep whose nanoseconds tell the number of the thread and what came of its last call. While a
 thread runs, the processor traps after each instruction that touches a word which threads share (debug registers), and
 the system traps before a thread sleeps at a word, wakes others, lets others run, or comes to a mark (seccomp). Who
 sleeps is told by the system, and who is awake by the answer of a wake. So no time decides anything.

@@ -57,7 +57,7 @@ pub(crate) fn open(alloc: Global, seats: u16) -> Result<(WordLock<Blank>, Vec<To
     }
 }
 
-/// Each thread takes the lock and puts it back, so many times.
+/// Each thread takes the lock and puts it back, `rounds` times.
 pub(crate) fn run<R: Threads + Wait + Clock + Sync>(
     rt: &R,
     alloc: Global,

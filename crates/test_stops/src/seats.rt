@@ -77,7 +77,7 @@ fn work<R: Wait + Clock>(
     Ok(())
 }
 
-/// Each thread makes its call so many times.
+/// Each thread makes its call `rounds` times.
 pub(crate) fn run<R: Threads + Wait + Clock + Sync>(
     rt: &R,
     alloc: Global,
