@@ -151,7 +151,7 @@ typedef struct {
     aqs_when_full_t when_full; /* default AQS_TRIM */
     uint32_t history;          /* the most entries that are kept, at least 16. Default 1024 with AQS_TRIM, and
                                   4294967295 with AQS_REFUSE. Memory is taken as entries come, for 1,024 at a
-                                  time: 12 bytes each. Each hold of a lock and each waiter keeps room for the
+                                  time: 8 bytes each. Each hold of a lock and each waiter keeps room for the
                                   entries that end it */
     uint16_t threads;          /* its seats: how many threads can hold it or wait for it at a time, 1 to
                                   AQS_THREADS. Default AQS_THREADS. Each takes memory */

@@ -35,11 +35,11 @@ use std::marker::Model;
 #[derive(Drop)]
 pub struct Core<H: Hooks + Drop> {
     hooks: H,
-    header: Header,
     history: History,
+    seats: Vec<Seat>,
     queue: Queue,
     waiters: Waiters,
-    seats: Vec<Seat>,
+    header: Header,
 }
 
 impl<H: Hooks + Drop> Model for Core<H> {
@@ -84,11 +84,11 @@ impl<H: Hooks + Drop> Core<H> {
         let table = vec![in alloc; Seat::free(); seats as usize]?;
         Ok(Core {
             hooks,
-            header,
             history: History::open_on(cap, base),
+            seats: table,
             queue,
             waiters,
-            seats: table,
+            header,
         })
     }
 }

@@ -10,6 +10,7 @@ pub mod AskedOnce
 pub mod LastDigit
 pub mod PieceFronts
 pub mod Lists
+pub mod Packing
 pub mod Paging
 pub mod LineLemmas
 pub mod Sums

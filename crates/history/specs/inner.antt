@@ -4,3 +4,4 @@ pub mod EntryWords
 pub mod BaseSleepers
 pub mod HeaderReading
 pub mod Paged
+pub mod Packed

@@ -17,9 +17,6 @@ use crate::fold::fold_onto;
 use crate::pages::Pages;
 use std::alloc::Global;
 use std::marker::Model;
-use std::mem::size_of;
-
-const _: () = prove!(size_of::<Entry>() <= 12);
 
 /// The entries of a history in their order, at most `cap` of them.
 ///
@@ -31,12 +28,12 @@ const _: () = prove!(size_of::<Entry>() <= 12);
 /// ever lacks a place or memory.
 #[derive(Debug, Drop)]
 pub struct History {
-    base: Option<Base>,
-    pages: Pages,
-    cap: u32,
     owed: u64,
     /// How many of the entries end a call.
     calls: u64,
+    pages: Pages,
+    cap: u32,
+    base: Option<Base>,
 }
 
 impl Model for History {
@@ -63,11 +60,11 @@ impl History {
         ensures { result ≡ record { cap = cap; base = None; entries = []; owed = 0; places = 0 } }
     {
         History {
-            base: None,
-            pages: Pages::open(alloc),
-            cap,
             owed: 0,
             calls: 0,
+            pages: Pages::open(alloc),
+            cap,
+            base: None,
         }
     }
 

@@ -8,7 +8,7 @@ ghost use Rattle.history.specs.Fold.{MayFold};
 ghost use Rattle.history.specs.inner.Paged.{in_pages};
 
 use crate::base::Base;
-use crate::entry::Entry;
+use crate::packed::Packed;
 use crate::page::Page;
 use crate::pages::Pages;
 
@@ -36,7 +36,7 @@ pub(crate) fn fold_onto(base: &mut Option<Base>, entries: &Pages, count: u64) ->
 }
 
 /// Folds the entries of these pages into a base, and then those at hand.
-fn fold_parts(base: &mut Base, pages: &[Page], hand: &[Entry])
+fn fold_parts(base: &mut Base, pages: &[Page], hand: &[Packed])
     requires may { MayFold base.old (reverse (in_pages pages.now ++ hand.now)) }
     requires few { base.old.entries + length (reverse (in_pages pages.now ++ hand.now)) ≤ MOST_FOLDED }
     ensures { base.new ≡ folded base.old (reverse (in_pages pages.now ++ hand.now)) }
@@ -57,12 +57,12 @@ fn fold_pages(base: &mut Base, pages: &[Page])
 }
 
 /// Folds entries into a base, the oldest first.
-fn fold_entries(base: &mut Base, entries: &[Entry])
+fn fold_entries(base: &mut Base, entries: &[Packed])
     requires may { MayFold base.old (reverse entries.now) }
     requires few { base.old.entries + length (reverse entries.now) ≤ MOST_FOLDED }
     ensures { base.new ≡ folded base.old (reverse entries.now) }
 {
     for entry in entries {
-        base.add(*entry);
+        base.add(entry.entry());
     }
 }

@@ -19,6 +19,7 @@ pub mod holds;
 pub mod laws;
 pub mod limits;
 pub mod number;
+mod packed;
 mod page;
 mod pages;
 pub mod pieces;

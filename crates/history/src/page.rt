@@ -3,6 +3,7 @@
 ghost use Rattle.std.specs.Prelude.{◌≡◌, ◌++◌, [], slice_get, IfOk, OnOk, OnErr, replicate, vec_capacity};
 
 use crate::entry::Entry;
+use crate::packed::{Packed, packed_at};
 use std::alloc::{AllocError, Global};
 use std::marker::Model;
 use std::mem::swap;
@@ -13,7 +14,7 @@ pub(crate) const PLACES: usize = 1024;
 /// Entries in their order, in memory that is reserved once and neither moves nor grows.
 #[derive(Debug, Drop)]
 pub(crate) struct Page {
-    entries: Vec<Entry>,
+    entries: Vec<Packed>,
 }
 
 impl Model for Page {
@@ -40,18 +41,18 @@ impl Page {
     pub(crate) fn get(&self, place: usize) -> Option<Entry>
         ensures { result ≡ slice_get self.now place }
     {
-        self.entries.get(place).copied()
+        packed_at(&self.entries, place)
     }
 
     /// Returns the entries in their order.
-    pub(crate) fn entries(&self) -> &[Entry]
+    pub(crate) fn entries(&self) -> &[Packed]
         ensures { result.now ≡ self.now }
     {
         &self.entries
     }
 
     /// Exchanges its entries for others, whose memory has room for as many.
-    pub(crate) fn exchange(&mut self, entries: &mut Vec<Entry>)
+    pub(crate) fn exchange(&mut self, entries: &mut Vec<Packed>)
         requires { vec_capacity entries.old ≡ 1024 }
         ensures put { self.new ≡ entries.old.items }
         ensures got { entries.new.items ≡ self.old }
@@ -61,7 +62,7 @@ impl Page {
     }
 
     /// Returns its entries with their memory.
-    pub(crate) fn into_entries(self) -> Vec<Entry>
+    pub(crate) fn into_entries(self) -> Vec<Packed>
         ensures items { result.items ≡ self }
         ensures capacity { vec_capacity result ≡ 1024 }
     {

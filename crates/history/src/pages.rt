@@ -5,6 +5,7 @@ ghost use Rattle.history.specs.Pages.{whole_pages};
 ghost use Rattle.history.specs.inner.Paged.{AreKept, in_pages, used};
 
 use crate::entry::Entry;
+use crate::packed::{Packed, packed_at};
 use crate::page::{PLACES, Page, reserve_pages};
 use std::alloc::{AllocError, Global};
 use std::marker::Model;
@@ -15,16 +16,16 @@ use std::marker::Model;
 /// full, the next reserved page takes its place.
 #[derive(Debug, Drop)]
 pub(crate) struct Pages {
-    /// All other pages: first those that are full, then those that count as empty.
-    others: Vec<Page>,
-    /// How many of the other pages are full.
-    full: usize,
-    /// The page at hand. It has no memory until a page is reserved.
-    hand: Vec<Entry>,
     /// How many entries there are.
     len: u64,
+    /// The page at hand. It has no memory until a page is reserved.
+    hand: Vec<Packed>,
     /// How many entries the reserved pages can hold.
     places: u64,
+    /// How many of the other pages are full.
+    full: usize,
+    /// All other pages: first those that are full, then those that count as empty.
+    others: Vec<Page>,
 }
 
 impl Model for Pages {
@@ -49,11 +50,11 @@ impl Pages {
         ensures { result ≡ record { entries = []; places = 0 } }
     {
         Pages {
-            others: Vec::new(alloc),
-            full: 0,
-            hand: Vec::new(alloc),
             len: 0,
+            hand: Vec::new(alloc),
             places: 0,
+            full: 0,
+            others: Vec::new(alloc),
         }
     }
 
@@ -80,7 +81,7 @@ impl Pages {
     {
         let place = number as usize;
         if place / PLACES == self.full {
-            return self.hand.get(place % PLACES).copied();
+            return packed_at(&self.hand, place % PLACES);
         }
         match full_pages(&self.others, self.full).get(place / PLACES) {
             Some(page) => page.get(place % PLACES),
@@ -134,7 +135,7 @@ impl Pages {
         ensures { self.new ≡ record self.old { entries = self.old.entries ++ entry ∷ [] } }
     {
         find_place(&mut self.others, &mut self.full, &mut self.hand);
-        self.hand.push_reserved(entry);
+        self.hand.push_reserved(Packed::of(entry));
         self.len += 1;
     }
 
@@ -149,7 +150,7 @@ impl Pages {
     }
 
     /// Returns the full pages, and the entries at hand.
-    pub(crate) fn parts(&self) -> (&[Page], &[Entry])
+    pub(crate) fn parts(&self) -> (&[Page], &[Packed])
         ensures { self.now.entries ≡ in_pages result.0.now ++ result.1.now }
     {
         (full_pages(&self.others, self.full), &self.hand)
@@ -158,7 +159,7 @@ impl Pages {
 
 /// Makes sure that the page at hand has a free place, if any page has one.
 #[inline(always)]
-fn find_place(others: &mut Vec<Page>, full: &mut usize, hand: &mut Vec<Entry>)
+fn find_place(others: &mut Vec<Page>, full: &mut usize, hand: &mut Vec<Packed>)
     requires kept { AreKept (used full.old others.old.items) full.old hand.old.items
         (vec_capacity hand.old) }
     requires place { length (in_pages (used full.old others.old.items) ++ hand.old.items)
@@ -181,7 +182,7 @@ fn find_place(others: &mut Vec<Page>, full: &mut usize, hand: &mut Vec<Entry>)
 /// Takes the next page to hand, in place of the full one, and removes what it has.
 #[cold]
 #[inline(never)]
-fn turn_page(others: &mut Vec<Page>, next: usize, hand: &mut Vec<Entry>)
+fn turn_page(others: &mut Vec<Page>, next: usize, hand: &mut Vec<Packed>)
     requires next { next < length others.old.items }
     requires capacity { vec_capacity hand.old ≡ 1024 }
     ensures others { others.new.items ≡ set others.old.items next hand.old.items }

@@ -67,7 +67,7 @@
 //!   (`docs/PERFORMANCE.md`).
 //! - *Moving the value.* A `Mutex` moves its value out and in at each pair. Put a large value into a
 //!   `Box`.
-//! - *Memory.* 12 bytes an entry, in pages of 1,024 entries. A pair that waits for nobody takes two entries,
+//! - *Memory.* 8 bytes an entry, in pages of 1,024 entries. A pair that waits for nobody takes two entries,
 //!   one that waits takes three. A lock never keeps more than `cap` entries.
 //!
 //! ## What can go wrong

@@ -14,7 +14,7 @@
 //! returns `Err(HistoryFull)` and records nothing, and the history keeps every entry. An unlock by an owner
 //! always has room.
 //!
-//! *What a call costs.* One turn of the monitor's lock and one entry of 12 bytes. A call that waits costs one
+//! *What a call costs.* One turn of the monitor's lock and one entry of 8 bytes. A call that waits costs one
 //! more turn for each time that it is woken, and one more entry. A fold takes time for each entry that it
 //! folds, so on average a call that trims pays for as many entries as it makes.
 #![tactic(auto)]

@@ -23,11 +23,11 @@ invariant_of-self c =
     let before = kept_length (used a.full a.others.items) a.full a.hand.items (vec_capacity a.hand) c.self.invariant.0 in
     let now = kept_length ps n h.items (vec_capacity h) k in
     let same = ap length c.find_place.ensures.entries in
-    let longer = ap length c.push_reserved.ensures.items ∙ length-append h.items (c.args.entry ∷ []) in (
+    let longer = ap length c.push_reserved.ensures.items ∙ length-append h.items (c.of.result ∷ []) in (
       subst (λ xs. AreKept ps n xs (vec_capacity c.push_reserved.new.self))
           (sym c.push_reserved.ensures.items)
-          (subst (AreKept ps n (h.items ++ c.args.entry ∷ [])) (sym c.push_reserved.ensures.capacity)
-          (kept_add ps n h.items (vec_capacity h) k c.args.entry room
+          (subst (AreKept ps n (h.items ++ c.of.result ∷ [])) (sym c.push_reserved.ensures.capacity)
+          (kept_add ps n h.items (vec_capacity h) k c.of.result room
           (omega (arith, room, c.find_place.ensures.place)))),
       omega (arith, c.self.invariant.1, before, now, same, longer),
       omega (

@@ -8,9 +8,9 @@ use Rattle.history.proofs.pages.Pages.get.Goals as goal
 pub returns-then-place-self : goal.returns-then-place-self
 returns-then-place-self c =
     let a = c.self.inside in
-    let there : c.copied.result ≡ slice_get a.hand.items (c.args.number % 1024) =
-    grind (arith, common_steps, gets) in
-    subst (λ (v : PagesView). c.copied.result ≡ slice_get v.entries c.args.number) c.self.view_is
+    let there : c.packed_at.result ≡ slice_get a.hand.items (c.args.number % 1024) =
+    grind (arith, common_steps, gets, c.packed_at.ensures) in
+    subst (λ (v : PagesView). c.packed_at.result ≡ slice_get v.entries c.args.number) c.self.view_is
     (there ∙ sym (get_hand (used a.full a.others.items) a.full a.hand.items (vec_capacity a.hand) c.self.invariant.0
     c.args.number c.if-place-self.true))
 
