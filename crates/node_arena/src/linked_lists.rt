@@ -30,15 +30,18 @@ pub struct LinkedLists {
     // is at `heads + key`.
     links: Vec<Link>,
     // The list that each key is in.
-    owners: Vec<Option<usize>>,
+    owners: Vec<Option<u16>>,
     heads: usize,
 }
 
 #[derive(Clone, Copy)]
 struct Link {
-    prev: usize,
-    next: usize,
+    prev: u16,
+    next: u16,
 }
+
+/// The most links of all lists and keys, so that the number of each has 16 bits.
+const MOST_LINKS: usize = 65_536;
 
 impl Model for LinkedLists {
     ghost use Rattle.node_arena.specs.LinkedLists.{LinkedLists as Lists};
@@ -46,10 +49,11 @@ impl Model for LinkedLists {
     ghost Value = { Lists };
 
     ghost use Rattle.node_arena.specs.Links.{lists_of, IsSound};
+    ghost use Rattle.std.specs.Prelude.{◌≤◌, length};
 
     ghost view = { λ s. lists_of s.links.items s.owners.items s.heads };
 
-    ghost invariant = { λ s. IsSound s.links.items s.owners.items s.heads };
+    ghost invariant = { λ s. (IsSound s.links.items s.owners.items s.heads) × (length s.links.items ≤ 65536) };
 }
 
 // Joins the two neighbours of `at`.
@@ -61,12 +65,12 @@ fn skip(links: &mut Vec<Link>, at: usize)
     ensures len { vec_len links.new ≡ vec_len links.old }
 {
     let Link { prev, next } = links[at];
-    links[prev].next = next;
-    links[next].prev = prev;
+    links[prev as usize].next = next;
+    links[next as usize].prev = prev;
 }
 
 // Puts `at` just before `next`.
-fn splice(links: &mut Vec<Link>, at: usize, next: usize)
+fn splice(links: &mut Vec<Link>, at: u16, next: u16)
     requires at_in { at < vec_len links.old }
     requires next_in { next < vec_len links.old }
     requires prev_in { prev_of links.old.items next < vec_len links.old }
@@ -75,10 +79,10 @@ fn splice(links: &mut Vec<Link>, at: usize, next: usize)
     ensures splices { Splices links.old.items links.new.items at next }
     ensures len { vec_len links.new ≡ vec_len links.old }
 {
-    let prev = links[next].prev;
-    links[at] = Link { prev, next };
-    links[prev].next = at;
-    links[next].prev = at;
+    let prev = links[next as usize].prev;
+    links[at as usize] = Link { prev, next };
+    links[prev as usize].next = at;
+    links[next as usize].prev = at;
 }
 
 impl LinkedLists {
@@ -103,11 +107,14 @@ impl LinkedLists {
         ensures no_keys { IfOk result (λ s. (key : ℕ) → list_of s key ≡ None) }
         ensures no_room { IfOk result (λ s. key_limit s ≡ 0) }
     {
+        if lists > MOST_LINKS {
+            return Err(AllocError);
+        }
         let mut links = Vec::with_capacity(alloc, lists)?;
         for head in 0..lists {
             links.push_reserved(Link {
-                prev: head,
-                next: head,
+                prev: head as u16,
+                next: head as u16,
             });
         }
         Ok(LinkedLists {
@@ -129,7 +136,7 @@ impl LinkedLists {
         if key < self.owners.len() {
             return Ok(());
         }
-        if key >= usize::MAX - self.heads {
+        if key >= MOST_LINKS - self.heads {
             return Err(AllocError);
         }
         self.links
@@ -144,8 +151,8 @@ impl LinkedLists {
         ensures absent { (list : ℕ) → result ≢ Some list → ¬ IsIn key (items self.now list) }
     {
         match self.owners.get(key) {
-            Some(owner) => *owner,
-            None => None,
+            Some(Some(owner)) => Some(*owner as usize),
+            _ => None,
         }
     }
 
@@ -157,7 +164,7 @@ impl LinkedLists {
         ensures empty { IfNone result (IsEmpty self.now list) }
         ensures apart { IsApart (items self.now list) }
     {
-        let first = self.links[list].next;
+        let first = self.links[list].next as usize;
         if first == list {
             None
         } else {
@@ -171,7 +178,7 @@ impl LinkedLists {
         ensures { (list k : ℕ) → slice_get (items self.now list) k ≡ Some key →
             result ≡ slice_get (items self.now list) (k + 1) }
     {
-        let next = self.links[self.heads + key].next;
+        let next = self.links[self.heads + key].next as usize;
         if next < self.heads {
             None
         } else {
@@ -185,7 +192,7 @@ impl LinkedLists {
         ensures { (list k : ℕ) → slice_get (items self.now list) k ≡ Some key →
             result ≡ one_before (items self.now list) k }
     {
-        let prev = self.links[self.heads + key].prev;
+        let prev = self.links[self.heads + key].prev as usize;
         if prev < self.heads {
             None
         } else {
@@ -202,8 +209,8 @@ impl LinkedLists {
         ensures last { items self.new list ≡ items self.old list ++ key ∷ [] }
         ensures others { (other : ℕ) → other ≢ list → items self.new other ≡ items self.old other }
     {
-        splice(&mut self.links, self.heads + key, list);
-        self.owners[key] = Some(list);
+        splice(&mut self.links, (self.heads + key) as u16, list as u16);
+        self.owners[key] = Some(list as u16);
     }
 
     /// Takes `key` out of its list, if it is in one, and returns that list.

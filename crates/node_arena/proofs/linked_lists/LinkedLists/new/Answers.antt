@@ -11,9 +11,11 @@ loop-head-preserved c = (
 )
 
 pub invariant_of-result : goal.invariant_of-result
-invariant_of-result c =
-    rw c.new.ensures.items
-    (IsSound-new _ _ (omega arith) (λ list head. c.loop-head.invariant.2 list (omega arith)))
+invariant_of-result c = (
+  rw c.new.ensures.items
+      (IsSound-new _ _ (omega arith) (λ list head. c.loop-head.invariant.2 list (omega arith))),
+  omega arith,
+)
 
 pub returns-clause-count : goal.returns-clause-count
 returns-clause-count c = list_count-lists_of _ _ _

@@ -9,7 +9,7 @@ pub skip-requires-clause-prev_in : goal.skip-requires-clause-prev_in
 skip-requires-clause-prev_in c =
     omega (
       arith,
-      before_within _ _ _ c.self.invariant c.in_ok-list.list c.args.key
+      before_within _ _ _ c.self.invariant.0 c.in_ok-list.list c.args.key
           (rw (← c.self.view_is) at (sym c.in_ok-list.ensures.value)),
     )
 
@@ -17,7 +17,7 @@ pub skip-requires-clause-next_in : goal.skip-requires-clause-next_in
 skip-requires-clause-next_in c =
     omega (
       arith,
-      after_within _ _ _ c.self.invariant c.in_ok-list.list c.args.key
+      after_within _ _ _ c.self.invariant.0 c.in_ok-list.list c.args.key
           (rw (← c.self.view_is) at (sym c.in_ok-list.ensures.value)),
     )
 
@@ -28,11 +28,12 @@ changes : (c : After-index_mut) →
     (without c.args.key (items (lists_of c.self.inside.links.items c.self.inside.owners.items
     c.self.inside.heads) c.in_ok-list.list))
 changes c =
-    Changes-skip _ _ _ _ c.in_ok-list.list c.args.key c.self.invariant (omega arith)
+    Changes-skip _ _ _ _ c.in_ok-list.list c.args.key c.self.invariant.0 (omega arith)
     (rw (← c.self.view_is) at (sym c.in_ok-list.ensures.value)) c.skip.ensures.skips
 
 pub invariant_of-self : goal.invariant_of-self
-invariant_of-self c = (changes (goal.at.invariant_of-self c).After-index_mut).sound
+invariant_of-self c =
+    ((changes (goal.at.invariant_of-self c).After-index_mut).sound, omega (arith, c.self.invariant.1, c.skip.ensures.len))
 
 pub returns-clause-left : goal.returns-clause-left
 returns-clause-left c =
@@ -42,7 +43,7 @@ pub returns-clause-shorter : goal.returns-clause-shorter
 returns-clause-shorter c =
     rw (← c.self.view_is)
     (ap (λ keys. length keys + 1) (changes (goal.at.returns-clause-shorter c).After-index_mut).changed
-    ∙ shorter_after_skip _ c.skip.new.links.items _ _ c.in_ok-list.list c.args.key c.self.invariant
+    ∙ shorter_after_skip _ c.skip.new.links.items _ _ c.in_ok-list.list c.args.key c.self.invariant.0
     (omega arith) (rw (← c.self.view_is) at (sym c.in_ok-list.ensures.value)))
 
 pub returns-clause-others : goal.returns-clause-others
