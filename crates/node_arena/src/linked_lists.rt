@@ -87,6 +87,7 @@ fn splice(links: &mut Vec<Link>, at: u16, next: u16)
 
 impl LinkedLists {
     /// Returns `lists` empty lists, numbered from 0, with a link for each key below `keys` and for no other.
+    /// Fails if memory lacks, or for more than 65,536 lists and keys in all.
     pub fn with_keys(alloc: Global, lists: usize, keys: usize) -> Result<Self, AllocError>
         ensures count { IfOk result (λ s. list_count s ≡ lists) }
         ensures no_items { IfOk result (λ s. (list : ℕ) → items s list ≡ []) }
