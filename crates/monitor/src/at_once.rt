@@ -1,9 +1,9 @@
 //! The fast way of a call: one turn of the lock, by a function that can't wait.
 //!
 //! Nearly all calls find the object free, and are done at once by their one step. They take the object by one
-//! exchange, step, and put it back. What they return is small: the seat that the step named. A step that isn't
-//! done at once takes the general path in the same turn of the lock, and its answer is written to memory. Only
-//! a call that finds the object taken calls the function that may wait.
+//! exchange, step, and put it back. What they return is small: the seat that the step named. A step that
+//! isn't done at once takes the general path in the same turn of the lock, and its answer is written to
+//! memory. Only a call that finds the object taken calls the function that may wait.
 ghost use Rattle.std.specs.Prelude.{◌≡◌};
 ghost use Rattle.monitor.specs.Calling.{Called};
 ghost use Rattle.monitor.specs.Load.{Brings, LetsGo, Trades, given_by, holds_of};

@@ -18,9 +18,9 @@ pub struct Holds {
 /// carries: whoever releases permits brings as many items, and whoever acquires permits has as many more
 /// items.
 ///
-/// A step that lets the last exclusive hold go puts under the lock what its seat carries. So that part must be fit
-/// to lie there. By other steps it stays as fit as it was. If the holds of the seat and the free permits stay, both
-/// parts stay, as after a refusal.
+/// A step that lets the last exclusive hold go puts under the lock what its seat carries. So that part must
+/// be fit to lie there. By other steps it stays as fit as it was. If the holds of the seat and the free
+/// permits stay, both parts stay, as after a refusal.
 pub trait Load: Drop {
     ghost use Rattle.std.specs.Prelude.{◌≡◌, Bool, ℕ};
     ghost use Rattle.history.specs.declared.entry.Mode.{Mode};

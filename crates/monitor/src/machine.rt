@@ -287,8 +287,8 @@ pub(crate) fn first_turn(
 }
 
 /// A caller that parks has three duties after each turn, in this order: it unparks the seat that was named,
-/// by [`Pass::unpark`]; if the call has ended with `again`, it sets the interrupt of its own seat; if the call
-/// waits, it parks its own seat as [`Waiting::limits`] says, if it says so, and goes on.
+/// by [`Pass::unpark`]; if the call has ended with `again`, it sets the interrupt of its own seat; if the
+/// call waits, it parks its own seat as [`Waiting::limits`] says, if it says so, and goes on.
 impl<H: Hooks + Drop, L: Load> Monitor<H, L> {
     /// The first turn of a call. `interrupted` says that the call heeds interrupts and that one was pending:
     /// it was taken. `moment` is what the clock shows. A timed call counts from it, and other calls ignore
@@ -336,7 +336,8 @@ impl<H: Hooks + Drop, L: Load> Monitor<H, L> {
         requires fit { AsksAwait request → L.fit load.old }
         ensures called { Called pass.old pass.new }
         ensures busy { IfNone result (pass.new ≡ pass.old) }
-        ensures begun { IfSome result (λ turn. IsBegun pass.old request how moment interrupted turn pass.new) }
+        ensures begun { IfSome result (λ turn.
+            IsBegun pass.old request how moment interrupted turn pass.new) }
         ensures carries { L.carries load.new (holds_of pass.new) }
         ensures trades { Trades L.fit L.is_counted L.amount load.old pass.old load.new pass.new }
     {

@@ -117,7 +117,8 @@ impl<H: Hooks + Drop, L: Load> Monitor<H, L> {
         answer
     }
 
-    /// One step of the pass's seat, unless another call has its turn. It waits for nobody.
+    /// One step of the pass's seat, unless another call has its turn. It waits for nobody. If it is `Busy` the
+    /// pass is as it was, and so is the load.
     pub fn step_now_with(&self, pass: &mut Pass, load: &mut L, step: Step) -> Result<Now, Fault>
         requires is_of { pass.old.lock ≡ self.now }
         requires carries { L.carries load.old (holds_of pass.old) }
