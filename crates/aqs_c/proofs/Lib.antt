@@ -1,3 +1,4 @@
+pub mod Walking
 pub mod Values
 pub mod HeldValues
 pub mod SeatTurns

@@ -1,5 +1,5 @@
 -- The places of an opening, one after another.
-use Rattle.std.proofs.Common.{◌≡◌, List, [], ◌∷◌, ◌++◌, length, sym, ap, ◌∙◌, append-nil, append_assoc, map}
+use Rattle.std.proofs.Common.{◌≡◌, List, [], ◌∷◌, ◌++◌, length, sym, ap, ◌∙◌, append_assoc, map}
 use Rattle.std.proofs.lemmas.List.{length-map, map_push}
 use Rattle.aqs_c.specs.Below.{Header, blank, opening_passes}
 use Rattle.monitor.proofs.Opening.{opening_count}
@@ -14,11 +14,6 @@ placed_more f g done x y rest all so_far same =
     ap (λ l. l ++ map g rest) (map_push f done x)
     ∙ (append_assoc (map f done) (f x ∷ []) (map g rest)
     ∙ (ap (λ z. map f done ++ z ∷ map g rest) same ∙ so_far))
-
-pub placed_all : {X Y Z : Type 0} (f : X → Z) (g : Y → Z) (done : List X) (rest : List Y) (all : List Z) →
-    map f done ++ map g rest ≡ all → rest ≡ [] → map f done ≡ all
-placed_all f g done rest all so_far none =
-    sym (append-nil (map f done)) ∙ (ap (λ l. map f done ++ map g l) (sym none) ∙ so_far)
 
 -- an opening makes as many passes as there are seats
 pub opened_count : (h : Header) (places : List AqsPass) → IsOpened h places → length places ≡ h.seats

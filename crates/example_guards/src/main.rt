@@ -4,8 +4,6 @@
 //!
 //! - `buffer`: a queue with two places, which a lock guards. One thread puts, another takes.
 //! - `read_mostly_table`: a table that a read-write lock guards, and writers that downgrade to readers.
-//! - `counter`: a number that four threads count up. What they counted and what they left add up to what was
-//!   asked for. `counter 10000000` takes no more memory than `counter 20000`.
 //! - `bank`: two accounts, between which two threads pay. The lock keeps the invariant that their sum is 1000.
 //! - `connection_pool`: clients that share connections of a pool.
 //!
@@ -26,13 +24,11 @@ ghost use Rattle.std.specs.Prelude.{◌≡◌};
 ghost use Rattle.example_guards.specs.declared.Failure.TheVariants.{Call};
 
 mod accounts;
-mod adding;
 mod bank;
 mod bounded;
 mod bounded_buffer;
 mod buffer;
 mod connection_pool;
-mod counter;
 mod endless_lock;
 mod first_lock;
 mod history_in_parts;
@@ -77,7 +73,6 @@ fn run_all<R: Print + Eprint + AllocGlobal + Threads + Wait + Clock + Sync>(
 ) -> io::Result<()> {
     buffer::run(rt)?;
     read_mostly_table::run(rt)?;
-    counter::run(rt, words)?;
     bank::run(rt)?;
     first_lock::run(rt)?;
     bounded_buffer::run(rt)?;
@@ -97,7 +92,6 @@ fn run<R: Print + Eprint + AllocGlobal + Threads + Wait + Clock + Sync>(
         None => run_all(rt, words),
         Some("buffer") => buffer::run(rt),
         Some("read_mostly_table") => read_mostly_table::run(rt),
-        Some("counter") => counter::run(rt, words),
         Some("bank") => bank::run(rt),
         Some("first_lock") => first_lock::run(rt),
         Some("bounded_buffer") => bounded_buffer::run(rt),

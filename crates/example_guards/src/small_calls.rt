@@ -1,14 +1,18 @@
-//! The callers of the pages `CALLING.md`, each called once.
-//!
-//! They are functions of `example_calls`: for a history, a core, an audit, both streams in memory, and a
-//! script. Prints what each of them returns.
+//! The callers of the pages `CALLING.md`, each called once: for a history, a core, an audit, both streams in
+//! memory, and a script. Prints what each of them returns.
 
+mod audits;
+mod cores;
+mod histories;
+mod replays;
+mod scripts;
+
+use crate::small_calls::audits::totals_if_legal;
+use crate::small_calls::cores::{acquire, fair_lock};
+use crate::small_calls::histories::add_acquire;
+use crate::small_calls::replays::{history_of, verdict_on};
+use crate::small_calls::scripts::threads_of;
 use audit::verdict::Verdict;
-use example_calls::audits::totals_if_legal;
-use example_calls::cores::{acquire, fair_lock};
-use example_calls::histories::add_acquire;
-use example_calls::replays::{history_of, verdict_on};
-use example_calls::scripts::threads_of;
 use history::entries::History;
 use history::entry::{End, Entry, Mode, Word};
 use history::header::{Header, Object, Policy};

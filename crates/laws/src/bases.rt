@@ -2,31 +2,7 @@
 
 ghost use Rattle.std.specs.Prelude.{◌≡◌, ◌≢◌, ◌↔◌, ◌+◌, ◌<◌, ◌≤◌, ℕ, List, [], ◌∷◌, ◌++◌, length, true};
 ghost use Rattle.std.specs.List.{AllByRecursion};
-ghost use Rattle.history.specs.declared.limits.TheConstants.{MOST_FOLDED};
-ghost use Rattle.history.specs.declared.entry.Entry.{Entry};
-ghost use Rattle.history.specs.declared.entry.Mode.TheVariants.{X};
-ghost use Rattle.history.specs.declared.header.Header.{Header};
-ghost use Rattle.history.specs.declared.point.Point.{Point};
-ghost use Rattle.history.specs.declared.step.Step.{Step};
-ghost use Rattle.history.specs.Base.{Base, based, folded, opening_base};
-ghost use Rattle.history.specs.Conservation.{IsConserved};
-ghost use Rattle.history.specs.Counts.{count, free, held, unheld};
-ghost use Rattle.history.specs.GoodBase.{IsGood, IsModest};
-ghost use Rattle.history.specs.Header.{IsInRange};
-ghost use Rattle.history.specs.Legal.{AreSeated, IsLegal, calls};
-ghost use Rattle.history.specs.Line.{line};
-ghost use Rattle.history.specs.Naming.{named};
-ghost use Rattle.history.specs.NextBase.{next_base};
-ghost use Rattle.history.specs.Object.{is_lock, is_semaphore};
-ghost use Rattle.history.specs.Order.{IsFairOrder, IsInOrder};
-ghost use Rattle.history.specs.Ownership.{IsOwned, IsSaved, is_away};
-ghost use Rattle.history.specs.Phase.{Idle, phase};
-ghost use Rattle.history.specs.Point.{Agrees, CanFold, ComesBefore, FollowsBy};
-ghost use Rattle.history.specs.Room.{owed};
-ghost use Rattle.history.specs.Sleepers.{last_sleep, sleepers};
-ghost use Rattle.history.specs.Start.{opening};
-ghost use Rattle.history.specs.Steps.{entry_for};
-ghost use Rattle.history.specs.Waiting.{IsOneWait};
+ghost use Rattle.laws.specs.Below.{MOST_FOLDED, Entry, X, Header, Point, Step, Base, based, folded, opening_base, IsConserved, count, free, held, unheld, IsGood, IsModest, IsInRange, AreSeated, IsLegal, calls, line, named, next_base, is_lock, is_semaphore, IsFairOrder, IsInOrder, IsOwned, IsSaved, is_away, Idle, phase, Agrees, CanFold, ComesBefore, FollowsBy, owed, last_sleep, sleepers, opening, entry_for, IsOneWait};
 ghost use Rattle.laws.specs.Forgetful.{counted_out, forgets_a_permit, forgets_a_read, forgets_a_sleeper, forgets_the_count, gave_a_read, granted_first, moved, opened_for_one, opened_latch, opened_lock, opened_read_write, opened_semaphore, passes, read_held, released_unheld, reverses_its_line, slept, taken_by_nobody, took_a_permit, two_in_line};
 ghost use Rattle.laws.specs.OutOfTurn.{gave_first, taken};
 

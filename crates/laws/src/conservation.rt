@@ -2,17 +2,7 @@
 
 ghost use Rattle.std.specs.Prelude.{◌≡◌, ◌*◌, ◌≤◌, ◌≤ℤ◌, List, ℕ, true, pos, length, FitsSigned};
 ghost use Rattle.std.specs.Int.{w32};
-ghost use Rattle.history.specs.declared.entry.Entry.{Entry};
-ghost use Rattle.history.specs.declared.entry.Mode.{Mode};
-ghost use Rattle.history.specs.declared.entry.Mode.TheVariants.{S};
-ghost use Rattle.history.specs.declared.header.Header.{Header};
-ghost use Rattle.history.specs.declared.limits.TheConstants.{MOST_AMOUNT};
-ghost use Rattle.history.specs.Conservation.{IsConserved};
-ghost use Rattle.history.specs.Counts.{free, held};
-ghost use Rattle.history.specs.Header.{IsInRange};
-ghost use Rattle.history.specs.Legal.{AreSeated, IsLegal};
-ghost use Rattle.history.specs.Object.{is_semaphore};
-ghost use Rattle.history.specs.Start.{opening};
+ghost use Rattle.laws.specs.Below.{Entry, Mode, S, Header, MOST_AMOUNT, IsConserved, free, held, IsInRange, AreSeated, IsLegal, is_semaphore, opening};
 ghost use Rattle.laws.specs.Breaks.{drained_too_many, permit_slept_away, released_too_many, semaphore};
 
 /// The permits held and free are those with which the semaphore was opened and those that were released by

@@ -1,11 +1,7 @@
 //! Laws of order: the wait queue is served first come, first served.
 
 ghost use Rattle.std.specs.Prelude.{List};
-ghost use Rattle.history.specs.declared.entry.Entry.{Entry};
-ghost use Rattle.history.specs.declared.header.Header.{Header};
-ghost use Rattle.history.specs.Legal.{IsLegal};
-ghost use Rattle.history.specs.Order.{IsFairOrder, IsInOrder};
-ghost use Rattle.history.specs.Start.{opening};
+ghost use Rattle.laws.specs.Below.{Entry, Header, IsLegal, IsFairOrder, IsInOrder, opening};
 ghost use Rattle.laws.specs.OutOfTurn.{fair_lock, got_past_the_line, granted_out_of_turn};
 ghost use Rattle.laws.specs.OutOfTurn.{strict_lock, tried_past_the_line};
 

@@ -1,13 +1,7 @@
 //! Laws of the owners and readers of a lock or read-write lock.
 
 ghost use Rattle.std.specs.Prelude.{◌≡◌, List, ℕ, true};
-ghost use Rattle.history.specs.declared.entry.Entry.{Entry};
-ghost use Rattle.history.specs.declared.header.Header.{Header};
-ghost use Rattle.history.specs.Legal.{AreSeated, IsLegal};
-ghost use Rattle.history.specs.Object.{is_lock};
-ghost use Rattle.history.specs.Ownership.{IsOwned, IsSaved, is_away};
-ghost use Rattle.history.specs.Phase.{phase};
-ghost use Rattle.history.specs.Start.{opening};
+ghost use Rattle.laws.specs.Below.{Entry, Header, AreSeated, IsLegal, is_lock, IsOwned, IsSaved, is_away, phase, opening};
 ghost use Rattle.laws.specs.Breaks.{lock, read_write, reader_beside_owner, stranger_sleeps, two_owners};
 
 /// At most one seat has exclusive holds, no other seat reads at the same time, and holds stay within their

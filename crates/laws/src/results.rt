@@ -1,12 +1,7 @@
 //! Laws of results: any steps, in any order, leave a legal history.
 
 ghost use Rattle.std.specs.Prelude.{List, [], ℕ};
-ghost use Rattle.history.specs.declared.entry.Entry.{Entry};
-ghost use Rattle.history.specs.declared.header.Header.{Header};
-ghost use Rattle.history.specs.declared.step.Step.{Step};
-ghost use Rattle.history.specs.Answers.{results};
-ghost use Rattle.history.specs.Legal.{IsLegal};
-ghost use Rattle.history.specs.Start.{Start, opening};
+ghost use Rattle.laws.specs.Below.{Entry, Header, Step, results, IsLegal, Start, opening};
 ghost use Rattle.laws.specs.OutOfTurn.{fair_lock, gave_first};
 
 /// A list of steps of any seats leaves a legal history, if the object is as opened or has a legal history,

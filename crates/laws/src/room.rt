@@ -1,13 +1,7 @@
 //! Laws of room: what must be released finds room, whatever else was recorded.
 
 ghost use Rattle.std.specs.Prelude.{◌≡◌, ◌≢◌, ◌+◌, List, [], ◌∷◌, ℕ, true, false};
-ghost use Rattle.history.specs.declared.entry.Entry.{Entry};
-ghost use Rattle.history.specs.declared.header.Header.{Header};
-ghost use Rattle.history.specs.declared.step.Step.{Step};
-ghost use Rattle.history.specs.Answers.{answer, results};
-ghost use Rattle.history.specs.Legal.{AreSeated, IsLegal};
-ghost use Rattle.history.specs.Room.{Fits, has_room, owed, releases, reserves, was_owed};
-ghost use Rattle.history.specs.Start.{Start, opening};
+ghost use Rattle.laws.specs.Below.{Entry, Header, Step, answer, results, AreSeated, IsLegal, Fits, has_room, owed, releases, reserves, was_owed, Start, opening};
 ghost use Rattle.laws.specs.Breaks.{full, leaves_unseen, lock};
 
 /// What is owed changes at each entry by what the entry reserves and releases, and by nothing else.

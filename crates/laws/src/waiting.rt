@@ -1,12 +1,7 @@
 //! Laws of waiting: a seat waits in one place.
 
 ghost use Rattle.std.specs.Prelude.{◌≡◌, ◌+◌, ◌≤◌, List, length, true};
-ghost use Rattle.history.specs.declared.entry.Entry.{Entry};
-ghost use Rattle.history.specs.declared.header.Header.{Header};
-ghost use Rattle.history.specs.Legal.{AreSeated, IsLegal};
-ghost use Rattle.history.specs.Line.{line};
-ghost use Rattle.history.specs.Start.{opening};
-ghost use Rattle.history.specs.Waiting.{IsOneWait, asleep};
+ghost use Rattle.laws.specs.Below.{Entry, Header, AreSeated, IsLegal, line, opening, IsOneWait, asleep};
 ghost use Rattle.laws.specs.OutOfTurn.{fair_lock, queued_twice};
 
 /// A seat waits at most once, in the queue or on a condition.

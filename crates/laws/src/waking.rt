@@ -1,16 +1,7 @@
 //! Laws of waking: a waiter that can go is told, and nobody is woken for nothing.
 
 ghost use Rattle.std.specs.Prelude.{◌≡◌, ◌≢◌, ℕ, Bool, List, [], ◌∷◌, ◌++◌, Some, Ok};
-ghost use Rattle.history.specs.declared.entry.Entry.{Entry};
-ghost use Rattle.history.specs.declared.header.Header.{Header};
-ghost use Rattle.history.specs.declared.step.Step.{Step};
-ghost use Rattle.history.specs.declared.step.Answer.TheVariants.{Recorded};
-ghost use Rattle.history.specs.Answers.{answer, results};
-ghost use Rattle.history.specs.Base.{Base, based, folded};
-ghost use Rattle.history.specs.Naming.{named, ready};
-ghost use Rattle.history.specs.Point.{CanFold};
-ghost use Rattle.history.specs.Start.{Start, opening};
-ghost use Rattle.history.specs.Marks.{AreRight, AreTold, StandInLine, marks, marks_after, remarked, unmarked};
+ghost use Rattle.laws.specs.Below.{Entry, Header, Step, Recorded, answer, results, Base, based, folded, named, ready, CanFold, Start, opening, AreRight, AreTold, StandInLine, marks, marks_after, remarked, unmarked};
 ghost use Rattle.laws.specs.OutOfTurn.{fair_lock, given_to_a_waiter};
 ghost use Rattle.laws.specs.Woken.{IsWoken};
 

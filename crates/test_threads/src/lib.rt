@@ -16,8 +16,6 @@ mod plays;
 #[cfg(test)]
 mod predicates;
 #[cfg(test)]
-mod rounds;
-#[cfg(test)]
 mod storms;
 #[cfg(test)]
 mod tales;

@@ -1,7 +1,6 @@
 //! Tests of parkings.
 
 mod order;
-mod races;
 mod threads;
 
 use crate::word_locks::notes::Notes;

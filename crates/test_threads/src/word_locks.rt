@@ -2,5 +2,4 @@
 
 mod meanwhile;
 pub mod notes;
-mod races;
 pub mod tokens;

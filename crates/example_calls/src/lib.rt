@@ -1,8 +1,0 @@
-//! The proved callers of the pages CALLING.md: one module for each page.
-#![tactic(auto)]
-
-pub mod audits;
-pub mod cores;
-pub mod histories;
-pub mod replays;
-pub mod scripts;
