@@ -138,7 +138,7 @@ impl<H: Hooks + Drop, L: Load> Monitor<H, L> {
 
 // A share after a step that was done at once: each ends a call.
 #[inline(always)]
-fn one_call_more(share: u64) -> u64
+pub(crate) fn one_call_more(share: u64) -> u64
     requires { share < 2 ^ 63 }
     ensures { result ≡ 1 + share }
 {
