@@ -11,6 +11,16 @@ some_left n q =
     ⊎_elim (λ z. let t = eq-eqb n 0 z in let f : true ≡ false = sym t ∙ q in cc) (λ ne. omega (arith, ne))
     (cases_eq n 0)
 
+-- with as many holds as before nothing crosses
+alike : (b : Bool) → differ b b ≡ false
+alike true = refl
+alike false = refl
+
+pub not_crossed : {A : Type 0} (before after : ℕ) (x y z : A) → before ≡ after →
+    z ≡ cond (crosses before after) x y → z ≡ y
+not_crossed before after x y z same is =
+    is ∙ ap (λ (b : Bool). cond b x y) (ap (crosses before) (sym same) ∙ alike (eqb before 0))
+
 module _ (i : ℕ) (f g : ℕ → ℕ) (one_f : (a b : ℕ) → 0 < f a → 0 < f b → a ≡ b)
     (one_g : (a b : ℕ) → 0 < g a → 0 < g b → a ≡ b) (others : (j : ℕ) → j ≢ i → g j ≡ f j) where
   elsewhere : (j : ℕ) → f i ≡ 0 → 0 < f j → j ≢ i

@@ -1,11 +1,12 @@
 -- The section of the lock around a step of the core.
-use Rattle.std.proofs.Common.{◌≡◌, ℕ, ◌+◌, Bool, Result}
+use Rattle.std.proofs.Common.{◌≡◌, ℕ, ◌+◌, Bool, Result, ap, sym, ◌∙◌}
 use Rattle.monitor.specs.Below.{Fault, Answer, Step, ended_calls, opening, CoreView, free, counts_of, made_by, Before, AllAgree, Ticket, first_entries, after_lock, after_unlock}
-use Rattle.monitor.specs.Prelude.{point_of, IsLawfulCore, Moves, free_of, IsPass, shown}
+use Rattle.monitor.specs.Prelude.{point_of, IsLawfulCore, Moves, Trades, holds_in, IsPass, shown}
 use Rattle.monitor.specs.inner.CoreSteps.{IsCoreStep}
 use Rattle.monitor.specs.inner.Sections.{Taking, Went}
-use Rattle.monitor.proofs.Freeing.{moves_own, section_frees}
+use Rattle.monitor.proofs.Freeing.{free_kept, moves_own, section_frees}
 use Rattle.monitor.proofs.Sections.{Section, answered_shown, called_by, owed_shown, section_pass, section_step, sectioned}
+use Rattle.monitor.proofs.Taking.{holds_left, holds_taken}
 use Rattle.monitor.proofs.Beside.{beside_of}
 
 -- what was taken, and what is put back
@@ -65,10 +66,24 @@ module _ (t o n : Ticket) (v w : CoreView) (seat share : ℕ) (a : Around t o n 
       }
 
   -- and what changed hands
-  pub moves_by : (next : ℕ) {A : Type 0} (fit : A → Type 0) (counted : Bool) (amount : A → ℕ) (x y : A) →
-      Moves fit counted amount x (counts_of v).free y (counts_of w).free →
-      Moves fit counted amount x (free_of (shown t seat share)) y (free_of (shown n seat next))
-  moves_by next fit counted amount x y m =
-      moves_own fit counted amount x y (free (opening t.lock.header) (first_entries t.logs))
-      (free (opening n.lock.header) (first_entries n.logs)) (counts_of v).free (counts_of w).free
-      (section_frees t o n (point_of v) (point_of w) seat share step r section_of) m
+  pub trades_by : (next : ℕ) → next ≡ ended_calls (made_by r) + share → {A : Type 0} (fit : A → Type 0)
+      (counted : Bool) (amount : A → ℕ) (x y : A) → Moves fit counted amount x (counts_of v).free y (counts_of w).free →
+      (holds_in w seat ≡ holds_in v seat → (counts_of w).free ≡ (counts_of v).free → y ≡ x) →
+      Trades fit counted amount x (shown t seat share) y (shown n seat next)
+  trades_by next is fit counted amount x y m stays =
+      let f = free (opening t.lock.header) (first_entries t.logs) in
+      let g = free (opening n.lock.header) (first_entries n.logs) in
+      let frees = section_frees t o n (point_of v) (point_of w) seat share step r section_of in
+      let k : Taking t o v seat share = record {
+        taken = a.taken;
+        was = a.was;
+        begins = a.begins;
+        entries = a.entries;
+        kept = a.kept;
+      } in (
+        moves_own fit counted amount x y f g (counts_of v).free (counts_of w).free frees m,
+        λ same free_same. stays
+            (sym (holds_left n (point_of w) seat next (went next is).called.shows
+            (ap (λ (z : Ticket). z.seen) a.given)) ∙ (same ∙ holds_taken t o v seat share k))
+            (free_kept f g (counts_of v).free (counts_of w).free frees free_same),
+      )

@@ -291,10 +291,8 @@ moves_own fit true amount x y f g a b q m = (
 )
 moves_own fit false amount x y f g a b q m = m
 
-pub moves_none : {A : Type 0} (fit : A → Type 0) (counted : Bool) (amount : A → ℕ) (x : A) (f : ℤ) →
-    Moves fit counted amount x f x f
-moves_none fit true amount x f = (refl, λ _. refl, λ k. k)
-moves_none fit false amount x f = λ k. k
+pub free_kept : (f g a b : ℤ) → g +ℤ a ≡ f +ℤ b → g ≡ f → b ≡ a
+free_kept f g a b q same = omega (arith, ints, q, same)
 
 -- what one who took and gave nothing carries is as it was
 pub stays : {A : Type 0} (fit : A → Type 0) (counted : Bool) (amount : A → ℕ) (x y : A) (f g : ℤ) → g ≡ f →

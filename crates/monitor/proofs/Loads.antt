@@ -1,18 +1,20 @@
 -- What a turn of the lock is to a load.
-use Rattle.std.proofs.Common.{◌≡◌, ◌≢◌, ℕ, ◌-◌, ◌<◌, ◌==◌, Bool, true, false, ◌&&◌, not, cond, length, Some, List, [], ◌∷◌, ◌++◌, Result, Ok, Err, IfOk, OnErr, refl, sym, ap, ◌∙◌, subst, ℤ, pos, ◌+ℤ◌}
+use Rattle.std.proofs.Common.{◌≡◌, ◌≢◌, ℕ, ◌-◌, ◌<◌, ◌==◌, Bool, true, false, ◌&&◌, not, cond, length, Some, List, [], ◌∷◌, ◌++◌, Result, Ok, Err, refl, sym, ap, ◌∙◌, subst, ℤ, pos, ◌+ℤ◌}
 use Rattle.std.specs.List.{AllByRecursion}
-use Rattle.monitor.specs.Below.{available, Entry, Mode, X, Word, Fault, Header, Object, Point, Answer, Recorded, Sleep, Step, Signal, SignalAll, Base, based, folded, opening_base, is_seat, Counts, counted, counted_after, counts, free, free_after, held, holds_after, owner, same_mode, is_lock, opening_count, waits, sleepers, Start, opening, at_most_one, entry_for, plain, signals, CoreView, IsAnswered, IsTrimmed, counts_of, start_of, made_by, AreAlike, header_of, Agrees}
+use Rattle.monitor.specs.Below.{available, Entry, Mode, X, S, Word, Fault, Header, Object, Point, Answer, Recorded, Sleep, Step, Signal, SignalAll, Base, based, folded, opening_base, is_seat, Counts, counted, counted_after, counts, free, free_after, held, holds_after, owner, same_mode, is_lock, is_semaphore, opening_count, waits, sleepers, Start, opening, at_most_one, entry_for, plain, signals, CoreView, IsAnswered, IsTrimmed, counts_of, start_of, made_by, AreAlike, header_of, Agrees}
 use Rattle.history.specs.declared.entry.End.TheVariants as end
 use Rattle.history.specs.declared.entry.Word.TheVariants as word
 use Rattle.history.specs.declared.fault.Fault.TheVariants as fault
-use Rattle.frame.specs.Core.{KeepsHolds}
 use Rattle.history.proofs.Alike.{Alike}
 use Rattle.history.proofs.Folding.{fold_alike}
 use Rattle.history.proofs.GoodFolds.{owned_behind}
 use Rattle.history.proofs.OpeningBase.{based_opening}
 use Rattle.history.proofs.SleepLemmas.{held_other}
-use Rattle.monitor.specs.Prelude.{IsLawfulCore, IsLawful, point_of, start_at, IsFree, IsOneOwner, IsTurn, holds_by, holds_in, holds_of, is_refused, leaves_holds, opened_counts, Moves, Shown, IsSound}
+use Rattle.monitor.specs.Prelude.{IsLawfulCore, IsLawful, point_of, start_at, IsFree, IsOneOwner, IsTurn, Trades, free_of, holds_by, holds_of, is_refused, was_refused, opened_counts, Shown, IsSame, IsSound, IsStep}
+use Rattle.monitor.specs.Load.{AreOf}
+use Rattle.monitor.specs.declared.load.Holds.{Holds}
 use Rattle.monitor.specs.inner.Load.{is_signal}
+use Rattle.monitor.specs.inner.Stepping.{entry_in}
 use Rattle.monitor.proofs.Acquiring.{idle_made}
 use Rattle.monitor.proofs.Freeing.{turn_frees}
 use Rattle.monitor.proofs.InLine.{records}
@@ -178,47 +180,41 @@ rests_signalled rests alike v w i step r kept kept' signal answered x =
         alike _ _ (still_alike (based v.base) v.entries e
         (signal_still (based v.base) v.entries i step e signal made.made)) x
 
--- an answer that leaves all holds leaves what a load knows of the counts
-pub record AreLeft (v w : CoreView) (i : ℕ) : Type 0 where
-  pub alike : AreAlike (counts_of v) (counts_of w)
-  pub holds : holds_in w i ≡ holds_in v i
-  pub free : (counts_of w).free ≡ (counts_of v).free
-
-are_left : (v : CoreView) (i : ℕ) → AreLeft v v i
-are_left v i =
+-- where holds and free permits stay, a load finds them as they were
+pub holds_stay : (before after : Holds) (h i : Mode → ℕ) → AreOf before h → AreOf after i → i ≡ h → before ≡ after
+holds_stay before after h i b a same = λ d.
     record {
-      alike = record { object = refl; seats = refl; held = λ j m. refl; free = λ _. refl; count = refl };
-      holds = refl;
-      free = refl;
+      exclusive = (b.0 ∙ (sym (ap (λ (f : Mode → ℕ). f X) same) ∙ sym a.0)) d;
+      shared = (b.1 ∙ (sym (ap (λ (f : Mode → ℕ). f S) same) ∙ sym a.1)) d;
     }
 
-refused_as : (w : Word) → is_refused w ≡ true → (f : Fault) × (w ≡ word.Refused f)
-refused_as (word.Refused f) is = (f, refl)
-refused_as _ is = cc
+pub free_stays : (i : ℕ) (k l : Counts) → IsTurn i k l → (free : ℤ) → IsFree free l → l.free ≡ k.free → IsFree free k
+free_stays i k l turn free told same t = told (ap is_semaphore turn.object ∙ t) ∙ same
 
-left_refused : (v w : CoreView) (i : ℕ) (e : Entry) → IsStill e.word → w.base ≡ v.base → w.entries ≡ e ∷ v.entries →
-    AreLeft v w i
-left_refused v w i e still base grown =
-    let alike = still_alike (based v.base) v.entries e still in
-    let P : Base → List Entry → Type 0 = λ b es. AreAlike (counts_of v) (counts (based b) es)
-    × ((m : Mode) → held (based b) es i m ≡ holds_in v i m) × (free (based b) es ≡ (counts_of v).free) in
-    let x = subst (λ (b : Base). P b w.entries) (sym base) (subst (λ (es : List Entry). P v.base es) (sym grown)
-    (alike, alike.held i, still.1 e.n (free (based v.base) v.entries))) in
-    record { alike = x.0; holds = λ d m. x.1 m d; free = x.2 }
+-- a pass that is as it was has its load as it was
+pub unmoved : {A : Type 0} (fit : A → Type 0) (counted : Bool) (amount : A → ℕ) (x : A) (old new : Shown) →
+    new ≡ old → Trades fit counted amount x old x new
+unmoved fit true amount x old new same =
+    ((ap (λ (s : Shown). pos (amount x) +ℤ free_of s) same, λ _. refl, λ k. k), λ _ _. refl)
+unmoved fit false amount x old new same = (λ k. k, λ _ _. refl)
 
-pub left_as_it_was : (v w : CoreView) (i : ℕ) (r : Result Answer Fault) → leaves_holds r ≡ true → w.base ≡ v.base →
-    OnErr r (w ≡ v) → IfOk r (λ answer. KeepsHolds v i answer w) → AreLeft v w i
-left_as_it_was v w i (Err f) leaves base same kept = subst (λ (z : CoreView). AreLeft v z i) (sym same) (are_left v i)
-left_as_it_was v w i (Ok Sleep) leaves base same kept =
-    subst (λ (z : CoreView). AreLeft v z i) (sym kept)
-    record { alike = (are_left v i).alike; holds = refl; free = refl }
-left_as_it_was v w i (Ok (Recorded e name)) leaves base same kept =
-    let f = refused_as e.word leaves in
-    left_refused v w i e (subst (λ (z : Word). IsStill z) (sym f.1) (λ o n had. refl, λ n had. refl, λ n. refl)) base
-    (kept f.0 f.1).0
+refused_still : (w : Word) → is_refused w ≡ true → IsStill w
+refused_still (word.Refused f) is = (λ o n had. refl, λ n had. refl, λ n. refl)
+refused_still _ is = cc
 
--- a load that stays where it is
-pub moves_none : {A : Type 0} (fit : A → Type 0) (counted : Bool) (amount : A → ℕ) (x : A) (f g : ℤ) → g ≡ f →
-    Moves fit counted amount x f x g
-moves_none fit true amount x f g same = (ap (λ (z : ℤ). pos (amount x) +ℤ z) same, λ _. refl, λ k. k)
-moves_none fit false amount x f g same = λ k. k
+left_alone : (k : Header) (i : ℕ) (es : List Entry) (r : Result Answer Fault) → was_refused (entry_in r) ≡ true →
+    (holds_by k i (made_by r ++ es) ≡ holds_by k i es) × (free (opening k) (made_by r ++ es) ≡ free (opening k) es)
+left_alone k i es (Ok (Recorded e name)) refused =
+    let still = refused_still e.word refused in
+    (λ d m. (still_alike (opening k) es e still).held i m d, still.1 e.n (free (opening k) es))
+left_alone k i es (Ok Sleep) refused = (refl, refl)
+left_alone k i es (Err f) refused = (refl, refl)
+
+-- a step that failed leaves the load of its pass
+pub refused_stays : {A : Type 0} (fit : A → Type 0) (counted : Bool) (amount : A → ℕ) (x y : A) (old new : Shown)
+    (step : Step) (r : Result Answer Fault) → IsSame old new → IsStep old step r new →
+    was_refused (entry_in r) ≡ true → Trades fit counted amount x old y new → y ≡ x
+refused_stays fit counted amount x y old new step r same s refused t =
+    let alone = left_alone old.lock.header old.seat old.mine r refused in
+    t.1 ((λ d. holds_by (same.lock d).header (same.seat d) (s.mine d)) ∙ alone.0)
+    ((λ d. free (opening (same.lock d).header) (s.mine d)) ∙ alone.1)

@@ -1,30 +1,26 @@
 -- A call that failed at once has left what it carries.
-use Rattle.std.proofs.Common.{◌≡◌, inl, inr, ℕ, Bool, true, false, Result, Ok, Err, refl, ap}
+use Rattle.std.proofs.Common.{◌≡◌, inl, inr, ℕ, Bool, true, false, Result, Ok, Err, refl, ap, ◌∙◌}
 use Rattle.monitor.specs.Below.{Arrival, Entry, Fault, Answer, Recorded, Sleep, Step, Acquire, Try, TryFair, Give, entry_at_once, Deed}
-use Rattle.monitor.specs.Prelude.{is_refused, leaves_holds, was_refused, IsRefusal, begins_wait, begun, first_turn, next_by, How, Request, Waiting, Shown, Cause, in_line, on_condition, on_way_back}
+use Rattle.monitor.specs.Prelude.{is_refused, was_refused, begins_wait, begun, first_turn, next_by, How, Ends, Request, Waiting, Shown, Cause, in_line, on_condition, on_way_back}
 use Rattle.monitor.specs.Waits.{Waits}
 use Rattle.monitor.specs.declared.waiting.Limits.{Limits}
 use Rattle.monitor.specs.declared.waiting.Stage.{Stage}
 use Rattle.monitor.specs.inner.Stepping.{entry_in}
 use Rattle.monitor.specs.inner.Waits.{EndsBy, EndsLapsed, IsEnd, IsReply, IsWait}
 
-refusal_next : (b : Bool) (w : Waiting) (e : Entry) → IsRefusal (next_by b w e) → is_refused e.word ≡ true
-refusal_next true w e is = absurd is
-refusal_next false w e is = is
+refused_next : (b : Bool) (w : Waiting) (e : Entry) (reply : Result Entry Fault) (again : Bool) →
+    next_by b w e ≡ Ends reply again → was_refused reply ≡ true → is_refused e.word ≡ true
+refused_next true w e reply again ends is = cc
+refused_next false w e reply again ends is = let same : Ok e ≡ reply = cc in ap was_refused same ∙ is
 
--- a first turn that ends the call with a failure comes of an answer that leaves all holds
-pub refusal_leaves : (q : Request) (how : How) (moment : ℕ) (was : Bool) (r : Result Answer Fault) →
-    IsRefusal (first_turn q how moment was r).next → leaves_holds r ≡ true
-refusal_leaves q how moment was (Ok (Recorded e name)) is =
-    refusal_next (begins_wait q e.word) (begun q how moment) e is
-refusal_leaves q how moment was (Ok Sleep) is = refl
-refusal_leaves q how moment was (Err f) is = refl
-
--- and so does a reply of a step that failed
-pub entry_leaves : (r : Result Answer Fault) → was_refused (entry_in r) ≡ true → leaves_holds r ≡ true
-entry_leaves (Ok (Recorded e name)) is = is
-entry_leaves (Ok Sleep) is = refl
-entry_leaves (Err f) is = refl
+-- a first turn that ends the call with a failure comes of a step that failed
+pub turn_refused : (q : Request) (how : How) (moment : ℕ) (was : Bool) (r : Result Answer Fault)
+    (reply : Result Entry Fault) (again : Bool) → (first_turn q how moment was r).next ≡ Ends reply again →
+    was_refused reply ≡ true → was_refused (entry_in r) ≡ true
+turn_refused q how moment was (Ok (Recorded e name)) reply again ends is =
+    refused_next (begins_wait q e.word) (begun q how moment) e reply again ends is
+turn_refused q how moment was (Ok Sleep) reply again ends is = refl
+turn_refused q how moment was (Err f) reply again ends is = refl
 
 -- what is done at once is no refusal
 pub done_not_refused : (i : ℕ) (step : Step) → is_refused (entry_at_once i step).word ≡ false

@@ -25,27 +25,33 @@ module _ (t o : Ticket) (v : CoreView) (seat share : ℕ) (k : Taking t o v seat
       subst (λ (h : Header). seat < h.seats) k.kept.header
       (seat_below (point_of v) t.lock.header t.lock.header seat header_taken refl k.was.shows.below)
 
+  -- the holds of the pass are those of its seat there
+  pub holds_taken : holds_of (shown t seat share) ≡ holds_at (point_of v) seat
+  holds_taken =
+      own_holds (point_of v) t.lock.header seat (first_entries t.logs)
+      (own_entries t (point_of v) seat k.was.one k.was.seat_is k.entries) header_taken
+
   pub carries_taken : {A : Type 0} (carries : A → (Mode → ℕ) → Type 0) (x : A) →
       carries x (holds_of (shown t seat share)) → carries x (holds_at (point_of v) seat)
-  carries_taken carries x carried =
-      subst (λ (f : Mode → ℕ). carries x f)
-      (own_holds (point_of v) t.lock.header seat (first_entries t.logs)
-      (own_entries t (point_of v) seat k.was.one k.was.seat_is k.entries) header_taken)
-      carried
+  carries_taken carries x carried = subst (λ (f : Mode → ℕ). carries x f) holds_taken carried
 
   -- what the caller carries is as fit as its pass's holds ask
   pub fit_taken : {A : Type 0} (fit : A → Type 0) (x : A) (step : Step) →
       (LetsGo step (holds_of (shown t seat share)) → fit x) → LetsGo step (holds_in v seat) → fit x
   fit_taken fit x step is = carries_taken (λ y f. LetsGo step f → fit y) x is
 
+-- and so they are once the object is put back
+pub holds_left : (n : Ticket) (p : Point) (seat share : ℕ) → IsSound (shown n seat share) → n.seen ≡ p →
+    holds_of (shown n seat share) ≡ holds_at p seat
+holds_left n p seat share sound seen =
+    true_holds (shown n seat share) sound ∙ ap (λ (z : Point). holds_at z seat) seen
+
 -- what the caller carries belongs to the holds that its pass then shows
 pub carries_left : {A : Type 0} (carries : A → (Mode → ℕ) → Type 0) (y : A) (n : Ticket) (p : Point)
     (seat share : ℕ) → IsSound (shown n seat share) → n.seen ≡ p → carries y (holds_at p seat) →
     carries y (holds_of (shown n seat share))
 carries_left carries y n p seat share sound seen carried =
-    subst (λ (f : Mode → ℕ). carries y f)
-    (sym (true_holds (shown n seat share) sound ∙ ap (λ (z : Point). holds_at z seat) seen))
-    carried
+    subst (λ (f : Mode → ℕ). carries y f) (sym (holds_left n p seat share sound seen)) carried
 
 -- one step of the core that was taken
 module _ (t o : Ticket) (v w : CoreView) (seat share : ℕ) (step : Step) (r : Result Answer Fault) where

@@ -1,6 +1,6 @@
 -- What a load knows of a turn of the lock.
 use Rattle.std.specs.Prelude.{◌≡◌, ◌≢◌, ◌<◌, ◌⊎◌, ℕ, Bool, true, false, List, [], ℤ, pos, ◌+ℤ◌, ◌-ℤ◌, ◌≤ℤ◌, ◌≤◌, Result, Ok, Err}
-use Rattle.monitor.specs.Below.{Mode, X, S, Header, Word, Fault, Answer, Recorded, Sleep, Step, Await, Give, Counts, counts, free, held, is_lock, is_semaphore, opening, CoreView, start_of, Entry}
+use Rattle.monitor.specs.Below.{Mode, X, S, Header, Word, Fault, Step, Await, Give, Counts, counts, free, held, is_lock, is_semaphore, opening, CoreView, start_of, Entry}
 use Rattle.history.specs.declared.entry.Word.TheVariants as word
 use Rattle.monitor.specs.Shown.{Shown}
 use Rattle.monitor.specs.declared.load.Holds.{Holds}
@@ -79,16 +79,16 @@ Moves fit true amount x f y g =
     (pos (amount y) +ℤ g ≡ pos (amount x) +ℤ f) × (g ≡ f → y ≡ x) × (fit x → fit y)
 Moves fit false amount x f y g = fit x → fit y
 
+-- A turn of a pass: its load moved, and is as it was where neither the holds of the pass nor the free permits changed.
+abbrev pub Trades : {A : Type 0} → (A → Type 0) → Bool → (A → ℕ) → A → Shown → A → Shown → Type 0
+Trades fit counted amount x old y new =
+    Moves fit counted amount x (free_of old) y (free_of new)
+    × (holds_of new ≡ holds_of old → free_of new ≡ free_of old → y ≡ x)
+
 -- an entry that refuses what was asked
 abbrev pub is_refused : Word → Bool
 is_refused (word.Refused f) = true
 is_refused _ = false
-
--- By such an answer no holds and no permits change hands: nothing was recorded, or a refusal.
-abbrev pub leaves_holds : Result Answer Fault → Bool
-leaves_holds (Ok (Recorded e named)) = is_refused e.word
-leaves_holds (Ok Sleep) = true
-leaves_holds (Err f) = true
 
 -- the call failed at once: nothing was recorded, or a refusal
 abbrev pub was_refused : Result Entry Fault → Bool

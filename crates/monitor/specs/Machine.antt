@@ -23,7 +23,6 @@ use Rattle.history.specs.declared.step.Step.TheVariants as step
 use Rattle.monitor.specs.Acquire.{IsAcquire, first_step, is_interruptible, moment_after}
 use Rattle.monitor.specs.AwaitOn.{IsAwait, first_stage}
 use Rattle.monitor.specs.Interrupts.{tells_interrupt}
-use Rattle.monitor.specs.Load.{was_refused}
 use Rattle.monitor.specs.Shown.{Shown}
 use Rattle.monitor.specs.Stepping.{IsStep}
 use Rattle.monitor.specs.Waits.{is_lapse, no_limits, stage_asleep}
@@ -88,11 +87,6 @@ first_turn q how moment was (Ok (Recorded e named)) =
     record { named = named; next = next_by (begins_wait q e.word) (begun q how moment) e }
 first_turn q how moment was (Ok Sleep) = record { named = None; next = Ends (Err OutOfPhase) was }
 first_turn q how moment was (Err f) = record { named = None; next = Ends (Err f) was }
-
--- the call ends with this turn, and failed
-abbrev pub IsRefusal : Next → Type 0
-IsRefusal (Ends reply again) = was_refused reply ≡ true
-IsRefusal (Waits w) = ⊥
 
 -- the turn was made of one step of the pass, and of nothing else
 abbrev pub IsBegun : Shown → Request → How → ℕ → Bool → Turn → Shown → Type 0

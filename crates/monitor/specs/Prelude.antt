@@ -16,8 +16,8 @@ pub use Rattle.monitor.specs.Calling.{Called}
 pub use Rattle.monitor.specs.Closing.{left_by, IsWithin, shares, passes_of, IsMissing, IsBased}
 pub use Rattle.monitor.specs.Interrupts.{tells_interrupt}
 pub use Rattle.monitor.specs.Lawful.{point_of, Beside, view_of, start_at, blank, IsLawful, IsLawfulCore}
-pub use Rattle.monitor.specs.Load.{holds_of, holds_by, holds_in, free_of, opened_counts, IsOneOwner, given_by, IsFreeAfter, LetsGo, IsTurn, IsFree, Brings, Moves, is_refused, leaves_holds, was_refused}
-pub use Rattle.monitor.specs.Machine.{IsCall, step_by, AsksAwait, begins_wait, limits_from, stage_for, begun, next_by, first_turn, IsBegun, limits_at, step_within, step_at, at_stage, next_behind, later_turn, step_of_waiting, IsGoneOn, IsRefusal}
+pub use Rattle.monitor.specs.Load.{holds_of, holds_by, holds_in, free_of, opened_counts, IsOneOwner, given_by, IsFreeAfter, LetsGo, IsTurn, IsFree, Brings, Moves, Trades, is_refused, was_refused}
+pub use Rattle.monitor.specs.Machine.{IsCall, step_by, AsksAwait, begins_wait, limits_from, stage_for, begun, next_by, first_turn, IsBegun, limits_at, step_within, step_at, at_stage, next_behind, later_turn, step_of_waiting, IsGoneOn}
 pub use Rattle.monitor.specs.Observing.{IsLook}
 pub use Rattle.monitor.specs.Shown.{Shown, shown, IsSound, IsPass, opening_pass, opening_passes}
 pub use Rattle.monitor.specs.Stepping.{IsSame, IsStep, answer_of, IsStepNow, IsUnparked, IsEntered, IsTrim, in_all, IsTrimInAll}

@@ -6,14 +6,13 @@ ghost use Rattle.monitor.specs.Machine.{AsksAwait, IsCall};
 ghost use Rattle.monitor.specs.Settled.{IsSettled};
 ghost use Rattle.monitor.specs.Acquire.{IsAcquire, WasInterrupted, first_step};
 
-use crate::at_once::First;
+use crate::at_once::NOT_ASKED;
 use crate::how::{How, moment};
 use crate::interrupts::Interrupts;
 use crate::load::{Empty, Load};
 use crate::machine::{Next, Request, first_turn};
 use crate::monitor::Monitor;
 use crate::pass::Pass;
-use crate::step::unpark;
 use frame::hooks::Hooks;
 use frame::machine::entry_at_once;
 use history::entry::{Entry, Mode};
@@ -101,14 +100,15 @@ impl<H: Hooks + Drop, L: Load> Monitor<H, L> {
         }
         let moment = moment(rt, parking, how);
         let step = request.step(how, false);
-        match self.step_first(rt, pass, load, step) {
-            First::Done(named) => {
-                unpark(parking, named, pass);
+        let mut answer = NOT_ASKED;
+        match self.step_into(rt, pass, load, step, &mut answer) {
+            Some(named) => {
+                pass.unpark(parking, named);
                 Ok(entry_at_once(pass.seat(), step))
             }
-            First::Otherwise(answer) => {
+            None => {
                 let turn = first_turn(request, how, moment, false, answer);
-                unpark(parking, turn.named, pass);
+                pass.unpark(parking, turn.named);
                 match turn.next {
                     Next::Ends { reply, again: _ } => reply,
                     Next::Waits(waiting) => self.wait(rt, parking, pass, load, waiting),
@@ -144,7 +144,7 @@ impl<H: Hooks + Drop, L: Load> Monitor<H, L> {
     {
         pass.is_true();
         let refusal = self.begin(rt, pass, load, request, how, 0, true);
-        unpark(parking, refusal.named, pass);
+        pass.unpark(parking, refusal.named);
         match refusal.next {
             Next::Ends { reply, again: _ } => {
                 interrupts.settle(parking, reply);

@@ -6,10 +6,8 @@ ghost use Rattle.monitor.specs.Calling.{Called};
 ghost use Rattle.monitor.specs.Observing.{IsLook};
 ghost use Rattle.monitor.specs.Stepping.{IsStep};
 
-use crate::at_once::one_call_more;
-use crate::load::Empty;
 use crate::monitor::Monitor;
-use crate::pass::Pass;
+use crate::pass::{Pass, one_call_more};
 use frame::hooks::Hooks;
 use history::step::Step;
 
@@ -30,7 +28,7 @@ impl<H: Hooks + Drop> Monitor<H> {
         let Some(mut held) = self.lock.lock_now(&mut pass.token) else {
             return None;
         };
-        match held.value.step_at_once(pass.seat, step, &mut Empty {}) {
+        match held.value.step_at_once(pass.seat, step) {
             Some(named) => {
                 self.lock.unlock_quietly(&mut pass.token, held);
                 pass.share = one_call_more(pass.share);

@@ -18,10 +18,11 @@ pub struct Holds {
 /// carries: whoever releases permits brings as many items, and whoever acquires permits has as many more
 /// items.
 ///
-/// A step that lets the last exclusive hold go puts under the lock what its seat carries. So that part must be fit
-/// to lie there. By other steps it stays as fit as it was. A step that records nothing, or a refusal, trades nothing.
+/// A step that lets the last exclusive hold go puts under the lock what its seat carries. So that part must
+/// be fit to lie there. By other steps it stays as fit as it was. If the holds of the seat and the free
+/// permits stay, both parts stay, as after a refusal.
 pub trait Load: Drop {
-    ghost use Rattle.std.specs.Prelude.{Bool, ℕ};
+    ghost use Rattle.std.specs.Prelude.{◌≡◌, Bool, ℕ};
     ghost use Rattle.history.specs.declared.entry.Mode.{Mode};
     ghost use Rattle.history.specs.Counts.{Counts};
     ghost use Rattle.frame.specs.Hooks.{AreAlike};
@@ -45,12 +46,14 @@ pub trait Load: Drop {
     /// Moves what changes hands as a seat that held `before` comes to hold `after`. Then `free` permits are
     /// free.
     fn trade(&mut self, there: &mut Self, before: Holds, after: Holds, free: i64)
-        ensures { (i : ℕ) (k l : Counts) → (turn : IsTurn i k l) → AreOf before (k.held i)
+        ensures moves { (i : ℕ) (k l : Counts) → (turn : IsTurn i k l) → AreOf before (k.held i)
             → AreOf after (l.held i) → IsFree free l → rests self.old k → carries there.old (k.held i)
             → Brings is_counted (amount there.old) (given_by turn.step)
             → (LetsGo turn.step (k.held i) → fit there.old)
             → rests self.new l × carries there.new (l.held i)
-            × Moves fit is_counted amount there.old k.free there.new l.free };
+            × Moves fit is_counted amount there.old k.free there.new l.free }
+        ensures stays { (k : Counts) → rests self.old k → IsFree free k → before ≡ after
+            → (self.new ≡ self.old) × (there.new ≡ there.old) };
 
     // Counts that are alike say the same of it.
     ghost alike: { (x : Self) (k l : Counts) → AreAlike k l → rests x k → rests x l };

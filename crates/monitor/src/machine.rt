@@ -11,12 +11,11 @@
 ghost use Rattle.std.specs.Prelude.{◌≡◌, ◌≢◌, IfNone, IfSome, IsOk};
 ghost use Rattle.history.specs.declared.step.Answer.TheVariants.{Sleep};
 ghost use Rattle.monitor.specs.Calling.{Called};
-ghost use Rattle.monitor.specs.Load.{Brings, Moves, free_of, holds_of};
+ghost use Rattle.monitor.specs.Load.{Brings, Trades, holds_of};
 ghost use Rattle.monitor.specs.Machine.{
   AsksAwait,
   IsBegun,
   IsGoneOn,
-  IsRefusal,
   at_stage,
   begins_wait,
   begun,
@@ -287,9 +286,9 @@ pub(crate) fn first_turn(
     }
 }
 
-/// A caller that parks has three duties after each turn, in this order: it unparks the seat that was named;
-/// if the call has ended with `again`, it sets the interrupt of its own seat; if the call waits, it parks its
-/// own seat as [`Waiting::limits`] says, if it says so, and goes on.
+/// A caller that parks has three duties after each turn, in this order: it unparks the seat that was named,
+/// by [`Pass::unpark`]; if the call has ended with `again`, it sets the interrupt of its own seat; if the
+/// call waits, it parks its own seat as [`Waiting::limits`] says, if it says so, and goes on.
 impl<H: Hooks + Drop, L: Load> Monitor<H, L> {
     /// The first turn of a call. `interrupted` says that the call heeds interrupts and that one was pending:
     /// it was taken. `moment` is what the clock shows. A timed call counts from it, and other calls ignore
@@ -313,9 +312,7 @@ impl<H: Hooks + Drop, L: Load> Monitor<H, L> {
         ensures begun { IsBegun pass.old request how moment interrupted result pass.new }
         ensures woken { WasWoken self.now }
         ensures carries { L.carries load.new (holds_of pass.new) }
-        ensures moves { Moves L.fit L.is_counted L.amount load.old (free_of pass.old) load.new
-            (free_of pass.new) }
-        ensures stays { IsRefusal result.next → load.new ≡ load.old }
+        ensures trades { Trades L.fit L.is_counted L.amount load.old pass.old load.new pass.new }
     {
         let step = request.step(how, interrupted);
         let answer = self.step_with(rt, pass, load, step);
@@ -339,10 +336,10 @@ impl<H: Hooks + Drop, L: Load> Monitor<H, L> {
         requires fit { AsksAwait request → L.fit load.old }
         ensures called { Called pass.old pass.new }
         ensures busy { IfNone result (pass.new ≡ pass.old) }
-        ensures begun { IfSome result (λ turn. IsBegun pass.old request how moment interrupted turn pass.new) }
+        ensures begun { IfSome result (λ turn.
+            IsBegun pass.old request how moment interrupted turn pass.new) }
         ensures carries { L.carries load.new (holds_of pass.new) }
-        ensures moves { Moves L.fit L.is_counted L.amount load.old (free_of pass.old) load.new
-            (free_of pass.new) }
+        ensures trades { Trades L.fit L.is_counted L.amount load.old pass.old load.new pass.new }
     {
         let step = request.step(how, interrupted);
         let Some(answer) = answer_of(self.step_quietly(pass, load, step)) else {
@@ -368,8 +365,7 @@ impl<H: Hooks + Drop, L: Load> Monitor<H, L> {
         ensures gone_on { IsGoneOn pass.old waiting woke result pass.new }
         ensures woken { WasWoken self.now }
         ensures carries { L.carries load.new (holds_of pass.new) }
-        ensures moves { Moves L.fit L.is_counted L.amount load.old (free_of pass.old) load.new
-            (free_of pass.new) }
+        ensures trades { Trades L.fit L.is_counted L.amount load.old pass.old load.new pass.new }
     {
         pass.is_true();
         let step = waiting.step(woke);
@@ -393,8 +389,7 @@ impl<H: Hooks + Drop, L: Load> Monitor<H, L> {
         ensures busy { IfNone result (pass.new ≡ pass.old) }
         ensures gone_on { IfSome result (λ turn. IsGoneOn pass.old waiting woke turn pass.new) }
         ensures carries { L.carries load.new (holds_of pass.new) }
-        ensures moves { Moves L.fit L.is_counted L.amount load.old (free_of pass.old) load.new
-            (free_of pass.new) }
+        ensures trades { Trades L.fit L.is_counted L.amount load.old pass.old load.new pass.new }
     {
         pass.is_true();
         let step = waiting.step(woke);

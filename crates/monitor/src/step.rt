@@ -3,13 +3,13 @@ ghost use Rattle.std.specs.Prelude.{◌≡◌, ◌≢◌, ◌<◌, false, true, 
 ghost use Rattle.history.specs.declared.step.Answer.TheVariants.{Sleep};
 ghost use Rattle.history.specs.Phase.{waits};
 ghost use Rattle.monitor.specs.Calling.{CanCall, Called};
-ghost use Rattle.monitor.specs.Load.{Brings, LetsGo, Moves, free_of, given_by, holds_of, leaves_holds, was_refused};
+ghost use Rattle.monitor.specs.Load.{Brings, LetsGo, Moves, Trades, free_of, given_by, holds_of, was_refused};
 ghost use Rattle.monitor.specs.inner.Load.{is_signal};
 ghost use Rattle.monitor.specs.Stepping.{IsEntered, IsStep, IsStepNow, IsUnparked};
 ghost use Rattle.monitor.specs.inner.Stepping.{entry_in, named_in, now_of};
 ghost use Rattle.word_lock.specs.Woken.{WasWoken};
 
-use crate::at_once::First;
+use crate::at_once::{NOT_ASKED, reply_of};
 use crate::load::{Empty, Load};
 use crate::monitor::Monitor;
 use crate::pass::Pass;
@@ -57,7 +57,7 @@ impl<H: Hooks + Drop> Monitor<H> {
 /// The same with a load. The caller carries what belongs to the holds of its pass, before and after.
 impl<H: Hooks + Drop, L: Load> Monitor<H, L> {
     /// One step of the pass's seat. It waits for the object.
-    #[inline(always)]
+    #[inline(never)]
     pub fn step_with<R: Wait>(
         &self,
         rt: &R,
@@ -73,12 +73,11 @@ impl<H: Hooks + Drop, L: Load> Monitor<H, L> {
         ensures stepped { IsStep pass.old step result pass.new }
         ensures woken { WasWoken self.now }
         ensures carries { L.carries load.new (holds_of pass.new) }
-        ensures moves { Moves L.fit L.is_counted L.amount load.old (free_of pass.old) load.new
-            (free_of pass.new) }
-        ensures stays { leaves_holds result ≡ true → load.new ≡ load.old }
+        ensures trades { Trades L.fit L.is_counted L.amount load.old pass.old load.new pass.new }
     {
+        let mut answer = NOT_ASKED;
         let held = self.lock.lock(rt, &mut pass.token);
-        let answer = step_taken(
+        let named = step_taken(
             &self.lock,
             &mut pass.token,
             pass.seat,
@@ -86,9 +85,10 @@ impl<H: Hooks + Drop, L: Load> Monitor<H, L> {
             load,
             held,
             step,
+            &mut answer,
         );
         self.lock.wake();
-        answer
+        reply_of(pass.seat, step, named, answer)
     }
 
     // A signal of the pass's seat. It needs no load.
@@ -117,7 +117,8 @@ impl<H: Hooks + Drop, L: Load> Monitor<H, L> {
         answer
     }
 
-    /// One step of the pass's seat, unless another call has its turn. It waits for nobody.
+    /// One step of the pass's seat, unless another call has its turn. It waits for nobody. If it is `Busy` the
+    /// pass is as it was, and so is the load.
     pub fn step_now_with(&self, pass: &mut Pass, load: &mut L, step: Step) -> Result<Now, Fault>
         requires is_of { pass.old.lock ≡ self.now }
         requires carries { L.carries load.old (holds_of pass.old) }
@@ -127,8 +128,7 @@ impl<H: Hooks + Drop, L: Load> Monitor<H, L> {
         ensures stepped { IsStepNow pass.old step result pass.new }
         ensures woken { WasWoken self.now }
         ensures carries { L.carries load.new (holds_of pass.new) }
-        ensures moves { Moves L.fit L.is_counted L.amount load.old (free_of pass.old) load.new
-            (free_of pass.new) }
+        ensures trades { Trades L.fit L.is_counted L.amount load.old pass.old load.new pass.new }
     {
         let answer = self.step_quietly(pass, load, step);
         self.lock.wake();
@@ -145,13 +145,13 @@ impl<H: Hooks + Drop, L: Load> Monitor<H, L> {
         ensures called { Called pass.old pass.new }
         ensures stepped { IsStepNow pass.old step result pass.new }
         ensures carries { L.carries load.new (holds_of pass.new) }
-        ensures moves { Moves L.fit L.is_counted L.amount load.old (free_of pass.old) load.new
-            (free_of pass.new) }
+        ensures trades { Trades L.fit L.is_counted L.amount load.old pass.old load.new pass.new }
     {
         let Some(held) = self.lock.lock_now(&mut pass.token) else {
             return Ok(Now::Busy);
         };
-        let answer = step_taken(
+        let mut answer = NOT_ASKED;
+        let named = step_taken(
             &self.lock,
             &mut pass.token,
             pass.seat,
@@ -159,8 +159,9 @@ impl<H: Hooks + Drop, L: Load> Monitor<H, L> {
             load,
             held,
             step,
+            &mut answer,
         );
-        done(answer)
+        done(reply_of(pass.seat, step, named, answer))
     }
 
     /// A step of an idle seat. Returns its entry or a fault, and unparks the seat that the step names.
@@ -186,12 +187,13 @@ impl<H: Hooks + Drop, L: Load> Monitor<H, L> {
             (free_of pass.new) }
         ensures stays { was_refused result ≡ true → load.new ≡ load.old }
     {
-        match self.step_first(rt, pass, load, step) {
-            First::Done(named) => {
-                unpark(parking, named, pass);
+        let mut answer = NOT_ASKED;
+        match self.step_into(rt, pass, load, step, &mut answer) {
+            Some(named) => {
+                pass.unpark(parking, named);
                 Ok(entry_at_once(pass.seat(), step))
             }
-            First::Otherwise(answer) => entered(parking, pass, answer),
+            None => entered(parking, pass, answer),
         }
     }
 
@@ -211,7 +213,7 @@ impl<H: Hooks + Drop, L: Load> Monitor<H, L> {
         ensures woken { WasWoken self.now }
     {
         let told = self.signal_step(rt, pass, step);
-        unpark(parking, named_in(told), pass);
+        pass.unpark(parking, named_in(told));
         told
     }
 
@@ -250,7 +252,7 @@ fn entered<P: Parking>(
     ensures entry { result ≡ entry_in answer }
     ensures unparked { IsUnparked (P.did parking.now) pass.now.lock (named_in answer) pass.now.seen }
 {
-    unpark(parking, named_in(answer), pass);
+    pass.unpark(parking, named_in(answer));
     match answer {
         Ok(Answer::Recorded(entry, _)) => Ok(entry),
         Ok(Answer::Sleep) => unreachable!(),
@@ -266,16 +268,6 @@ fn named_in(answer: Result<Answer, Fault>) -> Option<u16>
         Ok(Answer::Recorded(_, named)) => named,
         Ok(Answer::Sleep) => None,
         Err(_) => None,
-    }
-}
-
-// The seat that a step named is unparked by the pass that made the step: after it, and before its next one.
-pub(crate) fn unpark<P: Parking>(parking: &P, named: Option<u16>, pass: &Pass)
-    requires { IfSome named (λ j. j < P.seats parking.now) }
-    ensures { IsUnparked (P.did parking.now) pass.now.lock named pass.now.seen }
-{
-    if let Some(seat) = named {
-        parking.unpark(seat, &pass.token);
     }
 }
 

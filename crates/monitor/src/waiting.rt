@@ -11,7 +11,6 @@ use crate::load::Load;
 use crate::machine::{Next, Waiting};
 use crate::monitor::Monitor;
 use crate::pass::Pass;
-use crate::step::unpark;
 use frame::hooks::Hooks;
 use history::entry::Entry;
 use history::fault::Fault;
@@ -80,7 +79,7 @@ impl<H: Hooks + Drop, L: Load> Monitor<H, L> {
         for _ in rt.forever() {
             let woke = interrupts.next_woke(rt, parking, waiting);
             let turn = self.go_on(rt, pass, load, waiting, woke);
-            unpark(parking, turn.named, pass);
+            pass.unpark(parking, turn.named);
             match turn.next {
                 Next::Ends { reply, again: _ } => {
                     interrupts.settle(parking, reply);

@@ -1,8 +1,6 @@
 use Rattle.std.proofs.Common.{subst, ℕ, sym, ap, ◌∙◌}
 use Rattle.history.specs.declared.step.Step.{Step}
 use Rattle.monitor.specs.Load.{Brings, LetsGo, given_by, holds_of}
-use Rattle.monitor.specs.Prelude.{IsRefusal, Turn}
-use Rattle.monitor.proofs.Refusals.{refusal_leaves}
 use Rattle.monitor.proofs.FirstTurns.{awake_first, step_as}
 use Rattle.monitor.proofs.TurnByTurn.{step_gives_none, step_lets}
 use Rattle.monitor.proofs.monitor.Monitor.begin.Goals as goal
@@ -32,8 +30,3 @@ pub step_with-answer-requires-clause-fit : goal.step_with-answer-requires-clause
 step_with-answer-requires-clause-fit g c = λ go.
     c.requires.fit (step_lets c.args.request c.args.how c.args.interrupted (holds_of c.args.pass.now)
     (subst (λ (z : Step). LetsGo z (holds_of c.args.pass.now)) c.step-step.ensures go))
-
-pub returns-clause-stays : goal.returns-clause-stays
-returns-clause-stays g c = λ refusal.
-    c.step_with-answer.ensures.stays (refusal_leaves c.args.request c.args.how c.args.moment c.args.interrupted
-    c.step_with-answer.result (subst (λ (t : Turn). IsRefusal t.next) c.first_turn.ensures refusal))

@@ -1,7 +1,8 @@
-use Rattle.std.proofs.Common.{rules, ◌≡◌, subst, sym}
-use Rattle.monitor.specs.Below.{held_ticket, Ticket}
-use Rattle.monitor.specs.Prelude.{Called, LetsGo, Moves, free_of, holds_of, Shown, shown, IsStep}
+use Rattle.std.proofs.Common.{Result, rules, ◌≡◌, ◌∙◌, ap, subst, sym}
+use Rattle.monitor.specs.Below.{Answer, Fault, held_ticket, Ticket}
+use Rattle.monitor.specs.Prelude.{Called, LetsGo, Trades, holds_of, Shown, shown, IsStep}
 use Rattle.monitor.specs.inner.Sections.{Taking}
+use Rattle.monitor.proofs.Loads.{unmoved}
 use Rattle.monitor.proofs.Sections.{as_step_now, not_called}
 use Rattle.monitor.proofs.Taking.{fit_taken}
 use Rattle.monitor.proofs.monitor.Monitor.step_quietly.Goals.{In-Some}
@@ -13,45 +14,54 @@ took g c =
     let e = c.in-Some.ensures in
     record { taken = e.taken.1; was = c.pass.invariant; begins = e.begins; entries = e.entries; kept = e.fact.0 }
 
-pub step_taken-answer-requires-clause-taken : goal.step_taken-answer-requires-clause-taken
-step_taken-answer-requires-clause-taken g c = (
+pub step_taken-named-requires-clause-taken : goal.step_taken-named-requires-clause-taken
+step_taken-named-requires-clause-taken g c = (
   c.pass.inside.token,
-  took g (goal.at.step_taken-answer-requires-clause-taken g c).In-Some,
+  took g (goal.at.step_taken-named-requires-clause-taken g c).In-Some,
   subst (λ (s : Shown). g.L.Load.carries c.args.load.now (holds_of s)) (sym c.pass.view_is) c.requires.carries,
 )
 
-pub step_taken-answer-requires-clause-fit : goal.step_taken-answer-requires-clause-fit
-step_taken-answer-requires-clause-fit g c =
-    fit_taken _ _ _ _ _ (took g (goal.at.step_taken-answer-requires-clause-fit g c).In-Some) g.L.Load.fit
+pub step_taken-named-requires-clause-fit : goal.step_taken-named-requires-clause-fit
+step_taken-named-requires-clause-fit g c =
+    fit_taken _ _ _ _ _ (took g (goal.at.step_taken-named-requires-clause-fit g c).In-Some) g.L.Load.fit
     c.args.load.now c.args.step
     (subst (λ (s : Shown). LetsGo c.args.step (holds_of s) → g.L.Load.fit c.args.load.now) (sym c.pass.view_is)
     c.requires.fit)
 
 pub invariant_of-pass-2 : goal.invariant_of-pass-2
 invariant_of-pass-2 g c =
-    (c.step_taken-answer.ensures.went c.pass.inside.token
+    (c.step_taken-named.ensures.went c.pass.inside.token
     (took g (goal.at.invariant_of-pass-2 g c).In-Some)).pass
 
 pub returns-clause-called : goal.returns-clause-called
 returns-clause-called g c =
-    subst (λ (s : Shown). Called s (shown c.step_taken-answer.new.token c.pass.inside.seat
-    c.step_taken-answer.new.share)) c.pass.view_is (c.step_taken-answer.ensures.went c.pass.inside.token
+    subst (λ (s : Shown). Called s (shown c.step_taken-named.new.token c.pass.inside.seat
+    c.step_taken-named.new.share)) c.pass.view_is (c.step_taken-named.ensures.went c.pass.inside.token
     (took g (goal.at.returns-clause-called g c).In-Some)).called
 
 pub returns-clause-stepped : goal.returns-clause-stepped
 returns-clause-stepped g c =
-    as_step_now _ _ c.args.step c.step_taken-answer.result _ c.done.ensures
-    (subst (λ (s : Shown). IsStep s c.args.step c.step_taken-answer.result
-    (shown c.step_taken-answer.new.token c.pass.inside.seat c.step_taken-answer.new.share))
-    c.pass.view_is (c.step_taken-answer.ensures.went c.pass.inside.token
-    (took g (goal.at.returns-clause-stepped g c).In-Some)).stepped)
+    let new = shown c.step_taken-named.new.token c.pass.inside.seat c.step_taken-named.new.share in
+    as_step_now _ _ c.args.step c.reply_of.result _ c.done.ensures
+    (subst (λ (s : Shown). IsStep s c.args.step c.reply_of.result new) c.pass.view_is
+    (subst (λ (r : Result Answer Fault).
+    IsStep (shown c.pass.inside.token c.pass.inside.seat c.pass.inside.share) c.args.step r new)
+    (sym c.reply_of.ensures) (c.step_taken-named.ensures.went c.pass.inside.token
+    (took g (goal.at.returns-clause-stepped g c).In-Some)).stepped))
 
-pub returns-clause-moves : goal.returns-clause-moves
-returns-clause-moves g c =
-    subst (λ (s : Shown). Moves g.L.Load.fit g.L.Load.is_counted g.L.Load.amount c.args.load.now (free_of s)
-    c.step_taken-answer.new.load (free_of (shown c.step_taken-answer.new.token c.pass.inside.seat c.step_taken-answer.new.share)))
-    c.pass.view_is (c.step_taken-answer.ensures.moves c.pass.inside.token
-    (took g (goal.at.returns-clause-moves g c).In-Some))
+pub returns-clause-trades : goal.returns-clause-trades
+returns-clause-trades g c =
+    subst (λ (s : Shown). Trades g.L.Load.fit g.L.Load.is_counted g.L.Load.amount c.args.load.now s
+    c.step_taken-named.new.load
+    (shown c.step_taken-named.new.token c.pass.inside.seat c.step_taken-named.new.share))
+    c.pass.view_is (c.step_taken-named.ensures.trades c.pass.inside.token
+    (took g (goal.at.returns-clause-trades g c).In-Some))
+
+pub returns-in_default-clause-trades : goal.returns-in_default-clause-trades
+returns-in_default-clause-trades g c =
+    let same : c.lock_now.new.token ≡ c.pass.inside.token = search rules in
+    unmoved g.L.Load.fit g.L.Load.is_counted g.L.Load.amount c.args.load.now _ _
+    (ap (λ (t : Ticket). shown t c.pass.inside.seat c.pass.inside.share) same ∙ c.pass.view_is)
 
 pub returns-in_default-clause-called : goal.returns-in_default-clause-called
 returns-in_default-clause-called g c =

@@ -87,7 +87,7 @@ returns-in-Ends-clause-moves g c =
     c.loop.invariant.8
     (all_still_free (g.P.Parking.did c.args.parking.now) c.args.pass.now c.args.waiting.stage c.args.waiting.limits
     (c.loop.interrupts.taken ≡ true) c.loop.pass c.loop.waiting.stage c.requires.waits c.loop.invariant.2)
-    c.go_on-turn.ensures.moves
+    c.go_on-turn.ensures.trades.0
 
 pub loop-preserved : goal.loop-preserved
 loop-preserved g c =
@@ -110,10 +110,10 @@ loop-preserved g c =
       c.go_on-turn.ensures.carries,
       λ counted.
           stays g.L.Load.fit g.L.Load.is_counted g.L.Load.amount c.loop.load c.go_on-turn.new.load (free_of c.loop.pass)
-          (free_of c.go_on-turn.new.pass) same c.go_on-turn.ensures.moves counted
+          (free_of c.go_on-turn.new.pass) same c.go_on-turn.ensures.trades.0 counted
           ∙ c.loop.invariant.6 counted,
       called_since c.args.pass.now c.loop.pass c.go_on-turn.new.pass c.loop.invariant.7 c.go_on-turn.ensures.called,
       λ k.
           fit_still g.L.Load.fit g.L.Load.is_counted g.L.Load.amount c.loop.load c.go_on-turn.new.load _ _
-          c.go_on-turn.ensures.moves (c.loop.invariant.8 k),
+          c.go_on-turn.ensures.trades.0 (c.loop.invariant.8 k),
     )
