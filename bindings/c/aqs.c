@@ -898,7 +898,8 @@ static place_t *place_of_seat(const aqs_object_t *object, uint32_t seat) {
 /* Whom a turn names to be woken, or NULL. It is known while the thread is inside: others may close the object
    afterwards. */
 static place_t *woken_by(const aqs_object_t *object, const aqs_answer_t *answer) {
-    return answer->has_wakes ? place_of_seat(object, answer->wakes) : NULL;
+    if (!answer->has_wakes) return NULL;
+    return place_of_seat(object, answer->wakes);
 }
 
 /* What a caller owes after each turn. */
@@ -1021,12 +1022,11 @@ SHORT bool is_plain_end(const aqs_answer_t *answer) {
 SHORT bool is_done_at_once(aqs_object_t *object, seat_t *seat, aqs_step_t step, int64_t owned) {
     if (seat->meets > 0) return seat->meets--, false;
     uint32_t done = aqs_step_at_once(&seat->pass, step);
-    place_t *woken = NULL;
     if (done == AQS_NOT_DONE) return false;
-    if (done != AQS_DONE) woken = place_of_seat(object, done - AQS_DONE_WAKES);
+    place_t *woken = done == AQS_DONE ? NULL : place_of_seat(object, done - AQS_DONE_WAKES);
     keep_all(object, seat, owned);
     depart(object, seat);
-    if (woken) send(woken, PERMIT);
+    if (done != AQS_DONE) send(woken, PERMIT);
     return true;
 }
 
