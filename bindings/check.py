@@ -83,7 +83,7 @@ WRAPPED = {
     "thread_numbers": ["pthread_setspecific", "mmap"],
     "handlers": ["syscall"],
     "histories": ["aqs_text_now"],
-    "closes": ["aqs_step_now", "aqs_begin", "aqs_go_on", "aqs_lock_unlock"],
+    "closes": ["aqs_step_now", "aqs_step_at_once", "aqs_begin", "aqs_go_on", "aqs_lock_unlock"],
 }
 
 

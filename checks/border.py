@@ -127,6 +127,8 @@ def numbers_of(path, text):
         known = OPENING[name] if path.endswith("opening.rt") else f"AQS_IS_{name}"
         if known:
             found.setdefault(known, set()).add(int(number))
+    for name, number in re.findall(r"const (\w+): u32 = (\d+);", text):
+        found.setdefault(f"AQS_{name}", set()).add(int(number))
     return {OTHERWISE.get(name, name): numbers for name, numbers in found.items()}
 
 

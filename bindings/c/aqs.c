@@ -491,6 +491,7 @@ typedef struct aqs_seat {
     place_t *_Atomic place; /* of the thread that had it last */
     uint64_t stays;         /* why its thread keeps it, in the units below. Only that thread looks */
     bool waits;             /* whether a call of its thread waits in it. Only that thread looks */
+    uint8_t meets;          /* how many steps are not tried at once. Only that thread looks */
     atomic_bool is_on_condition; /* whether that call waits on a condition */
 } seat_t;
 
@@ -501,6 +502,7 @@ typedef struct {
 } gate_t;
 
 enum { INSIDE = 1 };
+enum { MEETS = 200 };
 #define ONE_EXCLUSIVE INT64_C(1)
 #define ONE_SHARED (INT64_C(1) << 32)
 #define ONE_WAIT (INT64_C(1) << 60)
@@ -834,11 +836,16 @@ SHORT void keep_all(const aqs_object_t *object, seat_t *seat, int64_t owned) {
     if (owned < 0 && (uint32_t)seat->stays == 0) open_gate(object);
 }
 
+/* Whether a call joins the queue of the object if it can't have what it asks for. */
+SHORT bool joins_queue(const aqs_call_t *call) {
+    return call->kind == AQS_CALL_ACQUIRE && !(call->how == AQS_HOW_TIMED && call->time == 0);
+}
+
 /* Whether a call is to go through the gate before its first turn: a thread that remembers a seat of a hot
    object, and doesn't own it, if the call may wait. */
 SHORT bool meets_gate(const aqs_object_t *object, const aqs_call_t *call) {
     const memory_t *memory = memory_of(object);
-    if (call->kind != AQS_CALL_ACQUIRE || (call->how == AQS_HOW_TIMED && call->time == 0)) return false;
+    if (!joins_queue(call)) return false;
     if (memory->tag != tag_of(object) || memory->seat >= count_of_seats(object)) return false;
     return is_hot(object) && !is_own(&object->seats_[memory->seat]);
 }
@@ -883,11 +890,16 @@ SHORT void blank(aqs_answer_t *answer) {
     answer->has_wakes = answer->again = answer->parks = answer->has_until = answer->interruptible = false;
 }
 
+/* Where the thread of a seat parks. */
+static place_t *place_of_seat(const aqs_object_t *object, uint32_t seat) {
+    return atomic_load_explicit(&object->seats_[seat].place, memory_order_relaxed);
+}
+
 /* Whom a turn names to be woken, or NULL. It is known while the thread is inside: others may close the object
    afterwards. */
 static place_t *woken_by(const aqs_object_t *object, const aqs_answer_t *answer) {
     if (!answer->has_wakes) return NULL;
-    return atomic_load_explicit(&object->seats_[answer->wakes].place, memory_order_relaxed);
+    return place_of_seat(object, answer->wakes);
 }
 
 /* What a caller owes after each turn. */
@@ -1005,6 +1017,19 @@ SHORT bool is_plain_end(const aqs_answer_t *answer) {
            && !answer->has_wakes;
 }
 
+/* Makes a step by the turn that makes it at once or not at all, which is the shortest. Returns whether it was
+   made: then the thread has left. Where the thread has just met others, the turn would often be one too many. */
+SHORT bool is_done_at_once(aqs_object_t *object, seat_t *seat, aqs_step_t step, int64_t owned) {
+    if (seat->meets > 0) return seat->meets--, false;
+    uint32_t done = aqs_step_at_once(&seat->pass, step);
+    if (done == AQS_NOT_DONE) return false;
+    place_t *woken = done == AQS_DONE ? NULL : place_of_seat(object, done - AQS_DONE_WAKES);
+    keep_all(object, seat, owned);
+    depart(object, seat);
+    if (done != AQS_DONE) send(woken, PERMIT);
+    return true;
+}
+
 /* The end of a step or a call, by its last answer. The thread is inside, and leaves. */
 static aqs_status_t
 end_turns(aqs_object_t *object, seat_t *seat, const aqs_answer_t *answer, int64_t owned) {
@@ -1031,6 +1056,7 @@ static COLD aqs_status_t end_call(aqs_object_t *object, seat_t *seat, const aqs_
     way_t way = {.took_gate = took_gate || call->kind == AQS_CALL_AWAIT};
     bool met_another = answer->kind == AQS_IS_BUSY || answer->kind == AQS_IS_WAITING;
     if (call->kind == AQS_CALL_ACQUIRE && met_another) heat(object);
+    if (answer->kind == AQS_IS_WAITING && !has_gate(object)) seat->meets = MEETS;
     while (is_made_again(object, seat, answer, &tries)) aqs_begin(&seat->pass, call, answer);
     if (answer->kind == AQS_IS_WAITING) let_others_through(object, &way);
     while (answer->kind == AQS_IS_WAITING) next_turn(object, seat, call, answer, &way);
@@ -1040,10 +1066,16 @@ static COLD aqs_status_t end_call(aqs_object_t *object, seat_t *seat, const aqs_
     return status == AQS_WOULD_BLOCK ? AQS_TIMED_OUT : status;
 }
 
+/* Whether a step releases holds or permits. A latch is counted down otherwise. */
+SHORT bool is_release(const aqs_object_t *object, aqs_step_t step, int64_t owned) {
+    return step.code == AQS_STEP_GIVE && (owned < 0 || object->kind_ == AQS_KIND_SEMAPHORE);
+}
+
 SHORT aqs_status_t do_step(aqs_object_t *object, aqs_step_t step, int64_t owned, uint32_t *n) {
     aqs_status_t status = AQS_OK;
     seat_t *seat = come(object, NULL, false, &status);
     if (!seat) return status;
+    if (is_release(object, step, owned) && is_done_at_once(object, seat, step, owned)) return AQS_OK;
     aqs_answer_t answer;
     blank(&answer);
     aqs_step_now(&seat->pass, step, &answer);
@@ -1064,9 +1096,12 @@ SHORT aqs_status_t do_call(aqs_object_t *object, aqs_call_t call, int64_t owned)
     bool waits = call.kind == AQS_CALL_ACQUIRE;
     seat_t *seat = come(object, waits ? &call : NULL, waits && owned == 0, &status);
     if (!seat) return status;
+    call.interrupted = call.how != AQS_HOW_PLAIN && take(self.place, INTERRUPT);
+    aqs_step_t step = {.n = call.n, .code = AQS_STEP_ACQUIRE, .mode = call.mode};
+    bool may_join = joins_queue(&call) && !call.interrupted;
+    if (may_join && is_done_at_once(object, seat, step, owned)) return AQS_OK;
     aqs_answer_t answer;
     blank(&answer);
-    call.interrupted = call.how != AQS_HOW_PLAIN && take(self.place, INTERRUPT);
     aqs_begin(&seat->pass, &call, &answer);
     if (!is_plain_end(&answer)) return end_call(object, seat, &call, &answer, owned, took_gate);
     keep(seat, owned);

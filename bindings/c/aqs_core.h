@@ -113,6 +113,13 @@ uint8_t aqs_open(aqs_header_t header, aqs_pass_t *places, size_t count);
    AQS_IS_NO_CODE: these are the numbers of no step. */
 void aqs_step_now(aqs_pass_t *pass, aqs_step_t step, aqs_answer_t *answer);
 
+/* Makes an acquire that succeeds at once, or a release. Returns AQS_DONE, or AQS_DONE_WAKES and the number of
+   the seat that the caller is to unpark, added up. Else it returns AQS_NOT_DONE, and nothing was recorded: make
+   the step by another call then. A latch isn't counted down so. */
+uint32_t aqs_step_at_once(aqs_pass_t *pass, aqs_step_t step);
+
+enum { AQS_NOT_DONE, AQS_DONE, AQS_DONE_WAKES };
+
 /* Makes the first turn of a call that may wait. AQS_IS_IN_CALL: the seat is in another. AQS_IS_NO_CODE: these
    are the numbers of no call. */
 void aqs_begin(aqs_pass_t *pass, const aqs_call_t *call, aqs_answer_t *answer);

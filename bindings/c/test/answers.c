@@ -31,7 +31,9 @@ static size_t count_of_passes;
 static aqs_call_t call;
 static aqs_step_t step;
 static char woke[40]; /* a digit for each aqs_go_on */
-static int begins, steps, looks, trims, drops, busy_looks;
+static aqs_step_t step_at_once;
+static uint32_t of_step_at_once;
+static int begins, steps, steps_at_once, looks, trims, drops, busy_looks;
 static uint32_t times[4]; /* of the last calls, the first at 0 */
 static atomic_int slow_turn; /* which of the next turns takes long, or 0 */
 static atomic_bool is_under_way, forks;
@@ -102,6 +104,13 @@ void aqs_step_now(aqs_pass_t *pass, aqs_step_t made, aqs_answer_t *to_answer) {
     steps++;
     take_long();
     answer(pass, to_answer);
+}
+uint32_t aqs_step_at_once(aqs_pass_t *pass, aqs_step_t made) {
+    CHECK(pass->live);
+    step_at_once = made;
+    steps_at_once++;
+    if (of_step_at_once != AQS_NOT_DONE) take_long();
+    return of_step_at_once;
 }
 void aqs_begin(aqs_pass_t *pass, const aqs_call_t *made, aqs_answer_t *to_answer) {
     call = *made;
@@ -274,6 +283,14 @@ static void make(kind_t kind, const char *name, uint32_t a, uint32_t b) {
     CHECK(ends(&players[0], LIMIT));
 }
 
+/* Whether the library was first asked to make this step at once, if it was to be. */
+static bool asked_at_once(bool wanted, uint8_t code, uint8_t mode, uint32_t n) {
+    bool is_good = steps_at_once == wanted;
+    if (wanted) is_good &= step_at_once.code == code && step_at_once.mode == mode && step_at_once.n == n;
+    steps_at_once = 0;
+    return is_good;
+}
+
 static void make_waiting_call(size_t row, uint32_t a, uint32_t b) {
     const char *name = waiting_calls[row].name;
     aqs_call_t wanted = waiting_calls[row].wanted;
@@ -289,6 +306,8 @@ static void make_waiting_call(size_t row, uint32_t a, uint32_t b) {
     if (!is_good)
         FAIL("with %u %u it begins kind %u mode %u n %u how %u time %u", a, b, call.kind, call.mode, call.n,
              call.how, call.time);
+    bool may_wait = wanted.kind == AQS_CALL_ACQUIRE && (wanted.how != AQS_HOW_TIMED || wanted.time > 0);
+    if (!asked_at_once(may_wait, AQS_STEP_ACQUIRE, wanted.mode, wanted.n)) FAIL("with %u %u it asks otherwise", a, b);
     if (call.how == AQS_HOW_TIMED && (moment < before || moment >= after + 1000000))
         FAIL("its moment isn't now");
     if (players[0].status != AQS_OK) FAIL("it is %s", aqs_status_name(players[0].status));
@@ -303,6 +322,8 @@ static void make_step_call(size_t row, uint32_t a) {
     bool is_good = step.code == wanted.code && step.mode == wanted.mode && step.n == wanted.n && steps == 1
                    && begins == 0;
     if (!is_good) FAIL("with %u it steps code %u mode %u n %u", a, step.code, step.mode, step.n);
+    bool is_release = wanted.code == AQS_STEP_GIVE && step_calls[row].kind != LATCH;
+    if (!asked_at_once(is_release, AQS_STEP_GIVE, wanted.mode, wanted.n)) FAIL("with %u it asks otherwise", a);
     if (players[0].status != AQS_OK) FAIL("it is %s", aqs_status_name(players[0].status));
     steps = 0;
 }
@@ -794,6 +815,32 @@ static void stray_wakes(void) {
     close_all();
 }
 
+/* A call that is done at once asks no more of its object, and wakes whom the number names. */
+static void done_at_once(void) {
+    static const aqs_answer_t parked[] = {{PARKS}, ENTRY(GOT)};
+    play_name = "calls that are done at once";
+    open_all(&(aqs_options_t){.threads = SEATS});
+    begins = steps = 0;
+    of_step_at_once = AQS_DONE;
+    play_lines(LOCK, "0 lock = OK; 0 timedlock 9 = OK; 0 unlock = OK; 0 unlock = OK");
+    play_lines(RW, "0 rdlock = OK; 0 rdunlock = OK; 0 wrlock_interruptibly = OK; 0 wrunlock = OK");
+    play_lines(SEM, "0 acquire 3 = OK; 0 release 3 = OK");
+    play_lines(LATCH, "0 await = OK");
+    CHECK(begins == 0 && steps == 0);
+    for (uint32_t seat = 1; seat < SEATS; seat++) {
+        char line[40];
+        of_step_at_once = AQS_NOT_DONE;
+        answer_with((int)seat, 0, parked, 2);
+        snprintf(line, sizeof line, "%u lock ..", seat);
+        play_lines(LOCK, line);
+        of_step_at_once = AQS_DONE_WAKES + seat;
+        snprintf(line, sizeof line, "0 unlock = OK; %u = OK", seat);
+        play_lines(LOCK, line);
+    }
+    of_step_at_once = AQS_NOT_DONE;
+    close_all();
+}
+
 /* For how long a condition of its own asks its lock, which wakes the thread twice for others. The clock goes on
    by so many nanoseconds with each call. */
 static const struct {
@@ -1014,6 +1061,7 @@ int main(void) {
     interrupts_at_entry();
     close_all();
     stray_wakes();
+    done_at_once();
     times_of_conditions();
     long_times();
     forks_in_turns();

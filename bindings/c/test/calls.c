@@ -442,6 +442,7 @@ static void numbers(void) {
     CHECK(aqs_open(header, passes, 2) == AQS_CORE_NOT_EMPTY);
     aqs_step_now(&none, (aqs_step_t){.code = AQS_STEP_TRY}, &answer);
     CHECK(answer.kind == AQS_IS_NO_PASS);
+    CHECK(aqs_step_at_once(&none, (aqs_step_t){.n = 1, .code = AQS_STEP_ACQUIRE}) == AQS_NOT_DONE);
     aqs_begin(&none, &(aqs_call_t){.kind = AQS_CALL_ACQUIRE}, &answer);
     CHECK(answer.kind == AQS_IS_NO_PASS);
     CHECK(aqs_text_now(&none, &byte, 1, &number) == AQS_IS_NO_PASS);
@@ -459,6 +460,11 @@ static void numbers(void) {
         aqs_step_now(&passes[0], (aqs_step_t){.code = (uint8_t)code}, &answer);
         CHECK(answer.kind == AQS_IS_NO_CODE);
     }
+    for (unsigned code = 0; code < 256; code++) {
+        bool is_acquire = code == AQS_STEP_ACQUIRE;
+        uint32_t done = aqs_step_at_once(&passes[0], (aqs_step_t){.n = 1, .code = (uint8_t)code, .mode = is_acquire});
+        CHECK(done == AQS_NOT_DONE);
+    }
     aqs_step_now(&passes[0], (aqs_step_t){.code = AQS_STEP_TRY, .mode = 2}, &answer);
     CHECK(answer.kind == AQS_IS_NO_CODE);
     aqs_begin(&passes[0], &(aqs_call_t){.kind = 2}, &answer);
@@ -469,8 +475,13 @@ static void numbers(void) {
     CHECK(answer.kind == AQS_IS_NO_CODE);
     aqs_go_on(&passes[0], AQS_WOKE_PERMIT, &answer);
     CHECK(answer.kind == AQS_IS_IN_NO_CALL);
+    aqs_step_t acquire = {.n = 1, .code = AQS_STEP_ACQUIRE}, give = {.n = 1, .code = AQS_STEP_GIVE};
+    CHECK(aqs_step_at_once(&passes[0], give) == AQS_NOT_DONE);
+    CHECK(aqs_step_at_once(&passes[0], acquire) == AQS_DONE);
+    CHECK(aqs_step_at_once(&passes[0], give) == AQS_DONE);
     aqs_begin(&passes[0], &(aqs_call_t){.n = 1}, &answer);
     CHECK(answer.kind == AQS_IS_ENTRY && answer.word == AQS_WORD_GOT && answer.seat == 0);
+    CHECK(aqs_step_at_once(&passes[1], acquire) == AQS_NOT_DONE);
     aqs_begin(&passes[1], &(aqs_call_t){.n = 1}, &answer);
     CHECK(answer.kind == AQS_IS_WAITING && answer.parks && !answer.has_until && !answer.interruptible);
     aqs_begin(&passes[1], &(aqs_call_t){.n = 1}, &answer);
@@ -485,6 +496,11 @@ static void numbers(void) {
     CHECK(answer.kind == AQS_IS_ENTRY && answer.has_wakes && answer.wakes == 1);
     aqs_go_on(&passes[1], AQS_WOKE_PERMIT, &answer);
     CHECK(answer.kind == AQS_IS_ENTRY && answer.word == AQS_WORD_GRANTED && answer.seat == 1);
+    aqs_begin(&passes[0], &(aqs_call_t){.n = 1}, &answer);
+    CHECK(answer.kind == AQS_IS_WAITING && aqs_step_at_once(&passes[0], give) == AQS_NOT_DONE);
+    CHECK(aqs_step_at_once(&passes[1], give) == AQS_DONE_WAKES);
+    aqs_go_on(&passes[0], AQS_WOKE_PERMIT, &answer);
+    CHECK(answer.kind == AQS_IS_ENTRY && answer.word == AQS_WORD_GRANTED && answer.seat == 0);
     aqs_entry_now(&passes[0], 1000, &answer);
     CHECK(answer.kind == AQS_IS_NO_ENTRY);
     aqs_drop(&passes[0]);

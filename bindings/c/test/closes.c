@@ -10,6 +10,7 @@
 #include <stdatomic.h>
 
 void __real_aqs_step_now(aqs_pass_t *pass, aqs_step_t step, aqs_answer_t *answer);
+uint32_t __real_aqs_step_at_once(aqs_pass_t *pass, aqs_step_t step);
 void __real_aqs_begin(aqs_pass_t *pass, const aqs_call_t *call, aqs_answer_t *answer);
 void __real_aqs_go_on(aqs_pass_t *pass, uint8_t woke, aqs_answer_t *answer);
 
@@ -32,15 +33,30 @@ static void begin_slowly(void) {
    object: some while later, in which another thread closes that object. */
 static _Thread_local enum { NO_POST, IS_INTERRUPTED, MAKES_A_POST } post;
 
-void __wrap_aqs_step_now(aqs_pass_t *pass, aqs_step_t step, aqs_answer_t *answer) {
+static void begin_step(void) {
     begin_slowly();
     if (post == MAKES_A_POST) usleep(20000);
-    __real_aqs_step_now(pass, step, answer);
+}
+
+static void end_step(aqs_pass_t *pass) {
     if (post == IS_INTERRUPTED) {
         CHECK(raise(SIGUSR1) == 0);
         post = MAKES_A_POST;
     }
     end_slowly(pass);
+}
+
+void __wrap_aqs_step_now(aqs_pass_t *pass, aqs_step_t step, aqs_answer_t *answer) {
+    begin_step();
+    __real_aqs_step_now(pass, step, answer);
+    end_step(pass);
+}
+
+uint32_t __wrap_aqs_step_at_once(aqs_pass_t *pass, aqs_step_t step) {
+    begin_step();
+    uint32_t done = __real_aqs_step_at_once(pass, step);
+    end_step(pass);
+    return done;
 }
 
 void __wrap_aqs_begin(aqs_pass_t *pass, const aqs_call_t *call, aqs_answer_t *answer) {

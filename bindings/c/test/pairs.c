@@ -1,7 +1,7 @@
-/* pairs.c [MILLISECONDS [WORK]]: pairs of lock and unlock a second, by 1, 2, 4 and 8 threads, beside pthread's.
-   Each thread changes one number under the lock. It also works for WORK pauses of the processor under the lock,
-   and for as many without it: none, if no number is given. The processor time of a pair says more than the wall
-   on a machine that is busy. */
+/* pairs.c [MILLISECONDS [WORK [OWN]]]: pairs of lock and unlock a second, by 1, 2, 4 and 8 threads, beside
+   pthread's. Each thread changes one number under the lock. It also works for WORK pauses of the processor under
+   the lock, and for OWN without it: for none and for as many, if no numbers are given. The processor time of a
+   pair says more than the wall on a machine that is busy. */
 #include "aqs.h"
 
 #include <pthread.h>
@@ -26,12 +26,12 @@ static aqs_sem_t *semaphore;
 static long number;
 static atomic_bool has_begun, is_over;
 static atomic_ulong pairs, nanoseconds;
-static int pauses;
+static int pauses, own_pauses;
 
 static void nothing(void) {}
 
-static inline void work_a_while(void) {
-    for (int left = pauses; left > 0; left--) __builtin_ia32_pause();
+static inline void work_for(int left) {
+    for (; left > 0; left--) __builtin_ia32_pause();
 }
 
 static void must(aqs_status_t status) {
@@ -43,7 +43,7 @@ static void must(aqs_status_t status) {
 static void mutex_pair(void) {
     pthread_mutex_lock(&mutex);
     number++;
-    work_a_while();
+    work_for(pauses);
     pthread_mutex_unlock(&mutex);
 }
 
@@ -57,7 +57,7 @@ static void open_kept(void) { open_lock(AQS_NONFAIR, AQS_REFUSE); }
 static void lock_pair(void) {
     must(aqs_lock_lock(lock));
     number++;
-    work_a_while();
+    work_for(pauses);
     must(aqs_lock_unlock(lock));
 }
 static void close_lock(void) { aqs_lock_close(lock); }
@@ -69,7 +69,7 @@ static void open_semaphore(void) {
 static void semaphore_pair(void) {
     must(aqs_sem_acquire(semaphore, 1));
     number++;
-    work_a_while();
+    work_for(pauses);
     must(aqs_sem_release(semaphore, 1));
 }
 static void close_semaphore(void) { aqs_sem_close(semaphore); }
@@ -89,7 +89,7 @@ static void *work(void *given) {
     while (!atomic_load(&has_begun)) usleep(100);
     while (!atomic_load_explicit(&is_over, memory_order_relaxed)) {
         contender->pair();
-        work_a_while();
+        work_for(own_pauses);
         mine++;
     }
     clock_gettime(CLOCK_THREAD_CPUTIME_ID, &used);
@@ -128,6 +128,7 @@ static void measure(const contender_t *contender, int threads, unsigned millisec
 int main(int count, char **words) {
     unsigned milliseconds = count > 1 ? (unsigned)atoi(words[1]) : 300;
     pauses = count > 2 ? atoi(words[2]) : 0;
+    own_pauses = count > 3 ? atoi(words[3]) : pauses;
     for (size_t i = 0; i < sizeof contenders / sizeof contenders[0]; i++) {
         for (int threads = 1; threads <= 8; threads *= 2) measure(&contenders[i], threads, milliseconds);
     }

@@ -1,15 +1,19 @@
 -- Who waits after the turns of its call, and after what changes nothing of it.
 use Rattle.std.proofs.Common.{◌≡◌, inl, inr, ℕ, Bool, true, false, List, Option, Some, None, Result, Ok, Err, refl, sym, ap, ◌∙◌, subst, IfNone, IfSome, MatchOption}
-use Rattle.aqs_c.specs.Below.{lapsed, Base, Arrival, Entry, Fault, Point, Answer, Step, Deed, Woke, waits, Agrees, Before, IsBegun, IsGoneOn, later_turn, next_behind, step_of_waiting, IsLook, Shown, IsSound, IsSame, IsTrim, IsUnparked, Cause, Waits, WaitsAs, in_line, is_lapse, on_condition, on_way_back, How, Next, Request, Turn, Waiting, LockId}
+use Rattle.aqs_c.specs.Below.{lapsed, Base, Arrival, Entry, Fault, Point, Answer, Step, Deed, Woke, waits, Agrees, Before, IsBegun, IsGoneOn, later_turn, next_behind, step_of_waiting, IsLook, Shown, IsSound, IsSame, IsTrim, IsUnparked, Cause, IsStep, entry_at_once, Waits, WaitsAs, in_line, is_lapse, on_condition, on_way_back, How, Next, Request, Turn, Waiting, LockId}
 use Rattle.history.specs.declared.step.Answer.TheVariants as answer
 use Rattle.history.specs.declared.step.Step.TheVariants as step
 use Rattle.monitor.specs.declared.machine.Next.TheVariants as next
 use Rattle.monitor.proofs.InLine.{IsEndBy}
+use Rattle.monitor.proofs.Looking.{not_looked}
 use Rattle.monitor.proofs.TurnByTurn.{begun_waits, never_waits, step_waits, waits_now}
 use Rattle.monitor.proofs.Turns.{TurnMakes, still_waiting, turn}
 use Rattle.monitor.proofs.Turns as turns
-use Rattle.aqs_c.specs.Seated.{waiting_in}
+use Rattle.aqs_c.specs.Calls.{IsSeatLook, IsSeatStepAtOnce}
+use Rattle.aqs_c.specs.Codes.{IsCodeOf, done_number}
+use Rattle.aqs_c.specs.Seated.{seated, waiting_in}
 use Rattle.aqs_c.specs.Standing.{IsSeat, StandsBy}
+use Rattle.aqs_c.specs.declared.steps.AqsStep.{AqsStep}
 
 -- C is asked for no deed, so any will do
 abbrev any_deed : Deed → Type 0
@@ -115,3 +119,24 @@ seat_trimmed lock old new waiting None was shows same busy seat =
     subst (λ (p : Shown). IsSeat lock p waiting) (sym busy) seat
 seat_trimmed lock old new waiting (Some count) was shows same trim seat =
     (same.lock ∙ seat.0, stands_trimmed old new waiting count was shows same trim seat.1)
+
+-- a seat of which nothing was asked
+pub seat_stays : (p : Shown) (waiting : Option Waiting) → IsSound p → IsSeatLook (seated p waiting) (seated p waiting)
+seat_stays p waiting shows = record { looked = not_looked p shows; waiting = refl }
+
+-- a step that was done at once, or not
+pub at_once : (old new : Shown) (s : Step) (code : AqsStep) (done : Option (Option ℕ)) (number : ℕ) →
+    IsCodeOf s code → number ≡ done_number done →
+    IfSome done (λ named. IsStep old s (Ok (answer.Recorded (entry_at_once old.seat s) named)) new) →
+    IfNone done (IsLook old new) → IsSeatStepAtOnce (seated old None) code number (seated new None)
+at_once old new s code None number is_code is step look = inl (is, record { looked = look; waiting = refl })
+at_once old new s code (Some named) number is_code is step look =
+    inr (record {
+      step = s;
+      named = named;
+      is_code = is_code;
+      idle = refl;
+      made = step;
+      waiting = refl;
+      is_number = is;
+    })

@@ -1,6 +1,7 @@
 -- What aqs_c cites of the crates below, passed on from one place: names of deciding, history, history_text,
 -- monitor, permit and word_lock. Declares nothing.
 pub use Rattle.deciding.specs.Balance.{available, all_asleep}
+pub use Rattle.frame.specs.AtOnce.{entry_at_once}
 pub use Rattle.history.specs.declared.arrival.Arrival.{Arrival}
 pub use Rattle.history.specs.declared.entry.End.{End}
 pub use Rattle.history.specs.declared.entry.Entry.{Entry}
@@ -41,7 +42,7 @@ pub use Rattle.monitor.specs.Lawful.{start_at, blank}
 pub use Rattle.monitor.specs.Machine.{IsBegun, limits_at, next_behind, later_turn, step_of_waiting, IsGoneOn}
 pub use Rattle.monitor.specs.Observing.{IsLook}
 pub use Rattle.monitor.specs.Shown.{Shown, IsSound, opening_passes}
-pub use Rattle.monitor.specs.Stepping.{IsSame, IsStepNow, IsUnparked, IsTrim}
+pub use Rattle.monitor.specs.Stepping.{IsSame, IsStep, IsStepNow, IsUnparked, IsTrim}
 pub use Rattle.monitor.specs.Waits.{Cause, in_line, on_condition, on_way_back, WaitsAs, Waits, is_lapse}
 pub use Rattle.permit.specs.declared.parking.Woke.{Woke}
 pub use Rattle.permit.specs.declared.parking.Woke.TheVariants.{Permit, Deadline, Interrupted}

@@ -1,7 +1,7 @@
 -- What a call of C leaves, and what it is answered.
 use Rattle.std.specs.Prelude.{◌≡◌, ◌⊎◌, ◌≤◌, ◌<◌, ◌+◌, ℕ, ℤ, Bool, List, Option, Some, None, IsSome, is_some, Result, Ok, Err, length, take, reverse, slice_get}
-use Rattle.aqs_c.specs.Below.{all_asleep, available, count, counts, owner, Entry, Fault, Step, line, history_text, start_at, IsBegun, IsGoneOn, IsLook, Shown, IsStepNow, IsTrim, How, Request, Turn, Waiting, Now, Woke}
-use Rattle.aqs_c.specs.Codes.{IsAnswerOf, IsCallOf, IsCodeOf, IsEntry, IsQuiet, IsTurnOf, IsWoke}
+use Rattle.aqs_c.specs.Below.{all_asleep, available, count, counts, owner, Entry, Fault, Recorded, Step, entry_at_once, line, history_text, start_at, IsBegun, IsGoneOn, IsLook, Shown, IsStep, IsStepNow, IsTrim, How, Request, Turn, Waiting, Now, Woke}
+use Rattle.aqs_c.specs.Codes.{IsAnswerOf, IsCallOf, IsCodeOf, IsEntry, IsQuiet, IsTurnOf, IsWoke, done_number}
 use Rattle.aqs_c.specs.Seated.{Seated, waiting_in}
 use Rattle.aqs_c.specs.declared.answers.AqsAnswer.{AqsAnswer}
 use Rattle.aqs_c.specs.declared.answers.AqsContention.{AqsContention}
@@ -32,6 +32,25 @@ IsStepped old code a new =
 abbrev pub IsSeatStep : Seated → AqsStep → AqsAnswer → Seated → Type 0
 IsSeatStep old code a new =
     (IsSome old.waiting × IsRefused 8 old a new) ⊎ ((old.waiting ≡ None) × IsStepped old code a new)
+
+-- the pass may have seen more, and nothing else has changed
+pub record IsSeatLook (old new : Seated) : Type 0 where
+  pub looked : IsLook old.pass new.pass
+  pub waiting : new.waiting ≡ old.waiting
+
+-- a step that was done at once, as the monitor promises it, and the number that it is answered
+pub record IsDoneAtOnce (old : Seated) (code : AqsStep) (number : ℕ) (new : Seated) : Type 0 where
+  pub step : Step
+  pub named : Option ℕ
+  pub is_code : IsCodeOf step code
+  pub idle : old.waiting ≡ None
+  pub made : IsStep old.pass step (Ok (Recorded (entry_at_once old.pass.seat step) named)) new.pass
+  pub waiting : new.waiting ≡ None
+  pub is_number : number ≡ done_number (Some named)
+
+-- The step was done at once. Or it was not, the pass may have seen more, and nothing else has changed.
+abbrev pub IsSeatStepAtOnce : Seated → AqsStep → ℕ → Seated → Type 0
+IsSeatStepAtOnce old code number new = ((number ≡ 0) × IsSeatLook old new) ⊎ IsDoneAtOnce old code number new
 
 -- the first turn of a call, as the monitor promises it, and its answer in numbers
 pub record IsTurnBegun (old : Seated) (c : AqsCall) (a : AqsAnswer) (new : Seated) : Type 0 where
@@ -86,6 +105,10 @@ abbrev pub IsPassStep : Option Seated → AqsStep → AqsAnswer → Option Seate
 IsPassStep None code a new = IsNoPass a × (new ≡ None)
 IsPassStep (Some old) code a new = (seat : Seated) × (new ≡ Some seat) × IsSeatStep old code a seat
 
+abbrev pub IsPassStepAtOnce : Option Seated → AqsStep → ℕ → Option Seated → Type 0
+IsPassStepAtOnce None code number new = (number ≡ 0) × (new ≡ None)
+IsPassStepAtOnce (Some old) code number new = (seat : Seated) × (new ≡ Some seat) × IsSeatStepAtOnce old code number seat
+
 abbrev pub IsPassBegun : Option Seated → AqsCall → AqsAnswer → Option Seated → Type 0
 IsPassBegun None c a new = IsNoPass a × (new ≡ None)
 IsPassBegun (Some old) c a new = (seat : Seated) × (new ≡ Some seat) × IsSeatBegun old c a seat
@@ -93,11 +116,6 @@ IsPassBegun (Some old) c a new = (seat : Seated) × (new ≡ Some seat) × IsSea
 abbrev pub IsPassGoneOn : Option Seated → ℕ → AqsAnswer → Option Seated → Type 0
 IsPassGoneOn None number a new = IsNoPass a × (new ≡ None)
 IsPassGoneOn (Some old) number a new = (seat : Seated) × (new ≡ Some seat) × IsSeatGoneOn old number a seat
-
--- the pass may have seen more, and nothing else has changed
-pub record IsSeatLook (old new : Seated) : Type 0 where
-  pub looked : IsLook old.pass new.pass
-  pub waiting : new.waiting ≡ old.waiting
 
 -- an entry, or none of that number
 abbrev pub IsEntryAt : Option Entry → AqsAnswer → Type 0

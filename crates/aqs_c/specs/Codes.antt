@@ -1,5 +1,5 @@
 -- Steps, calls and answers as numbers.
-use Rattle.std.specs.Prelude.{◌≡◌, ◌⊎◌, ℕ, Bool, true, false, Option, Some, None, Result, Ok, Err, is_some, unwrap_or}
+use Rattle.std.specs.Prelude.{◌≡◌, ◌⊎◌, ℕ, ◌+◌, Bool, true, false, Option, Some, None, Result, Ok, Err, is_some, unwrap_or}
 use Rattle.aqs_c.specs.Below.{fault_number, Entry, Word, End, Mode, X, S, Fault, Step, Recorded, Sleep, limits_at, How, Plain, Interruptible, Timed, Next, Ends, Request, Acquire, AwaitOn, Turn, Now, Done, Busy, Limits, Woke, Permit, Deadline, Interrupted}
 use Rattle.history.specs.declared.entry.Word.TheVariants as word
 use Rattle.history.specs.declared.entry.End.TheVariants as end
@@ -105,6 +105,12 @@ IsAnswerOf (Ok (Done (Recorded e named))) a = IsEntry e a × IsNamed named a × 
 IsAnswerOf (Ok (Done Sleep)) a = (a.kind ≡ 1) × IsQuiet a
 IsAnswerOf (Ok Busy) a = (a.kind ≡ 3) × IsQuiet a
 IsAnswerOf (Err fault) a = (a.kind ≡ 2) × (a.fault ≡ fault_number fault) × IsQuiet a
+
+-- a step that was done at once, and the seat that it named, or one that wasn't
+abbrev pub done_number : Option (Option ℕ) → ℕ
+done_number None = 0
+done_number (Some None) = 1
+done_number (Some (Some seat)) = 2 + seat
 
 -- whether and how the seat parks
 abbrev pub IsParkOf : Option Limits → AqsAnswer → Type 0

@@ -1,7 +1,7 @@
 //! Answers as numbers.
 ghost use Rattle.std.specs.Prelude.{◌≡◌, false};
 ghost use Rattle.history.specs.Fault.{fault_number};
-ghost use Rattle.aqs_c.specs.Codes.{IsAnswerOf, IsEntry, IsNamed, IsNextOf, IsParkOf, IsQuiet, end_number, fault_in, mode_number, word_number};
+ghost use Rattle.aqs_c.specs.Codes.{IsAnswerOf, IsEntry, IsNamed, IsNextOf, IsParkOf, IsQuiet, done_number, end_number, fault_in, mode_number, word_number};
 
 use history::entry::{End, Entry, Mode, Word};
 use history::fault::Fault;
@@ -74,6 +74,24 @@ pub(crate) const WAITS: u8 = 7;
 pub(crate) const IN_CALL: u8 = 8;
 
 pub(crate) const IN_NO_CALL: u8 = 9;
+
+pub(crate) const NOT_DONE: u32 = 0;
+
+const DONE: u32 = 1;
+
+const DONE_WAKES: u32 = 2;
+
+/// A step that was done at once, and the seat that it named; or one that wasn't.
+#[inline(always)]
+pub(crate) fn done_number(done: Option<Option<u16>>) -> u32
+    ensures { result ≡ done_number done }
+{
+    match done {
+        None => NOT_DONE,
+        Some(None) => DONE,
+        Some(Some(seat)) => DONE_WAKES + u32::from(seat),
+    }
+}
 
 fn word_number(word: Word) -> u8
     ensures { result ≡ word_number word }

@@ -16,7 +16,7 @@
 #![tactic(auto)]
 
 ghost use Rattle.std.specs.Prelude.{◌≡◌, MatchOption, None};
-ghost use Rattle.aqs_c.specs.Calls.{IsPassBegun, IsPassEntry, IsPassGoneOn, IsPassNumber, IsPassStep, IsPassText, IsPassTrim, contention_seen, count_seen, permits_seen};
+ghost use Rattle.aqs_c.specs.Calls.{IsPassBegun, IsPassEntry, IsPassGoneOn, IsPassNumber, IsPassStep, IsPassStepAtOnce, IsPassText, IsPassTrim, contention_seen, count_seen, permits_seen};
 ghost use Rattle.aqs_c.specs.Opening.{IsOpening};
 
 mod answers;
@@ -30,7 +30,7 @@ mod steps;
 mod text;
 
 pub use crate::answers::{AqsAnswer, AqsContention};
-use crate::answers::{BUSY, ENTRY, FAULT, NO_PASS, nothing};
+use crate::answers::{BUSY, ENTRY, FAULT, NO_PASS, NOT_DONE, nothing};
 pub use crate::calls::AqsCall;
 pub use crate::held::Held;
 pub use crate::opening::AqsHeader;
@@ -68,6 +68,22 @@ pub extern "C" fn aqs_step_now(
         Some(mut seat) => {
             *answer = seat.step(step);
             *pass = AqsPass::of(seat);
+        }
+    }
+}
+
+/// An acquire of a pass's seat that succeeds at once, or a release. Returns 1, or the number of the seat that has
+/// to be unparked, and 2 more. Otherwise it returns 0, and nothing was recorded.
+#[unsafe(no_mangle)]
+pub extern "C" fn aqs_step_at_once(alloc: Global, pass: &mut AqsPass, step: AqsStep) -> u32
+    ensures { IsPassStepAtOnce pass.old.held.value step result pass.new.held.value }
+{
+    match pass.take(alloc) {
+        None => NOT_DONE,
+        Some(mut seat) => {
+            let done = seat.step_at_once(step);
+            *pass = AqsPass::of(seat);
+            done
         }
     }
 }

@@ -2,20 +2,24 @@
 ghost use Rattle.std.specs.Prelude.{◌≡◌, Some, None, IfNone, IfSome, IfOk};
 ghost use Rattle.std.specs.Arc.{arc_value};
 ghost use Rattle.monitor.specs.Waits.{Waits};
-ghost use Rattle.aqs_c.specs.Calls.{IsCallBegun, IsCallGoneOn, IsSeatBegun, IsSeatEntry, IsSeatGoneOn, IsSeatLook, IsSeatStep, IsSeatTrim, IsStepped, contention_seen, count_seen, permits_seen, text_seen};
+ghost use Rattle.aqs_c.specs.Calls.{IsCallBegun, IsCallGoneOn, IsSeatBegun, IsSeatEntry, IsSeatGoneOn, IsSeatLook, IsSeatStep, IsSeatStepAtOnce, IsSeatTrim, IsStepped, contention_seen, count_seen, permits_seen, text_seen};
+ghost use Rattle.aqs_c.specs.Codes.{IsCodeOf};
 ghost use Rattle.aqs_c.specs.Seated.{seated, waiting_in};
+ghost use Rattle.aqs_c.specs.declared.steps.AqsStep.{AqsStep};
 ghost use Rattle.aqs_c.specs.Standing.{StandsBy};
 
 use crate::answers::{
-    AqsAnswer, AqsContention, BUSY, IN_CALL, IN_NO_CALL, NO_CODE, NO_ENTRY, answer_of,
-    contention_answer, entry_answer, nothing, turn_answer,
+    AqsAnswer, AqsContention, BUSY, IN_CALL, IN_NO_CALL, NO_CODE, NO_ENTRY, NOT_DONE, answer_of,
+    contention_answer, done_number, entry_answer, nothing, turn_answer,
 };
 use crate::calls::{AqsCall, call_of, woke_of};
 use crate::steps::{AqsStep, step_of};
 use crate::text::text_of;
 use any_object::AnyHooks;
 use history::entries::History;
+use history::entry::Mode;
 use history::fault::Fault;
+use history::step::Step;
 use monitor::{Empty, Monitor, Next, Pass, Waiting};
 use std::alloc::Global;
 use std::marker::Model;
@@ -61,6 +65,18 @@ impl Seat {
         match self.waiting {
             Some(_) => nothing(IN_CALL, 0),
             None => step_idle(&self.monitor, &mut self.pass, step),
+        }
+    }
+
+    /// One step, if the seat is in no call and the step is done at once.
+    #[tactic(auto, using(crate::proofs::SeatTurns::seat_stays))]
+    pub(crate) fn step_at_once(&mut self, step: AqsStep) -> u32
+        ensures { IsSeatStepAtOnce self.old step result self.new }
+    {
+        self.pass.is_true();
+        match self.waiting {
+            Some(_) => NOT_DONE,
+            None => step_idle_at_once(&self.monitor, &mut self.pass, step),
         }
     }
 
@@ -162,6 +178,33 @@ fn step_idle(monitor: &Monitor<AnyHooks>, pass: &mut Pass, step: AqsStep) -> Aqs
         return nothing(NO_CODE, 0);
     };
     answer_of(monitor.step_quietly(pass, &mut Empty {}, step))
+}
+
+// An acquire or a release of such a seat, if it is done at once. Each has a copy of the code that is made for it.
+#[tactic(auto, using(crate::proofs::SeatTurns::seat_stays))]
+fn step_idle_at_once(monitor: &Monitor<AnyHooks>, pass: &mut Pass, step: AqsStep) -> u32
+    requires of { pass.old.lock ≡ monitor.now }
+    ensures of { pass.new.lock ≡ monitor.now }
+    ensures stepped { IsSeatStepAtOnce (seated pass.old None) step result (seated pass.new None) }
+{
+    pass.is_true();
+    match (step.code, step.mode) {
+        (0, 0) => done_at_once(monitor, pass, Step::Acquire(Mode::X, step.n)),
+        (0, 1) => done_at_once(monitor, pass, Step::Acquire(Mode::S, step.n)),
+        (4, 0) => done_at_once(monitor, pass, Step::Give(Mode::X, step.n)),
+        (4, 1) => done_at_once(monitor, pass, Step::Give(Mode::S, step.n)),
+        _ => NOT_DONE,
+    }
+}
+
+#[inline(always)]
+fn done_at_once(monitor: &Monitor<AnyHooks>, pass: &mut Pass, step: Step) -> u32
+    requires of { pass.old.lock ≡ monitor.now }
+    ensures of { pass.new.lock ≡ monitor.now }
+    ensures stepped { (code : AqsStep) → IsCodeOf step code
+        → IsSeatStepAtOnce (seated pass.old None) code result (seated pass.new None) }
+{
+    done_number(monitor.step_at_once_quietly(pass, step))
 }
 
 // The first turn of a call of a seat that is in no other.

@@ -1,9 +1,9 @@
 -- What a section of the lock leaves that changes nothing.
 use Rattle.std.proofs.Common.{◌≡◌, [], ℕ, refl, sym, ap, ◌∙◌}
 use Rattle.monitor.specs.Below.{ended_calls, Point, Before, Follows, AllAgree, Ticket, after_lock, after_unlock, first_seat}
-use Rattle.word_lock.proofs.PointLaws.{follows_same, added_more}
+use Rattle.word_lock.proofs.PointLaws.{before_refl, follows_same, added_more}
 use Rattle.word_lock.proofs.Sections.{follows_taken, section}
-use Rattle.monitor.specs.Prelude.{IsLawful, shown, IsPass, IsLook}
+use Rattle.monitor.specs.Prelude.{IsLawful, Called, Shown, shown, IsPass, IsSound, IsLook}
 use Rattle.monitor.proofs.Sections.{mine_stays, passed}
 
 -- what was taken at a point may be given back there
@@ -30,3 +30,13 @@ look t o n p seat share taken given was begins entries lawful =
       is = record { lock = x.lock; seat = refl; begins = x.begins; mine = mine; share = refl; shows = pass.shows };
       seen = x.seen;
     }
+
+-- what a look leaves is also what each call does
+pub looked_calls : (old new : Shown) → IsLook old new → Called old new
+looked_calls old new x =
+    record { same = record { lock = x.lock; seat = x.seat }; begins = x.begins; shows = x.shows }
+
+-- no look at all
+pub not_looked : (p : Shown) → IsSound p → IsLook p p
+not_looked p shows =
+    record { lock = refl; seat = refl; begins = before_refl p.seen; mine = refl; share = refl; shows = shows }

@@ -61,6 +61,7 @@
 
 mod acquire;
 mod at_once;
+mod at_once_quietly;
 mod await_on;
 mod calls;
 mod closing;

@@ -66,6 +66,7 @@ fn make_pairs<H: Hooks + Drop, P: Parking, R: Wait + Clock>(
             break;
         }
         pairs = pairs.wrapping_add(1);
+        race.work();
     }
     race.add(pairs);
     own
