@@ -1,5 +1,6 @@
 -- What aqs_c cites of the crates below, passed on from one place: names of deciding, history, history_text,
 -- monitor, permit and word_lock. Declares nothing.
+unfoldable pub use Rattle.word_lock.specs.Point.{Before, Agrees}
 pub use Rattle.deciding.specs.Balance.{available, all_asleep}
 pub use Rattle.frame.specs.AtOnce.{entry_at_once}
 pub use Rattle.history.specs.declared.arrival.Arrival.{Arrival}
@@ -9,6 +10,7 @@ pub use Rattle.history.specs.declared.entry.Mode.{Mode}
 pub use Rattle.history.specs.declared.entry.Mode.TheVariants.{X, S}
 pub use Rattle.history.specs.declared.entry.Word.{Word}
 pub use Rattle.history.specs.declared.fault.Fault.{Fault}
+pub use Rattle.history.specs.declared.fault.Fault.TheVariants.{OutOfMemory}
 pub use Rattle.history.specs.declared.header.Header.{Header}
 pub use Rattle.history.specs.declared.header.Object.{Object}
 pub use Rattle.history.specs.declared.header.Object.TheVariants.{Lock, ReadWrite, Semaphore, Latch}
@@ -47,5 +49,4 @@ pub use Rattle.monitor.specs.Waits.{Cause, in_line, on_condition, on_way_back, W
 pub use Rattle.permit.specs.declared.parking.Woke.{Woke}
 pub use Rattle.permit.specs.declared.parking.Woke.TheVariants.{Permit, Deadline, Interrupted}
 pub use Rattle.permit.specs.Deed.{Deed}
-unfoldable pub use Rattle.word_lock.specs.Point.{Before, Agrees}
 pub use Rattle.word_lock.specs.Ticket.{LockId}

@@ -129,10 +129,7 @@ fn end_number(end: End) -> u8
 fn mode_number(mode: Mode) -> u8
     ensures { result ≡ mode_number mode }
 {
-    match mode {
-        Mode::X => 0,
-        Mode::S => 1,
-    }
+    u8::from(matches!(mode, Mode::S))
 }
 
 // The number of the fault of a refusal, or 0.

@@ -1,8 +1,6 @@
 //! Calls that may wait, as numbers.
 ghost use Rattle.std.specs.Prelude.{◌≡◌, IfSome, IfNone};
-ghost use Rattle.monitor.specs.declared.how.How.{How};
-ghost use Rattle.monitor.specs.declared.machine.Request.{Request};
-ghost use Rattle.permit.specs.declared.parking.Woke.{Woke};
+ghost use Rattle.aqs_c.specs.Below.{How, Request, Woke};
 ghost use Rattle.aqs_c.specs.Codes.{IsCallOf, IsHow, IsMinding, IsRequest, IsWoke};
 
 use crate::steps::mode_of;

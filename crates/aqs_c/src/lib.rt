@@ -157,7 +157,8 @@ pub extern "C" fn aqs_text_now(
     out: &mut [u8],
     length: &mut u64,
 ) -> u8
-    ensures { IsPassText pass.old.held.value result pass.new.held.value out.old out.new length.old length.new }
+    ensures { IsPassText pass.old.held.value result pass.new.held.value out.old out.new length.old
+        length.new }
 {
     match pass.take(alloc) {
         None => NO_PASS,

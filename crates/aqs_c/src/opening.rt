@@ -1,11 +1,7 @@
 //! How an object is opened.
 ghost use Rattle.std.specs.Prelude.{◌≡◌, ◌≤◌, ◌↔◌, [], All, IsTrue, IfOk, IfErr, IfSome, IfNone, Some, None, length, map, vec_len, vec_capacity};
 ghost use Rattle.std.specs.Arc.{arc_value};
-ghost use Rattle.history.specs.Header.{IsInRange};
-ghost use Rattle.history.specs.declared.fault.Fault.TheVariants.{OutOfMemory};
-ghost use Rattle.history.specs.declared.header.Header.{Header};
-ghost use Rattle.history.specs.declared.header.Object.{Object};
-ghost use Rattle.history.specs.declared.header.Policy.{Policy};
+ghost use Rattle.aqs_c.specs.Below.{IsInRange, OutOfMemory, Header, Object, Policy};
 ghost use Rattle.aqs_c.specs.Opening.{IsHeaderOf, IsObject, IsOpened, IsOpening, IsPolicy, idle};
 ghost use Rattle.aqs_c.specs.Seated.{seated};
 

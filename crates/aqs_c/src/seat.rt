@@ -260,7 +260,8 @@ fn go_on_waiting(
     requires was { waiting.old ≡ Some was }
     requires stands { Waits pass.old.seen pass.old.seat }
     ensures of { pass.new.lock ≡ monitor.now }
-    ensures gone_on { IsCallGoneOn was (seated pass.old (Some was)) woke result (seated pass.new waiting.new) }
+    ensures gone_on { IsCallGoneOn was (seated pass.old (Some was)) woke result
+        (seated pass.new waiting.new) }
     ensures stands { StandsBy waiting.new pass.new }
 {
     pass.is_true();

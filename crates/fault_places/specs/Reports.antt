@@ -1,5 +1,5 @@
 -- What is said of a text.
-use Rattle.std.specs.Prelude.{◌≡◌, ◌≢◌, ◌≤◌, ◌+◌, ◌==◌, ◌||◌, Bool, false, if◌then◌else◌, ℕ, List, [], ◌∷◌, codes, Err, Ok, length, MatchOption, None, Option, Some}
+use Rattle.std.specs.Prelude.{◌≡◌, ◌≢◌, ◌≤◌, ◌+◌, ◌==◌, ◌||◌, Bool, false, if◌then◌else◌, ℕ, List, [], ◌∷◌, codes, Err, Ok, IfSome, length, MatchOption, None, Option, Some}
 use Rattle.std.specs.List.{slice_split, starts_with}
 use Rattle.frame.specs.declared.acts.Act.{Act}
 use Rattle.history.specs.declared.entry.Entry.{Entry}
@@ -19,8 +19,8 @@ use Rattle.fault_places.specs.declared.report.Kind.{Kind}
 use Rattle.fault_places.specs.declared.report.Kind.TheVariants as kind
 use Rattle.fault_places.specs.declared.report.Report.{Report}
 use Rattle.fault_places.specs.declared.report.Report.TheVariants.{History, Right, Wrong}
-use Rattle.fault_places.specs.declared.wrong.Place.{Place}
-use Rattle.fault_places.specs.declared.wrong.Place.TheVariants.{Line, Part}
+use Rattle.fault_places.specs.declared.wrong.Part.{Part}
+use Rattle.fault_places.specs.declared.wrong.Part.TheVariants.{Line, Script}
 use Rattle.fault_places.specs.declared.wrong.Wrong.{Wrong as WrongText}
 
 -- ---- which text it is
@@ -53,43 +53,37 @@ IsLineOf text BadHeader number = number ≡ 1
 IsLineOf text (BadLine bad) number = number ≡ bad
 IsLineOf text CutShort number = number ≡ length (slice_split (λ b. b == 10) text)
 
--- the place is in the line of this number, and its column is within so many bytes and their end
-abbrev pub IsAt : ℕ → ℕ → Place → Type 0
-IsAt number bytes (Line line column) = (line ≡ number) × (1 ≤ column) × (column ≤ bytes + 1)
-IsAt number bytes (Part fault member column) = ⊥
+-- a column that is told is within so many bytes and their end
+abbrev pub IsWithin : ℕ → WrongText → Type 0
+IsWithin bytes wrong = IfSome wrong.column (λ column. (1 ≤ column) × (column ≤ bytes + 1))
 
--- the place is in the line that has the first fault of the text, and within the text
-abbrev pub IsWrongIn : {H I : Type 0} → Form H I → List ℕ → Place → Type 0
-IsWrongIn form text place =
+-- the line of this number is told, in a text of so many bytes
+abbrev pub IsAt : ℕ → ℕ → WrongText → Type 0
+IsAt number bytes wrong = (wrong.part ≡ Line number) × IsWithin bytes wrong
+
+-- the line that has the first fault of the text is told
+abbrev pub IsWrongIn : {H I : Type 0} → Form H I → List ℕ → WrongText → Type 0
+IsWrongIn form text wrong =
     (fault : TextFault) × (number : ℕ) × IsReading form text (Err fault) × IsLineOf text fault number
-    × IsAt number (length text) place
+    × IsAt number (length text) wrong
 
--- the place is in the part of a script that has its fault; of one that is no JSON a line may be named
-abbrev pub IsPlaceOf : ScriptFault → Place → Type 0
-IsPlaceOf fault (Line line column) = (fault ≡ NotJson) × (1 ≤ line) × (1 ≤ column)
-IsPlaceOf fault (Part other member column) = other ≡ fault
+-- the part of a script that has this fault; of one that is no JSON it may be a line
+abbrev pub IsPartOf : ScriptFault → Part → Type 0
+IsPartOf fault (Line line) = fault ≡ NotJson
+IsPartOf fault (Script other member) = other ≡ fault
 
 -- ---- what is said
-
-abbrev pub IsSteps : List ℕ → Type 0
-IsSteps text = (h : StepsHeader) × (acts : List Act) × IsText steps_form text h acts
-
-abbrev pub IsHistory : List ℕ → Type 0
-IsHistory text = (b : Base) × (entries : List Entry) × IsHistoryText text b entries
-
-abbrev pub IsScript : List ℕ → Type 0
-IsScript text = (script : ScriptView) × Reads text (Ok script)
 
 -- a text of a kind is right, or wrong there
 abbrev pub IsReportOf : Kind → List ℕ → Option WrongText → Type 0
 IsReportOf kind.Steps text found =
-    MatchOption found (IsSteps text) (λ wrong. IsWrongIn steps_form text wrong.place)
+    MatchOption found ((h : StepsHeader) × (acts : List Act) × IsText steps_form text h acts) (IsWrongIn steps_form text)
 IsReportOf kind.History text found =
-    MatchOption found (IsHistory text) (λ wrong. IsWrongIn history_form text wrong.place)
+    MatchOption found ((b : Base) × (entries : List Entry) × IsHistoryText text b entries) (IsWrongIn history_form text)
 IsReportOf kind.Script text found =
-    MatchOption found (IsScript text)
-    (λ wrong. (fault : ScriptFault) × (fault ≢ OutOfMemory) × Reads text (Err fault) × IsPlaceOf fault wrong.place)
-IsReportOf kind.Other text found = MatchOption found ⊥ (λ wrong. IsAt 1 (length text) wrong.place)
+    MatchOption found ((script : ScriptView) × Reads text (Ok script))
+    (λ wrong. (fault : ScriptFault) × (fault ≢ OutOfMemory) × Reads text (Err fault) × IsPartOf fault wrong.part)
+IsReportOf kind.Other text found = MatchOption found ⊥ (IsAt 1 (length text))
 
 abbrev pub IsReport : List ℕ → Report → Type 0
 IsReport text History = IsReportOf kind.History text None

@@ -1,79 +1,42 @@
 //! Examples of right lines, and what is expected where a line is wrong.
 
-use crate::reader::{Base, Calls, Reader};
+use crate::reader::{Ahead, Reader};
+use crate::report::Kind;
 use history_text::place::Place;
 use std::alloc::{AllocError, Global};
 
-/// The entries of seat 0, after their number.
-const ENTRIES: [&str; 8] = [
-    "got x 1",
-    "left x 1 timeout",
-    "refused x 1 NotOwner",
-    "await 1 1",
-    "lapse 1 timeout",
-    "back 1 1 signalled",
-    "counted s 1",
-    "drained s 1",
-];
-
-/// The calls of an object, after its name.
-const CALLS: [&str; 5] = [
-    "acquire x 1",
-    "acquire-timed x 1 1",
-    "await 1",
-    "await-timed 1 1",
-    "drain",
-];
-
 /// Returns an object of each kind whose words differ, after these bytes.
-fn objects(alloc: Global, front: &str, seats: u64) -> Result<Vec<String>, AllocError> {
-    Ok(vec![in alloc;
-        format!(in alloc; "{front}lock fair seats {seats} conditions 1 cap 16")?,
-        format!(in alloc; "{front}semaphore fair seats {seats} permits 1 cap 16")?,
-        format!(in alloc; "{front}latch seats {seats} count 1 cap 16")?,
-    ]?)
+fn objects(alloc: Global, front: &str, seats: u64) -> Result<String, AllocError> {
+    format!(in alloc;
+        "{front}lock fair seats {seats} conditions 1 cap 16\n\
+         {front}semaphore fair seats {seats} permits 1 cap 16\n\
+         {front}latch seats {seats} count 1 cap 16\n"
+    )
 }
 
-fn entries(alloc: Global, place: Place) -> Result<Vec<String>, AllocError> {
-    let number = place.folded.saturating_add(place.count);
-    let mut lines = Vec::new(alloc);
-    for words in ENTRIES {
-        lines.push(format!(in alloc; "{number} 0 {words}")?)?;
-    }
-    lines.push(format!(in alloc; "end {number} {}", place.calls)?)?;
-    Ok(lines)
-}
-
-fn of_base(alloc: Global, base: &Base<'_>, line: &[u8]) -> Result<Vec<String>, AllocError> {
-    let Some(place) = base.place else {
-        let seat = base.lines.saturating_sub(2);
-        return Ok(vec![in alloc;
-            String::from_str(alloc, "base 1")?,
-            String::from_str(alloc, "base 1 unheld 1")?,
-            String::from_str(alloc, "base 1 count 1")?,
-            format!(in alloc; "seat {seat} calls 0 x 0 s 0")?,
-        ]?);
-    };
-    let mut lines = entries(alloc, place)?;
-    if line.starts_with(b"line") || line.starts_with(b"sleeper") {
-        let last = base.header.conditions.saturating_sub(1);
-        for seat in 0..base.header.seats {
-            lines.push(format!(in alloc; "line {seat} queued x 1")?)?;
-            lines.push(format!(in alloc; "line {seat} queued s 1")?)?;
-            lines.push(format!(in alloc; "line {seat} back 0 1 signalled")?)?;
-            lines.push(format!(in alloc; "sleeper {last} {seat} 1")?)?;
+/// Returns lines of a history text after the seats of its base: an end line, entries of seat 0, and if the line
+/// may be that of a waiter, waiters of all seats.
+fn of_history(
+    alloc: Global,
+    ahead: &Ahead<'_>,
+    place: Place,
+    line: &[u8],
+) -> Result<String, AllocError> {
+    let (number, calls) = (place.folded.saturating_add(place.count), place.calls);
+    let mut lines = format!(in alloc;
+        "{number} 0 got x 1\n{number} 0 left x 1 timeout\n{number} 0 refused x 1 NotOwner\n\
+         {number} 0 await 1 1\n{number} 0 lapse 1 timeout\n{number} 0 back 1 1 signalled\n\
+         {number} 0 counted s 1\n{number} 0 drained s 1\nend {number} {calls}\n"
+    )?;
+    if ahead.is_in_base() && (line.starts_with(b"line") || line.starts_with(b"sleeper")) {
+        let last = ahead.head.header.conditions.saturating_sub(1);
+        for seat in 0..ahead.head.header.seats {
+            lines.push_str(&format!(in alloc;
+                "line {seat} queued x 1\nline {seat} queued s 1\nline {seat} back 0 1 signalled\n\
+                 sleeper {last} {seat} 1\n"
+            )?)?;
         }
     }
-    Ok(lines)
-}
-
-fn calls_of(alloc: Global, calls: &Calls<'_>) -> Result<Vec<String>, AllocError> {
-    let (name, last) = (calls.name(0), calls.threads.saturating_sub(1));
-    let mut lines = Vec::new(alloc);
-    for words in CALLS {
-        lines.push(format!(in alloc; "{name} {words}")?)?;
-    }
-    lines.push(format!(in alloc; "interrupt {last}")?)?;
     Ok(lines)
 }
 
@@ -82,37 +45,47 @@ pub(crate) fn examples_of(
     alloc: Global,
     reader: &Reader<'_>,
     line: &[u8],
-) -> Result<Vec<String>, AllocError> {
+) -> Result<String, AllocError> {
     match reader {
-        Reader::StepsHead | Reader::AnyHead => objects(alloc, "aqs-steps 1 ", 1),
-        Reader::HistoryHead => objects(alloc, "aqs-history 1 ", 1),
-        Reader::Act(_, count) => Ok(vec![in alloc;
-            String::from_str(alloc, "0 acquire x 1")?,
-            String::from_str(alloc, "0 await 1")?,
-            String::from_str(alloc, "0 look")?,
-            String::from_str(alloc, "trim")?,
-            format!(in alloc; "end {count}")?,
-        ]?),
-        Reader::Base(base) => of_base(alloc, base, line),
-        Reader::Entry(_, place) => entries(alloc, *place),
+        Reader::Head(Kind::History) => objects(alloc, "aqs-history 1 ", 1),
+        Reader::Head(_) => objects(alloc, "aqs-steps 1 ", 1),
+        Reader::Act(_, count) => {
+            format!(in alloc; "0 acquire x 1\n0 await 1\n0 look\ntrim\nend {count}\n")
+        }
+        Reader::Line(ahead) => match ahead.place {
+            Some(place) => of_history(alloc, ahead, place, line),
+            None => format!(in alloc;
+                "base 1\nbase 1 unheld 1\nbase 1 count 1\nseat {} calls 0 x 0 s 0\n",
+                ahead.number.saturating_sub(3)
+            ),
+        },
         Reader::Object(threads) => objects(alloc, "", *threads),
-        Reader::Call(calls) => calls_of(alloc, calls),
+        Reader::Call(calls) => {
+            let (name, last) = (calls.name(0), calls.threads.saturating_sub(1));
+            format!(in alloc;
+                "{name} acquire x 1\n{name} acquire-timed x 1 1\n{name} await 1\n{name} await-timed 1 1\n\
+                 {name} drain\ninterrupt {last}\n"
+            )
+        }
+        Reader::End => Ok(String::new(alloc)),
     }
 }
 
 /// Returns what is expected where a reader refuses a line.
 pub(crate) fn expected(reader: &Reader<'_>) -> &'static str {
     match reader {
-        Reader::StepsHead => "aqs-steps 1 or 2, and an object: lock, rw, semaphore or latch",
-        Reader::HistoryHead => "aqs-history 1 or 2, and an object: lock, rw, semaphore or latch",
-        Reader::AnyHead => "the first line of a steps text or of a history text, or a script",
+        Reader::Head(Kind::Steps) =>
+            "aqs-steps 1 or 2, and an object: lock, rw, semaphore or latch",
+        Reader::Head(Kind::History) =>
+            "aqs-history 1 or 2, and an object: lock, rw, semaphore or latch",
+        Reader::Head(_) => "the first line of a steps text or of a history text, or a script",
         Reader::Act(_, _) => {
             "a step (acquire, try, tryfair, entryinterrupt, give, await, signal, signalall, look, expire, \
              interrupt, drain), trim or end"
         }
-        Reader::Base(base) if base.place.is_none() => "base, or the line of the next seat",
-        Reader::Base(_) => "a waiter (line, sleeper), an entry or end",
-        Reader::Entry(_, _) => {
+        Reader::Line(ahead) if ahead.place.is_none() => "base, or the line of the next seat",
+        Reader::Line(ahead) if ahead.is_in_base() => "a waiter (line, sleeper), an entry or end",
+        Reader::Line(_) => {
             "an entry (got, trygot, queued, granted, missed, gave, left, refused, await, signal, signalall, \
              lapse, back, counted, drained) or end"
         }
@@ -121,5 +94,6 @@ pub(crate) fn expected(reader: &Reader<'_>) -> &'static str {
             "an object and a call (acquire, acquire-interruptible, acquire-timed, try, give, await, \
              await-interruptible, await-timed, signal, signalall, drain, trim), or interrupt and a thread"
         }
+        Reader::End => "the end of the text",
     }
 }

@@ -1,14 +1,14 @@
 //! Where a script is wrong.
 
 ghost use Rattle.std.specs.Prelude.{IfOk};
-ghost use Rattle.fault_places.specs.Reports.{IsPlaceOf};
+ghost use Rattle.fault_places.specs.Reports.{IsPartOf, IsReportOf};
+ghost use Rattle.fault_places.specs.declared.report.Kind.TheVariants as kinds;
 ghost use Rattle.script.specs.declared.fault.ScriptFault.TheVariants.{NotJson};
 
-use crate::lines::{behind_lines, line_ahead};
-use crate::reader::{Calls, Reader, is_script_with};
-use crate::spelling::{Ending, quoted};
-use crate::wrong::{Place, Said, Wrong, wrong_words};
-use script::ScriptFault;
+use crate::lines::{begin_of, line_at};
+use crate::reader::{Calls, Reader};
+use crate::wrong::{Ending, Part, Told, Wrong, quoted, wrong_words};
+use script::{ScriptFault, read_script};
 use serde_json::{Error, Value};
 use std::alloc::{AllocError, Global};
 
@@ -25,34 +25,23 @@ const THREAD: &str =
 
 const CALLS: &str = "{\"repeat\": 1, \"calls\": [\"door acquire x 1\", \"door give x 1\"]}";
 
+const OBJECT: &str = "a list of two texts: a name and an object";
+
+const KNOWN: &str = "a name that no object before has";
+
 const NAME: &str = "a name of 1 to 32 characters of a to z, 0 to 9 and -, other than interrupt";
 
-/// Which member of an object's list is wrong, in which column, and what is said of it.
-type Told = (Option<u8>, Option<u64>, Said);
-
 /// Returns what is said of a part that has another form.
-fn instead(alloc: Global, expected: &'static str, example: &str) -> Result<Told, AllocError> {
-    let example = Some(String::from_str(alloc, example)?);
-    Ok((
-        None,
-        None,
-        Said {
-            found: None,
-            expected,
-            example,
-        },
-    ))
-}
-
-/// Returns what is said of the words of a part.
-fn told_of_words(
-    alloc: Global,
-    member: Option<u8>,
-    reader: Reader<'_>,
-    words: &str,
-) -> Result<Told, AllocError> {
-    let (column, said) = wrong_words(alloc, &reader, words.as_bytes(), Ending::Part)?;
-    Ok((member, Some(column), said))
+fn instead(alloc: Global, fault: ScriptFault, expected: &'static str, example: &str) -> Told
+    ensures { IfOk result (λ wrong. IsPartOf fault wrong.part) }
+{
+    Ok(Wrong {
+        part: Part::Script(fault, None),
+        column: None,
+        found: None,
+        expected,
+        example: Some(String::from_str(alloc, example)?),
+    })
 }
 
 /// Returns the members of a list that a key of a value has.
@@ -63,136 +52,122 @@ fn list_of<'a>(value: &'a Value, key: &str) -> &'a [Value] {
     }
 }
 
-/// Returns the name and the object of a member of a script.
-fn pair_of(member: Option<&Value>) -> Option<(&str, &str)> {
+/// Returns the object part of a script's object, if that is a list of two texts.
+fn object_of(member: Option<&Value>) -> Option<&str> {
     match member?.as_array()?.as_slice() {
-        [name, part] => Some((name.as_str()?, part.as_str()?)),
+        [name, part] if name.is_string() => part.as_str(),
         _ => None,
     }
 }
 
-/// Returns what is said of an object.
-fn told_of_object(alloc: Global, value: &Value, place: usize) -> Result<Told, AllocError> {
-    let threads = list_of(value, "threads").len() as u64;
-    let objects = list_of(value, "objects");
-    let Some((name, part)) = pair_of(objects.get(place)) else {
-        let example = format!(in alloc;
-            "[\"door\", \"lock fair seats {threads} conditions 0 cap 16\"]"
-        )?;
-        return instead(alloc, "a list of two texts: a name and an object", &example);
-    };
-    let names = Calls { objects, threads };
-    if !is_script_with(alloc, name.as_bytes(), b"")? {
-        return bad_name(alloc, &names, place, name, NAME);
-    }
-    if (0..place).any(|other| names.name(other) == name) {
-        return bad_name(
-            alloc,
-            &names,
-            place,
-            name,
-            "a name that no object before has",
-        );
-    }
-    told_of_words(alloc, Some(1), Reader::Object(threads), part)
-}
-
-/// Returns what is said of a name, with one that none of the first objects has.
-fn bad_name(
-    alloc: Global,
-    names: &Calls<'_>,
-    count: usize,
-    name: &str,
-    expected: &'static str,
-) -> Result<Told, AllocError> {
+/// Returns what is said of a name, with one that none of the objects before has.
+fn wrong_name(alloc: Global, fault: ScriptFault, calls: &Calls<'_>, place: usize) -> Told
+    ensures { IfOk result (λ wrong. IsPartOf fault wrong.part) }
+{
+    let name = calls.name(place);
+    let is_known = (0..place).any(|other| calls.name(other) == name);
     let mut example = String::new(alloc);
-    for number in 0..=count {
+    for number in 0..=place {
         example = format!(in alloc; "object-{number}")?;
-        if !(0..count).any(|place| names.name(place) == example.as_str()) {
+        if !(0..place).any(|other| calls.name(other) == example.as_str()) {
             break;
         }
     }
-    let found = Some(quoted(alloc, name.as_bytes())?);
-    Ok((
-        Some(0),
-        Some(1),
-        Said {
-            found,
-            expected,
-            example: Some(example),
-        },
-    ))
+    Ok(Wrong {
+        part: Part::Script(fault, Some(0)),
+        column: Some(1),
+        found: Some(quoted(alloc, name.as_bytes())?),
+        expected: if is_known { KNOWN } else { NAME },
+        example: Some(example),
+    })
+}
+
+/// Returns what is said of an object.
+fn wrong_object(alloc: Global, fault: ScriptFault, calls: &Calls<'_>, place: usize) -> Told
+    ensures { IfOk result (λ wrong. IsPartOf fault wrong.part) }
+{
+    let threads = calls.threads;
+    let Some(text) = object_of(calls.objects.get(place)) else {
+        let example = format!(in alloc;
+            "[\"door\", \"lock fair seats {threads} conditions 0 cap 16\"]"
+        )?;
+        return instead(alloc, fault, OBJECT, &example);
+    };
+    if !calls.reads(alloc, place.saturating_add(1), None)? {
+        return wrong_name(alloc, fault, calls, place);
+    }
+    let (part, reader) = (Part::Script(fault, Some(1)), Reader::Object(threads));
+    wrong_words(alloc, part, &reader, text.as_bytes(), Ending::Part)
 }
 
 /// Returns what is said of a call.
-fn told_of_call(
-    alloc: Global,
-    value: &Value,
-    thread: usize,
-    call: usize,
-) -> Result<Told, AllocError> {
-    let threads = list_of(value, "threads");
-    let calls = Calls {
-        objects: list_of(value, "objects"),
-        threads: threads.len() as u64,
+fn wrong_call(alloc: Global, fault: ScriptFault, calls: Calls<'_>, call: Option<&Value>) -> Told
+    ensures { IfOk result (λ wrong. IsPartOf fault wrong.part) }
+{
+    let Some(text) = call.and_then(Value::as_str) else {
+        let example = format!(in alloc; "\"{} acquire x 1\"", calls.name(0))?;
+        return instead(alloc, fault, "a text", &example);
     };
-    let call = threads
-        .get(thread)
-        .and_then(|it| list_of(it, "calls").get(call));
-    match call.and_then(Value::as_str) {
-        Some(text) => told_of_words(alloc, None, Reader::Call(calls), text),
-        None => {
-            let example = format!(in alloc; "\"{} acquire x 1\"", calls.name(0))?;
-            instead(alloc, "a text", &example)
-        }
-    }
+    let (part, reader) = (Part::Script(fault, None), Reader::Call(calls));
+    wrong_words(alloc, part, &reader, text.as_bytes(), Ending::Part)
 }
 
 /// Returns in which line and column a text stops to be JSON, and what stands there.
-fn no_json(alloc: Global, text: &[u8], error: &Error) -> Result<Wrong, AllocError>
-    ensures { IfOk result (λ wrong. IsPlaceOf NotJson wrong.place) }
+fn not_json(alloc: Global, text: &[u8], error: &Error) -> Told
+    ensures { IfOk result (λ wrong. IsPartOf NotJson wrong.part) }
 {
-    let (line, column) = (error.line().max(1), error.column().max(1));
-    let begun = behind_lines(text, line as u64 - 1).unwrap_or(b"");
+    let (line, column) = (error.line().max(1) as u64, error.column().max(1));
+    let begun = &text[begin_of(text, line)..];
     let rest = &begun[(column - 1).min(begun.len())..];
     let found = if error.is_eof() || rest.is_empty() {
         String::from_str(alloc, "the end of the text")?
     } else {
-        quoted(alloc, line_ahead(rest).0)?
+        quoted(alloc, line_at(rest, 1).0)?
     };
-    let (_, _, said) = instead(alloc, "a script, which is a JSON text", SCRIPT)?;
     Ok(Wrong {
-        place: Place::Line(line as u64, column as u64),
-        said: Said {
-            found: Some(found),
-            ..said
-        },
+        part: Part::Line(line),
+        column: Some(column as u64),
+        found: Some(found),
+        expected: "a script, which is a JSON text",
+        example: Some(String::from_str(alloc, SCRIPT)?),
     })
 }
 
 /// Returns what is wrong with a script that has this fault.
-pub(crate) fn wrong_in_script(
-    alloc: Global,
-    text: &[u8],
-    fault: ScriptFault,
-) -> Result<Wrong, AllocError>
-    ensures { IfOk result (λ wrong. IsPlaceOf fault wrong.place) }
+fn wrong_with(alloc: Global, text: &[u8], fault: ScriptFault) -> Told
+    ensures { IfOk result (λ wrong. IsPartOf fault wrong.part) }
 {
     let value = match Value::from_slice(alloc, text) {
         Ok(value) => value,
         Err(error) if error.is_memory() => return Err(AllocError),
-        Err(error) if fault == ScriptFault::NotJson => return no_json(alloc, text, &error),
+        Err(error) if fault == ScriptFault::NotJson => return not_json(alloc, text, &error),
         Err(_) => Value::Null,
     };
-    let (member, column, said) = match fault {
-        ScriptFault::OutOfMemory => return Err(AllocError),
-        ScriptFault::BadObject(object) => told_of_object(alloc, &value, object)?,
-        ScriptFault::BadThread(_) => instead(alloc, THREAD, CALLS)?,
-        ScriptFault::BadCall(thread, call) => told_of_call(alloc, &value, thread, call)?,
-        _ => instead(alloc, TOP, SCRIPT)?,
+    let threads = list_of(&value, "threads");
+    let calls = Calls {
+        objects: list_of(&value, "objects"),
+        threads: threads.len() as u64,
     };
-    Ok(Wrong {
-        place: Place::Part(fault, member, column),
-        said,
-    })
+    match fault {
+        ScriptFault::BadObject(object) => wrong_object(alloc, fault, &calls, object),
+        ScriptFault::BadThread(_) => instead(alloc, fault, THREAD, CALLS),
+        ScriptFault::BadCall(thread, call) => {
+            let listed = threads
+                .get(thread)
+                .and_then(|it| list_of(it, "calls").get(call));
+            wrong_call(alloc, fault, calls, listed)
+        }
+        _ => instead(alloc, fault, TOP, SCRIPT),
+    }
+}
+
+/// Returns what is wrong with a script, or None if it is right.
+pub(crate) fn wrong_in_script(alloc: Global, text: &[u8]) -> Result<Option<Wrong>, AllocError>
+    ensures { IfOk result (IsReportOf kinds.Script text.now) }
+{
+    match read_script(alloc, text) {
+        Ok(_) => Ok(None),
+        Err(ScriptFault::OutOfMemory) => Err(AllocError),
+        Err(fault) => Ok(Some(wrong_with(alloc, text, fault)?)),
+    }
 }

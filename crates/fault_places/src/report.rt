@@ -2,15 +2,11 @@
 
 ghost use Rattle.std.specs.Prelude.{◌≡◌, IfOk};
 ghost use Rattle.fault_places.specs.Reports.{IsReport, IsReportOf, begins_script, is_blank, kind_of};
-ghost use Rattle.fault_places.specs.declared.report.Kind.TheVariants as kinds;
 
-use crate::in_history::wrong_in_history;
 use crate::in_script::wrong_in_script;
-use crate::in_steps::wrong_in_steps;
-use crate::lines::line_at;
+use crate::in_text::{wrong_in_history, wrong_in_steps};
 use crate::reader::Reader;
 use crate::wrong::{Wrong, wrong_line};
-use script::{ScriptFault, read_script};
 use std::alloc::{AllocError, Global};
 
 /// Which of the texts one is, by its beginning.
@@ -85,17 +81,6 @@ fn kind_of(text: &[u8]) -> Kind
     }
 }
 
-/// Returns what is said of a script.
-fn report_of_script(alloc: Global, text: &[u8]) -> Result<Option<Wrong>, AllocError>
-    ensures { IfOk result (IsReportOf kinds.Script text.now) }
-{
-    match read_script(alloc, text) {
-        Ok(_) => Ok(None),
-        Err(ScriptFault::OutOfMemory) => Err(AllocError),
-        Err(fault) => Ok(Some(wrong_in_script(alloc, text, fault)?)),
-    }
-}
-
 /// Returns what is wrong with a text of this kind, or None if it is right.
 fn wrong_in(alloc: Global, kind: Kind, text: &[u8]) -> Result<Option<Wrong>, AllocError>
     ensures { IfOk result (IsReportOf kind text.now) }
@@ -103,11 +88,8 @@ fn wrong_in(alloc: Global, kind: Kind, text: &[u8]) -> Result<Option<Wrong>, All
     match kind {
         Kind::Steps => wrong_in_steps(alloc, text),
         Kind::History => wrong_in_history(alloc, text),
-        Kind::Script => report_of_script(alloc, text),
-        Kind::Other => {
-            let wrong = wrong_line(alloc, 1, line_at(text, 1), Some(&Reader::AnyHead))?;
-            Ok(Some(wrong))
-        }
+        Kind::Script => wrong_in_script(alloc, text),
+        Kind::Other => Ok(Some(wrong_line(alloc, text, 1, &Reader::Head(Kind::Other))?)),
     }
 }
 

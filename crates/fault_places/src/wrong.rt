@@ -1,27 +1,34 @@
 //! What is said of a wrong text.
 
-ghost use Rattle.std.specs.Prelude.{◌≤◌, ◌+◌, IfOk, length};
-ghost use Rattle.fault_places.specs.Reports.{IsAt};
+ghost use Rattle.std.specs.Prelude.{◌≡◌, IfOk, length};
+ghost use Rattle.fault_places.specs.Reports.{IsAt, IsWithin};
 
-use crate::examples::expected;
-use crate::reach::reach_of;
+use crate::examples::{examples_of, expected};
+use crate::lines::{end_of, line_at};
 use crate::reader::Reader;
-use crate::spelling::{Ending, column_of, found, quoted};
+use history::text::first_line;
+use history::words::Words;
 use script::ScriptFault;
 use std::alloc::{AllocError, Global};
 
-/// Where a text is wrong.
+/// How many bytes of the text are shown.
+const SHOWN: usize = 60;
+
+/// Which part of a text is wrong.
 #[derive(Clone, Copy, Debug, PartialEq, Eq)]
-pub enum Place {
-    /// A line and a column, both from 1.
-    Line(u64, u64),
-    /// The part of a script that has this fault; in it the member of an object's list; and a column.
-    Part(ScriptFault, Option<u8>, Option<u64>),
+pub enum Part {
+    /// The line of this number, from 1.
+    Line(u64),
+    /// The part of a script that has this fault, and in it the member of an object's list.
+    Script(ScriptFault, Option<u8>),
 }
 
-/// What is said of a place.
+/// What is said of a wrong text.
 #[derive(Debug, Drop)]
-pub struct Said {
+pub struct Wrong {
+    pub part: Part,
+    /// From 1.
+    pub column: Option<u64>,
     /// What stands there.
     pub found: Option<String>,
     pub expected: &'static str,
@@ -29,39 +36,35 @@ pub struct Said {
     pub example: Option<String>,
 }
 
-/// What is said of a wrong text.
-#[derive(Debug, Drop)]
-pub struct Wrong {
-    pub place: Place,
-    pub said: Said,
+/// What is said of a wrong text, if no allocation fails.
+pub(crate) type Told = Result<Wrong, AllocError>;
+
+/// What follows the last word of a line: a break, the end of the text, or the end of a script's part.
+#[derive(Clone, Copy)]
+pub(crate) enum Ending {
+    Break,
+    Text,
+    Part,
 }
 
-impl Place {
-    /// Returns the part of a script that is wrong.
-    pub fn part(&self, alloc: Global) -> Result<Option<String>, AllocError> {
-        let Place::Part(fault, member, _) = self else {
-            return Ok(None);
+impl Part {
+    /// Returns the name of the part.
+    pub fn name(&self, alloc: Global) -> Result<String, AllocError> {
+        let (fault, member) = match self {
+            Part::Line(line) => return format!(in alloc; "line {line}"),
+            Part::Script(fault, member) => (fault, member),
         };
-        let part = match fault {
+        let name = match fault {
             ScriptFault::BadObject(object) => format!(in alloc; "objects[{object}]")?,
             ScriptFault::BadThread(thread) => format!(in alloc; "threads[{thread}]")?,
-            ScriptFault::BadCall(thread, call) => {
-                format!(in alloc; "threads[{thread}].calls[{call}]")?
-            }
+            ScriptFault::BadCall(thread, call) => format!(in alloc;
+                "threads[{thread}].calls[{call}]"
+            )?,
             _ => String::from_str(alloc, "the top")?,
         };
         match member {
-            Some(member) => Ok(Some(format!(in alloc; "{part}[{member}]")?)),
-            None => Ok(Some(part)),
-        }
-    }
-
-    fn text(&self, alloc: Global) -> Result<String, AllocError> {
-        let part = self.part(alloc)?.unwrap_or(String::new(alloc));
-        match self {
-            Place::Line(line, column) => format!(in alloc; "line {line} column {column}"),
-            Place::Part(_, _, Some(column)) => format!(in alloc; "{part} column {column}"),
-            Place::Part(_, _, None) => Ok(part),
+            Some(member) => format!(in alloc; "{name}[{member}]"),
+            None => Ok(name),
         }
     }
 }
@@ -69,88 +72,132 @@ impl Place {
 impl Wrong {
     /// Returns the lines that say it.
     pub fn lines(&self, alloc: Global) -> Result<String, AllocError> {
-        let mut told = format!(in alloc; "wrong at {}\n", self.place.text(alloc)?)?;
-        if let Some(found) = &self.said.found {
-            told.push_str(&format!(in alloc; "found {found}\n")?)?;
+        let mut told = format!(in alloc; "wrong at {}", self.part.name(alloc)?)?;
+        if let Some(column) = self.column {
+            told.push_str(&format!(in alloc; " column {column}")?)?;
         }
-        told.push_str(&format!(in alloc; "expected {}\n", self.said.expected)?)?;
-        if let Some(example) = &self.said.example {
+        if let Some(found) = &self.found {
+            told.push_str(&format!(in alloc; "\nfound {found}")?)?;
+        }
+        told.push_str(&format!(in alloc; "\nexpected {}\n", self.expected)?)?;
+        if let Some(example) = &self.example {
             told.push_str(&format!(in alloc; "example {example}\n")?)?;
         }
         Ok(told)
     }
 }
 
-/// Returns the column in which words are wrong that this reader refuses, and what is said of them.
+/// Returns the first [`SHOWN`] bytes between quotes. A byte that isn't plain is written as `\x` and two
+/// digits.
+pub(crate) fn quoted(alloc: Global, bytes: &[u8]) -> Result<String, AllocError> {
+    let mut out = String::from_str(alloc, "\"")?;
+    for byte in bytes.iter().take(SHOWN) {
+        if (b' '..127).contains(byte) && *byte != b'"' && *byte != b'\\' {
+            out.push(char::from(*byte))?;
+        } else {
+            out.push_str(&format!(in alloc; "\\x{byte:02x}")?)?;
+        }
+    }
+    out.push_str(if SHOWN < bytes.len() { "..\"" } else { "\"" })?;
+    Ok(out)
+}
+
+/// Returns what stands in a line after this number of words.
+fn found(alloc: Global, line: &[u8], words: usize, ending: Ending) -> Result<String, AllocError> {
+    let mut rest = Words::of(line);
+    for _ in 0..words {
+        let _ = rest.next();
+    }
+    let word = rest.next();
+    let is_cut = matches!(ending, Ending::Text) && rest.next().is_none();
+    let end = match ending {
+        Ending::Break => "the end of the line",
+        Ending::Text | Ending::Part => "the end of the text",
+    };
+    match word {
+        Some(word) if !is_cut => quoted(alloc, word),
+        Some(word) if !word.is_empty() => format!(in alloc; "{} and {end}", quoted(alloc, word)?),
+        _ => String::from_str(alloc, end),
+    }
+}
+
+/// How many first words of a line begin a right line, and the right line that an example's end makes of them.
+type Reach = Option<(usize, Vec<u8>)>;
+
+/// Returns how far the words of a line are right, or None if no example is right at its place.
+fn reach_of(alloc: Global, reader: &Reader<'_>, line: &[u8]) -> Result<Reach, AllocError> {
+    let examples = examples_of(alloc, reader, line)?;
+    let mut best: Reach = None;
+    let mut left = examples.as_bytes();
+    for _ in 0..examples.len() {
+        let Some((example, after)) = first_line(left) else {
+            break;
+        };
+        left = after;
+        for words in 0..example.len().saturating_add(2) {
+            let (Some(end), Some(rest)) = (end_of(line, words), end_of(example, words)) else {
+                break;
+            };
+            let mut text = Vec::from_slice(alloc, &line[..end])?;
+            text.extend_from_slice(&example[rest..])?;
+            let is_further = best.as_ref().is_none_or(|best| best.0 < words);
+            if is_further && reader.reads(alloc, &text)? {
+                best = Some((words, text));
+            }
+        }
+    }
+    Ok(best)
+}
+
+/// Returns what is wrong with words that this reader refuses.
 pub(crate) fn wrong_words(
     alloc: Global,
+    part: Part,
     reader: &Reader<'_>,
     line: &[u8],
     ending: Ending,
-) -> Result<(u64, Said), AllocError>
-    ensures { IfOk result (λ told. (1 ≤ told.0) × (told.0 ≤ length line.now + 1)) }
+) -> Told
+    ensures { IfOk result (λ wrong. (wrong.part ≡ part) × IsWithin (length line.now) wrong) }
 {
-    if matches!(ending, Ending::Text) && reader.reads(alloc, line)? {
-        let found = Some(String::from_str(alloc, "the end of the text")?);
-        let example = Some(String::from_utf8_lossy(alloc, line)?);
-        return Ok((
-            line.len() as u64 + 1,
-            Said {
-                found,
-                expected: "a line break",
-                example,
-            },
-        ));
-    }
-    let Some(reach) = reach_of(alloc, reader, line)? else {
-        let found = Some(quoted(alloc, line)?);
-        return Ok((
-            1,
-            Said {
-                found,
-                expected: expected(reader),
-                example: None,
-            },
-        ));
+    let Some((words, example)) = reach_of(alloc, reader, line)? else {
+        return Ok(Wrong {
+            part,
+            column: Some(1),
+            found: Some(quoted(alloc, line)?),
+            expected: expected(reader),
+            example: None,
+        });
     };
-    let said = Said {
-        found: Some(found(alloc, line, reach.words, ending)?),
-        expected: if reach.is_line {
-            "the end of the line"
-        } else {
-            expected(reader)
-        },
-        example: Some(String::from_utf8_lossy(alloc, &reach.example)?),
-    };
-    Ok((column_of(line, reach.words), said))
-}
-
-/// Returns what is wrong with the line of this number. No line is right after the end line.
-pub(crate) fn wrong_line(
-    alloc: Global,
-    number: u64,
-    line: (&[u8], bool),
-    reader: Option<&Reader<'_>>,
-) -> Result<Wrong, AllocError>
-    ensures { IfOk result (λ wrong. IsAt number (length line.entry.0.now) wrong.place) }
-{
-    let ending = if line.1 { Ending::Break } else { Ending::Text };
-    let (column, said) = match reader {
-        Some(reader) => wrong_words(alloc, reader, line.0, ending)?,
-        None => {
-            let found = Some(quoted(alloc, line.0)?);
-            (
-                1,
-                Said {
-                    found,
-                    expected: "the end of the text",
-                    example: None,
-                },
-            )
-        }
+    let end = end_of(line, words).unwrap_or(0);
+    let space = usize::from(words > 0);
+    let is_line = end_of(&example, words) == Some(example.len());
+    let lacked = if is_line {
+        "the end of the line"
+    } else {
+        expected(reader)
     };
     Ok(Wrong {
-        place: Place::Line(number, column),
-        said,
+        part,
+        column: Some(end.saturating_add(space).min(line.len()) as u64 + 1),
+        found: Some(found(alloc, line, words, ending)?),
+        expected: if line == example.as_slice() {
+            "a line break"
+        } else {
+            lacked
+        },
+        example: Some(String::from_utf8_lossy(alloc, &example)?),
     })
+}
+
+/// Returns what is wrong with the line of this number.
+pub(crate) fn wrong_line(alloc: Global, text: &[u8], number: u64, reader: &Reader<'_>) -> Told
+    ensures { IfOk result (IsAt number (length text.now)) }
+{
+    let (line, is_ended) = line_at(text, number);
+    let ending = if is_ended {
+        Ending::Break
+    } else {
+        Ending::Text
+    };
+    wrong_words(alloc, Part::Line(number), reader, line, ending)
 }

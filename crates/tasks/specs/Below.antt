@@ -4,7 +4,6 @@ pub use Rattle.audit.specs.declared.verdict.Verdict.{Verdict}
 pub use Rattle.audit.specs.declared.verdict.Verdict.TheVariants.{Legal, NotLegal}
 pub use Rattle.driver.specs.ReplayStream.{StepsReadOut, WritesReplay}
 pub use Rattle.driver.specs.Telling.{HistoryReadOut, WritesTold}
-pub use Rattle.driver.specs.declared.telling.Telling.{Telling}
 pub use Rattle.picture.specs.Names.{Given}
 pub use Rattle.run_text.specs.RunText.{parts_text, run_text, last_lines, report_text}
 pub use Rattle.script.specs.declared.fault.ScriptFault.{ScriptFault}

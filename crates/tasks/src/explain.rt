@@ -12,7 +12,7 @@ use crate::text_source::TextSource;
 use driver::notation::Notation;
 use explaining::json::{WrongText, right_json, unread_json, wrong_json};
 use fault_places::report::{Kind, Report, report_of};
-use fault_places::wrong::{Place, Wrong};
+use fault_places::wrong::{Part, Wrong};
 use std::alloc::{AllocError, Global};
 use streams::rest::read_all;
 use streams::sink::Sink;
@@ -54,19 +54,17 @@ fn wrong_told(alloc: Global, wrong: &Wrong, notation: Notation) -> Result<Vec<u8
 
 /// Returns the object of a text that is wrong.
 fn object_of_wrong(alloc: Global, wrong: &Wrong) -> Result<Vec<u8>, AllocError> {
-    let (line, column) = match wrong.place {
-        Place::Line(line, column) => (Some(line), Some(column)),
-        Place::Part(_, _, column) => (None, column),
+    let (line, part) = match wrong.part {
+        Part::Line(line) => (Some(line), None),
+        Part::Script(_, _) => (None, Some(wrong.part.name(alloc)?)),
     };
-    let part = wrong.place.part(alloc)?;
-    let said = &wrong.said;
     let told = WrongText {
         line,
-        column,
+        column: wrong.column,
         part: part.as_ref().map(|it| it.as_str()),
-        found: said.found.as_ref().map(|it| it.as_str()),
-        expected: &[said.expected],
-        example: said.example.as_ref().map(|it| it.as_str()),
+        found: wrong.found.as_ref().map(|it| it.as_str()),
+        expected: &[wrong.expected],
+        example: wrong.example.as_ref().map(|it| it.as_str()),
     };
     wrong_json(alloc, &told)
 }

@@ -1,5 +1,5 @@
 use Rattle.std.proofs.Common.{◌≤◌, length}
-use Rattle.fault_places.proofs.lines.behind_lines.Given as goal
+use Rattle.fault_places.proofs.lines.begin_of.Given as goal
 
 -- what is left is a part of the text
 abbrev pub invariant-loop : goal.invariant-loop
