@@ -4,6 +4,7 @@
 //!
 //! - `buffer`: a queue with two places, which a lock guards. One thread puts, another takes.
 //! - `read_mostly_table`: a table that a read-write lock guards, and writers that downgrade to readers.
+//! - `two_readers`: two threads read at the same time, and print while both hold.
 //! - `bank`: two accounts, between which two threads pay. The lock keeps the invariant that their sum is 1000.
 //! - `connection_pool`: clients that share connections of a pool.
 //!
@@ -35,6 +36,7 @@ mod history_in_parts;
 mod latch_workers;
 mod read_mostly_table;
 mod small_calls;
+mod two_readers;
 mod working;
 
 use history::fault::Fault;
@@ -73,6 +75,7 @@ fn run_all<R: Print + Eprint + AllocGlobal + Threads + Wait + Clock + Sync>(
 ) -> io::Result<()> {
     buffer::run(rt)?;
     read_mostly_table::run(rt)?;
+    two_readers::run(rt)?;
     bank::run(rt)?;
     first_lock::run(rt)?;
     bounded_buffer::run(rt)?;
@@ -92,6 +95,7 @@ fn run<R: Print + Eprint + AllocGlobal + Threads + Wait + Clock + Sync>(
         None => run_all(rt, words),
         Some("buffer") => buffer::run(rt),
         Some("read_mostly_table") => read_mostly_table::run(rt),
+        Some("two_readers") => two_readers::run(rt),
         Some("bank") => bank::run(rt),
         Some("first_lock") => first_lock::run(rt),
         Some("bounded_buffer") => bounded_buffer::run(rt),

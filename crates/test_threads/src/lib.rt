@@ -16,6 +16,8 @@ mod plays;
 #[cfg(test)]
 mod predicates;
 #[cfg(test)]
+mod readers;
+#[cfg(test)]
 mod storms;
 #[cfg(test)]
 mod tales;
