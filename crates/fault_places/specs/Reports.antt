@@ -1,5 +1,5 @@
 -- What is said of a text.
-use Rattle.std.specs.Prelude.{◌≡◌, ◌≢◌, ◌≤◌, ◌+◌, ◌==◌, ◌||◌, Bool, false, if◌then◌else◌, ℕ, List, [], ◌∷◌, codes, Err, Ok, IfSome, length, MatchOption, None, Option, Some}
+use Rattle.std.specs.Prelude.{◌≡◌, ◌≢◌, ◌≤◌, ◌+◌, ◌==◌, ◌||◌, Bool, false, if◌then◌else◌, ℕ, List, [], ◌∷◌, codes, Err, Ok, length, MatchOption, None, Option, Some, unwrap_or}
 use Rattle.std.specs.List.{slice_split, starts_with}
 use Rattle.frame.specs.declared.acts.Act.{Act}
 use Rattle.history.specs.declared.entry.Entry.{Entry}
@@ -21,6 +21,7 @@ use Rattle.fault_places.specs.declared.report.Report.{Report}
 use Rattle.fault_places.specs.declared.report.Report.TheVariants.{History, Right, Wrong}
 use Rattle.fault_places.specs.declared.wrong.Part.{Part}
 use Rattle.fault_places.specs.declared.wrong.Part.TheVariants.{Line, Script}
+use Rattle.fault_places.specs.declared.wrong.Said.{Said}
 use Rattle.fault_places.specs.declared.wrong.Wrong.{Wrong as WrongText}
 
 -- ---- which text it is
@@ -54,12 +55,12 @@ IsLineOf text (BadLine bad) number = number ≡ bad
 IsLineOf text CutShort number = number ≡ length (slice_split (λ b. b == 10) text)
 
 -- a column that is told is within so many bytes and their end
-abbrev pub IsWithin : ℕ → WrongText → Type 0
-IsWithin bytes wrong = IfSome wrong.column (λ column. (1 ≤ column) × (column ≤ bytes + 1))
+abbrev pub IsWithin : ℕ → Said → Type 0
+IsWithin bytes said = (1 ≤ unwrap_or said.column 1) × (unwrap_or said.column 1 ≤ bytes + 1)
 
 -- the line of this number is told, in a text of so many bytes
 abbrev pub IsAt : ℕ → ℕ → WrongText → Type 0
-IsAt number bytes wrong = (wrong.part ≡ Line number) × IsWithin bytes wrong
+IsAt number bytes wrong = (wrong.part ≡ Line number) × IsWithin bytes wrong.said
 
 -- the line that has the first fault of the text is told
 abbrev pub IsWrongIn : {H I : Type 0} → Form H I → List ℕ → WrongText → Type 0

@@ -7,7 +7,7 @@ ghost use Rattle.script.specs.declared.fault.ScriptFault.TheVariants.{NotJson};
 
 use crate::lines::{begin_of, line_at};
 use crate::reader::{Calls, Reader};
-use crate::wrong::{Ending, Part, Told, Wrong, quoted, wrong_words};
+use crate::wrong::{Ending, Part, Said, Told, Wrong, quoted, wrong_words};
 use script::{ScriptFault, read_script};
 use serde_json::{Error, Value};
 use std::alloc::{AllocError, Global};
@@ -35,13 +35,14 @@ const NAME: &str = "a name of 1 to 32 characters of a to z, 0 to 9 and -, other 
 fn instead(alloc: Global, fault: ScriptFault, expected: &'static str, example: &str) -> Told
     ensures { IfOk result (λ wrong. IsPartOf fault wrong.part) }
 {
-    Ok(Wrong {
-        part: Part::Script(fault, None),
+    let said = Said {
         column: None,
         found: None,
         expected,
         example: Some(String::from_str(alloc, example)?),
-    })
+    };
+    let part = Part::Script(fault, None);
+    Ok(Wrong { part, said })
 }
 
 /// Returns the members of a list that a key of a value has.
@@ -73,13 +74,14 @@ fn wrong_name(alloc: Global, fault: ScriptFault, calls: &Calls<'_>, place: usize
             break;
         }
     }
-    Ok(Wrong {
-        part: Part::Script(fault, Some(0)),
+    let said = Said {
         column: Some(1),
         found: Some(quoted(alloc, name.as_bytes())?),
         expected: if is_known { KNOWN } else { NAME },
         example: Some(example),
-    })
+    };
+    let part = Part::Script(fault, Some(0));
+    Ok(Wrong { part, said })
 }
 
 /// Returns what is said of an object.
@@ -96,8 +98,14 @@ fn wrong_object(alloc: Global, fault: ScriptFault, calls: &Calls<'_>, place: usi
     if !calls.reads(alloc, place.saturating_add(1), None)? {
         return wrong_name(alloc, fault, calls, place);
     }
-    let (part, reader) = (Part::Script(fault, Some(1)), Reader::Object(threads));
-    wrong_words(alloc, part, &reader, text.as_bytes(), Ending::Part)
+    let said = wrong_words(
+        alloc,
+        &Reader::Object(threads),
+        text.as_bytes(),
+        Ending::Part,
+    )?;
+    let part = Part::Script(fault, Some(1));
+    Ok(Wrong { part, said })
 }
 
 /// Returns what is said of a call.
@@ -108,8 +116,9 @@ fn wrong_call(alloc: Global, fault: ScriptFault, calls: Calls<'_>, call: Option<
         let example = format!(in alloc; "\"{} acquire x 1\"", calls.name(0))?;
         return instead(alloc, fault, "a text", &example);
     };
-    let (part, reader) = (Part::Script(fault, None), Reader::Call(calls));
-    wrong_words(alloc, part, &reader, text.as_bytes(), Ending::Part)
+    let said = wrong_words(alloc, &Reader::Call(calls), text.as_bytes(), Ending::Part)?;
+    let part = Part::Script(fault, None);
+    Ok(Wrong { part, said })
 }
 
 /// Returns in which line and column a text stops to be JSON, and what stands there.
@@ -124,13 +133,14 @@ fn not_json(alloc: Global, text: &[u8], error: &Error) -> Told
     } else {
         quoted(alloc, line_at(rest, 1).0)?
     };
-    Ok(Wrong {
-        part: Part::Line(line),
+    let said = Said {
         column: Some(column as u64),
         found: Some(found),
         expected: "a script, which is a JSON text",
         example: Some(String::from_str(alloc, SCRIPT)?),
-    })
+    };
+    let part = Part::Line(line);
+    Ok(Wrong { part, said })
 }
 
 /// Returns what is wrong with a script that has this fault.

@@ -1,6 +1,6 @@
 //! What is said of a wrong text.
 
-ghost use Rattle.std.specs.Prelude.{◌≡◌, IfOk, length};
+ghost use Rattle.std.specs.Prelude.{IfOk, length};
 ghost use Rattle.fault_places.specs.Reports.{IsAt, IsWithin};
 
 use crate::examples::{examples_of, expected};
@@ -23,10 +23,9 @@ pub enum Part {
     Script(ScriptFault, Option<u8>),
 }
 
-/// What is said of a wrong text.
+/// What is said of a part that is wrong.
 #[derive(Debug, Drop)]
-pub struct Wrong {
-    pub part: Part,
+pub struct Said {
     /// From 1.
     pub column: Option<u64>,
     /// What stands there.
@@ -34,6 +33,13 @@ pub struct Wrong {
     pub expected: &'static str,
     /// A right line.
     pub example: Option<String>,
+}
+
+/// What is said of a wrong text.
+#[derive(Debug, Drop)]
+pub struct Wrong {
+    pub part: Part,
+    pub said: Said,
 }
 
 /// What is said of a wrong text, if no allocation fails.
@@ -73,14 +79,14 @@ impl Wrong {
     /// Returns the lines that say it.
     pub fn lines(&self, alloc: Global) -> Result<String, AllocError> {
         let mut told = format!(in alloc; "wrong at {}", self.part.name(alloc)?)?;
-        if let Some(column) = self.column {
+        if let Some(column) = self.said.column {
             told.push_str(&format!(in alloc; " column {column}")?)?;
         }
-        if let Some(found) = &self.found {
+        if let Some(found) = &self.said.found {
             told.push_str(&format!(in alloc; "\nfound {found}")?)?;
         }
-        told.push_str(&format!(in alloc; "\nexpected {}\n", self.expected)?)?;
-        if let Some(example) = &self.example {
+        told.push_str(&format!(in alloc; "\nexpected {}\n", self.said.expected)?)?;
+        if let Some(example) = &self.said.example {
             told.push_str(&format!(in alloc; "example {example}\n")?)?;
         }
         Ok(told)
@@ -149,19 +155,17 @@ fn reach_of(alloc: Global, reader: &Reader<'_>, line: &[u8]) -> Result<Reach, Al
     Ok(best)
 }
 
-/// Returns what is wrong with words that this reader refuses.
+/// Returns what is said of words that this reader refuses.
 pub(crate) fn wrong_words(
     alloc: Global,
-    part: Part,
     reader: &Reader<'_>,
     line: &[u8],
     ending: Ending,
-) -> Told
-    ensures { IfOk result (λ wrong. (wrong.part ≡ part) × IsWithin (length line.now) wrong) }
+) -> Result<Said, AllocError>
+    ensures { IfOk result (IsWithin (length line.now)) }
 {
     let Some((words, example)) = reach_of(alloc, reader, line)? else {
-        return Ok(Wrong {
-            part,
+        return Ok(Said {
             column: Some(1),
             found: Some(quoted(alloc, line)?),
             expected: expected(reader),
@@ -171,19 +175,13 @@ pub(crate) fn wrong_words(
     let end = end_of(line, words).unwrap_or(0);
     let space = usize::from(words > 0);
     let is_line = end_of(&example, words) == Some(example.len());
-    let lacked = if is_line {
-        "the end of the line"
-    } else {
-        expected(reader)
-    };
-    Ok(Wrong {
-        part,
+    Ok(Said {
         column: Some(end.saturating_add(space).min(line.len()) as u64 + 1),
         found: Some(found(alloc, line, words, ending)?),
-        expected: if line == example.as_slice() {
-            "a line break"
-        } else {
-            lacked
+        expected: match is_line {
+            true if line == example.as_slice() => "a line break",
+            true => "the end of the line",
+            false => expected(reader),
         },
         example: Some(String::from_utf8_lossy(alloc, &example)?),
     })
@@ -199,5 +197,7 @@ pub(crate) fn wrong_line(alloc: Global, text: &[u8], number: u64, reader: &Reade
     } else {
         Ending::Text
     };
-    wrong_words(alloc, Part::Line(number), reader, line, ending)
+    let said = wrong_words(alloc, reader, line, ending)?;
+    let part = Part::Line(number);
+    Ok(Wrong { part, said })
 }

@@ -60,11 +60,11 @@ fn object_of_wrong(alloc: Global, wrong: &Wrong) -> Result<Vec<u8>, AllocError> 
     };
     let told = WrongText {
         line,
-        column: wrong.column,
+        column: wrong.said.column,
         part: part.as_ref().map(|it| it.as_str()),
-        found: wrong.found.as_ref().map(|it| it.as_str()),
-        expected: &[wrong.expected],
-        example: wrong.example.as_ref().map(|it| it.as_str()),
+        found: wrong.said.found.as_ref().map(|it| it.as_str()),
+        expected: &[wrong.said.expected],
+        example: wrong.said.example.as_ref().map(|it| it.as_str()),
     };
     wrong_json(alloc, &told)
 }
