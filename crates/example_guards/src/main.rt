@@ -4,6 +4,7 @@
 //!
 //! - `buffer`: a queue with two places, which a lock guards. One thread puts, another takes.
 //! - `read_mostly_table`: a table that a read-write lock guards, and writers that downgrade to readers.
+//! - `two_readers`: two threads read at the same time, and print while both hold.
 //! - `counter`: a number that four threads count up. What they counted and what they left add up to what was
 //!   asked for. `counter 10000000` takes no more memory than `counter 20000`.
 //! - `bank`: two accounts, between which two threads pay. The lock keeps the invariant that their sum is 1000.
@@ -39,6 +40,7 @@ mod history_in_parts;
 mod latch_workers;
 mod read_mostly_table;
 mod small_calls;
+mod two_readers;
 mod working;
 
 use history::fault::Fault;
@@ -77,6 +79,7 @@ fn run_all<R: Print + Eprint + AllocGlobal + Threads + Wait + Clock + Sync>(
 ) -> io::Result<()> {
     buffer::run(rt)?;
     read_mostly_table::run(rt)?;
+    two_readers::run(rt)?;
     counter::run(rt, words)?;
     bank::run(rt)?;
     first_lock::run(rt)?;
@@ -97,6 +100,7 @@ fn run<R: Print + Eprint + AllocGlobal + Threads + Wait + Clock + Sync>(
         None => run_all(rt, words),
         Some("buffer") => buffer::run(rt),
         Some("read_mostly_table") => read_mostly_table::run(rt),
+        Some("two_readers") => two_readers::run(rt),
         Some("counter") => counter::run(rt, words),
         Some("bank") => bank::run(rt),
         Some("first_lock") => first_lock::run(rt),

@@ -11,9 +11,8 @@ mod versioned;
 use crate::Failure;
 use crate::read_mostly_table::versioned::{Table, Tally, Worker, work};
 use frame::Balance;
-use guarded::{RwMutex, WhenFull};
+use guarded::{Options, RwMutex};
 use history::fault::Fault;
-use history::header::Policy;
 use monitor::Pass;
 use permit::ThreadParking;
 use std::alloc::{AllocError, Global};
@@ -103,11 +102,7 @@ fn open(alloc: Global) -> Result<(RwMutex<Table>, Vec<Pass>), Fault>
     ensures free { IfOk result (λ opened. All (λ p. holds p ≡ 0) opened.1.items) }
 {
     let table = Table::new(alloc)?;
-    let policy = Policy::NonFair;
-    match RwMutex::open(alloc, table, policy, WhenFull::Trim, THREADS, 0, CAP) {
-        Ok(opened) => Ok(opened),
-        Err((_, fault)) => Err(fault),
-    }
+    RwMutex::open_for(alloc, table, THREADS, Options::new().conditions(0).cap(CAP))
 }
 
 /// Closes the lock.

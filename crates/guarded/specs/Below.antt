@@ -27,7 +27,7 @@ pub use Rattle.monitor.specs.Calling.{CanCall, Called}
 pub use Rattle.monitor.specs.Lawful.{start_at, blank}
 pub use Rattle.monitor.specs.Load.{holds_of, free_of, opened_counts, given_by, LetsGo, IsTurn, IsFree, Moves}
 pub use Rattle.monitor.specs.Observing.{IsLook}
-pub use Rattle.monitor.specs.Shown.{Shown, IsSound}
+pub use Rattle.monitor.specs.Shown.{Shown, IsSound, opening_passes}
 pub use Rattle.monitor.specs.Stepping.{IsSame, IsEntered}
 pub use Rattle.monitor_fronts.specs.declared.room.WhenFull.{WhenFull}
 pub use Rattle.monitor_fronts.specs.FrontCalls.{AreLeft}

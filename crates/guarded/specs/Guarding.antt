@@ -3,8 +3,9 @@ use Rattle.std.specs.Prelude.{◌≡◌, ◌<◌, ◌≤◌, ℕ, Bool, true, fa
 use Rattle.guarded.specs.Below.{Fault, CanCall, Called, Shown, WhenFull, holds}
 use Rattle.guarded.specs.declared.try_lock.TryLockFault.{TryLockFault}
 use Rattle.guarded.specs.declared.try_lock.TryLockFault.TheVariants.{Missed, Failed}
-use Rattle.guarded.specs.Asking.{CallReturns}
+use Rattle.guarded.specs.Asking.{CallReturns, CallReturnsDone}
 use Rattle.guarded.specs.Full.{Call}
+use Rattle.guarded.specs.declared.guard.Guard.{Guard}
 use Rattle.guarded.specs.declared.slot.Slot.{Slot}
 use Rattle.guarded.specs.Stowed.{IsFull, MutexView}
 
@@ -20,6 +21,22 @@ pub record Guards {T I : Type 0} (m : MutexView) (seats : ℕ) (p : Shown) (valu
   pub some : 0 < holds p
   pub there : IsFull value
 
+-- the same of a guard
+abbrev pub Owns : {T P R I H : Type 0} → ℕ → Guard T P R I H → Type 0
+Owns seats guard = Guards guard.lock.now seats guard.pass.now guard.slot
+
+-- a guard that is still of its lock and its places to park
+abbrev pub IsOfOneLock : {T P R I H : Type 0} → Guard T P R I H → Guard T P R I H → Type 0
+IsOfOneLock old new = (new.lock.now ≡ old.lock.now) × (new.parking.now ≡ old.parking.now)
+
+-- a call of a guard, and what it returned
+abbrev pub GuardReturns : {T P R I H : Type 0} → Call → Guard T P R I H → Guard T P R I H → Result Bool Fault → Type 0
+GuardReturns call old new returned = CallReturns old.lock.now.when_full call old.pass.now new.pass.now returned
+
+abbrev pub GuardReturnsDone :
+    {T P R I H : Type 0} → Call → Guard T P R I H → Guard T P R I H → Result (Unit {0}) Fault → Type 0
+GuardReturnsDone call old new done = CallReturnsDone old.lock.now.when_full call old.pass.now new.pass.now done
+
 -- a call that got the lock, and the value with it
 pub record Locked {T I : Type 0} (w : WhenFull) (call : Call) (old : Shown) (value : Slot T I) (new : Shown) :
     Type 0 where
@@ -27,6 +44,10 @@ pub record Locked {T I : Type 0} (w : WhenFull) (call : Call) (old : Shown) (val
   pub replied : CallReturns w call old new (Ok true)
   pub once : holds new ≡ 1
   pub there : IsFull value
+
+-- the same of a guard
+abbrev pub HasLocked : {T P R I H : Type 0} → WhenFull → Call → Shown → Guard T P R I H → Type 0
+HasLocked w call old guard = Locked w call old guard.slot guard.pass.now
 
 -- a call that didn't get it, and what is returned
 pub record NotLocked (w : WhenFull) (call : Call) (old : Shown) (returned : Result Bool Fault) (new : Shown) :

@@ -12,15 +12,6 @@ pub(crate) enum Asked {
     Await(u8, How),
 }
 
-/// A call by which a pass may come to read.
-#[derive(Clone, Copy)]
-pub(crate) enum Reading {
-    /// Waits in the queue for a read hold.
-    Acquire(How),
-    /// Acquires a read hold if nobody writes, past the waiters unless the lock is strict.
-    Try,
-}
-
 /// A call of a pool.
 #[derive(Clone, Copy)]
 pub(crate) enum PoolCall {

@@ -11,8 +11,8 @@ ghost use Rattle.monitor.specs.Stepping.{IsSame};
 ghost use Rattle.monitor.specs.declared.how.How.TheVariants.{Plain, Interruptible, Timed};
 ghost use Rattle.monitor_fronts.specs.FrontCalls.{LastsUntil};
 ghost use Rattle.monitor_fronts.specs.Holding.{gained, holds};
-ghost use Rattle.guarded.specs.Asking.{IsRecorded, CallReturns, CallReturnsDone, acquires, awaits, signals};
-ghost use Rattle.guarded.specs.Guarding.{Guards};
+ghost use Rattle.guarded.specs.Asking.{IsRecorded, CallReturns, acquires, awaits, signals};
+ghost use Rattle.guarded.specs.Guarding.{GuardReturns, GuardReturnsDone, IsOfOneLock, Owns};
 ghost use Rattle.guarded.specs.Reading.{Sees};
 ghost use Rattle.guarded.specs.Stowed.{IsFull, Kept};
 ghost use Rattle.guarded.specs.Waiting.{AwaitsUntil, HasCome, TimeWasUp, WaitFailed, Waited, WaitsWhile, owner};
@@ -57,15 +57,8 @@ pub struct Guard<
     pub(crate) parking: &'a P,
 }
 
-impl<'a, T: Drop, P: Parking, R: Wait + Clock, I: Keeps<T>, H: Hooks + Drop> Guard<
-    'a,
-    T,
-    P,
-    R,
-    I,
-    H,
-> {
-    ghost use Rattle.guarded.specs.GuardLending.{LendsValue};
+impl<T: Drop, P: Parking, R: Wait + Clock, I: Keeps<T>> Guard<'_, T, P, R, I> {
+    ghost use Rattle.guarded.specs.GuardLending.{LendsOwned};
 
     /// Returns the value.
     pub fn value(&self) -> &T
@@ -78,33 +71,31 @@ impl<'a, T: Drop, P: Parking, R: Wait + Clock, I: Keeps<T>, H: Hooks + Drop> Gua
     /// Returns the value, to change it.
     pub fn value_mut(&mut self) -> &mut T
         requires there { IsFull self.old.slot }
-        ensures* lends { sem 𝓛 (LendsValue T.row P.row R.row I.row H.row I.Keeps H.Hooks self.entry result) }
+        ensures* lends { sem 𝓛 (LendsOwned T.row P.row R.row I.row I.Keeps self.entry result) }
         ensures value { Full result.now ≡ self.old.slot }
     {
         self.slot.value_mut()
     }
+}
 
+impl<T: Drop, P: Parking, R: Wait + Clock, I: Keeps<T>, H: Hooks + Drop> Guard<'_, T, P, R, I, H> {
     /// Waits on the condition until it is signalled, or interrupted: `Err(Interrupted)`, and the interrupt is taken.
     /// It releases the lock and the value while it waits, and has both again when it returns, whatever ended the
     /// wait. So the value must meet the lock's invariant, and meets it afterwards. Another thread may have changed it,
     /// so test again what was waited for. `Ok(true)`, or a fault: only a timed wait returns `Ok(false)`. This is
     /// `Condition.await()` of Java SE 8.
     pub fn wait(&mut self, condition: u8) -> Result<bool, Fault>
-        requires guards { Guards self.old.lock.now (P.seats self.old.parking.now) self.old.pass.now
-            self.old.slot }
+        requires guards { Owns (P.seats self.old.parking.now) self.old }
         requires kept { Kept I.invariant self.old.slot }
         ensures same_reference { self.new.pass.ghost_name ≡ self.old.pass.ghost_name }
         ensures same { IsSame self.old.pass.now self.new.pass.now }
-        ensures same_lock { (self.new.lock.now ≡ self.old.lock.now) ×
-            (self.new.parking.now ≡ self.old.parking.now) }
-        ensures guards { Guards self.new.lock.now (P.seats self.new.parking.now) self.new.pass.now
-            self.new.slot }
+        ensures same_lock { IsOfOneLock self.old self.new }
+        ensures guards { Owns (P.seats self.new.parking.now) self.new }
         ensures kept { Kept I.invariant self.new.slot }
         ensures keeps { holds self.new.pass.now ≡ holds self.old.pass.now }
         ensures value { IfErr result (λ fault. fault ≢ Interrupted → self.new.slot ≡ self.old.slot) }
-        ensures awaited { CallReturns self.old.lock.now.when_full
-            (awaits (P.did self.old.parking.now) condition Interruptible)
-            self.old.pass.now self.new.pass.now result }
+        ensures awaited { GuardReturns (awaits (P.did self.old.parking.now) condition Interruptible) self.old self.new
+            result }
     {
         let pass = &mut *self.pass;
         let how = How::Interruptible;
@@ -114,21 +105,17 @@ impl<'a, T: Drop, P: Parking, R: Wait + Clock, I: Keeps<T>, H: Hooks + Drop> Gua
     /// [`wait`](Guard::wait), for `ms` milliseconds at most. Returns whether it was signalled. This is
     /// `Condition.await(time, unit)`.
     pub fn wait_for(&mut self, condition: u8, ms: u32) -> Result<bool, Fault>
-        requires guards { Guards self.old.lock.now (P.seats self.old.parking.now) self.old.pass.now
-            self.old.slot }
+        requires guards { Owns (P.seats self.old.parking.now) self.old }
         requires kept { Kept I.invariant self.old.slot }
         ensures same_reference { self.new.pass.ghost_name ≡ self.old.pass.ghost_name }
         ensures same { IsSame self.old.pass.now self.new.pass.now }
-        ensures same_lock { (self.new.lock.now ≡ self.old.lock.now) ×
-            (self.new.parking.now ≡ self.old.parking.now) }
-        ensures guards { Guards self.new.lock.now (P.seats self.new.parking.now) self.new.pass.now
-            self.new.slot }
+        ensures same_lock { IsOfOneLock self.old self.new }
+        ensures guards { Owns (P.seats self.new.parking.now) self.new }
         ensures kept { Kept I.invariant self.new.slot }
         ensures keeps { holds self.new.pass.now ≡ holds self.old.pass.now }
         ensures value { IfErr result (λ fault. fault ≢ Interrupted → self.new.slot ≡ self.old.slot) }
-        ensures awaited { CallReturns self.old.lock.now.when_full
-            (awaits (P.did self.old.parking.now) condition (Timed ms))
-            self.old.pass.now self.new.pass.now result }
+        ensures awaited { GuardReturns (awaits (P.did self.old.parking.now) condition (Timed ms)) self.old self.new
+            result }
     {
         let pass = &mut *self.pass;
         let how = How::Timed(ms);
@@ -138,15 +125,12 @@ impl<'a, T: Drop, P: Parking, R: Wait + Clock, I: Keeps<T>, H: Hooks + Drop> Gua
     /// [`wait_for`](Guard::wait_for) until a moment on the clock of the parking, which `parking.now(rt)`
     /// shows. Java's `Condition.awaitUntil` takes a date instead.
     pub fn wait_until(&mut self, condition: u8, moment: u64) -> Result<bool, Fault>
-        requires guards { Guards self.old.lock.now (P.seats self.old.parking.now) self.old.pass.now
-            self.old.slot }
+        requires guards { Owns (P.seats self.old.parking.now) self.old }
         requires kept { Kept I.invariant self.old.slot }
         ensures same_reference { self.new.pass.ghost_name ≡ self.old.pass.ghost_name }
         ensures same { IsSame self.old.pass.now self.new.pass.now }
-        ensures same_lock { (self.new.lock.now ≡ self.old.lock.now) ×
-            (self.new.parking.now ≡ self.old.parking.now) }
-        ensures guards { Guards self.new.lock.now (P.seats self.new.parking.now) self.new.pass.now
-            self.new.slot }
+        ensures same_lock { IsOfOneLock self.old self.new }
+        ensures guards { Owns (P.seats self.new.parking.now) self.new }
         ensures kept { Kept I.invariant self.new.slot }
         ensures keeps { holds self.new.pass.now ≡ holds self.old.pass.now }
         ensures value { IfErr result (λ fault. fault ≢ Interrupted → self.new.slot ≡ self.old.slot) }
@@ -161,21 +145,17 @@ impl<'a, T: Drop, P: Parking, R: Wait + Clock, I: Keeps<T>, H: Hooks + Drop> Gua
     /// [`wait`](Guard::wait), but an interrupt doesn't end it, and stays pending. `Ok(true)`, or a fault. This is
     /// `Condition.awaitUninterruptibly()`.
     pub fn wait_uninterruptibly(&mut self, condition: u8) -> Result<bool, Fault>
-        requires guards { Guards self.old.lock.now (P.seats self.old.parking.now) self.old.pass.now
-            self.old.slot }
+        requires guards { Owns (P.seats self.old.parking.now) self.old }
         requires kept { Kept I.invariant self.old.slot }
         ensures same_reference { self.new.pass.ghost_name ≡ self.old.pass.ghost_name }
         ensures same { IsSame self.old.pass.now self.new.pass.now }
-        ensures same_lock { (self.new.lock.now ≡ self.old.lock.now) ×
-            (self.new.parking.now ≡ self.old.parking.now) }
-        ensures guards { Guards self.new.lock.now (P.seats self.new.parking.now) self.new.pass.now
-            self.new.slot }
+        ensures same_lock { IsOfOneLock self.old self.new }
+        ensures guards { Owns (P.seats self.new.parking.now) self.new }
         ensures kept { Kept I.invariant self.new.slot }
         ensures keeps { holds self.new.pass.now ≡ holds self.old.pass.now }
         ensures value { IfErr result (λ fault. fault ≢ Interrupted → self.new.slot ≡ self.old.slot) }
-        ensures awaited { CallReturns self.old.lock.now.when_full
-            (awaits (P.did self.old.parking.now) condition Plain)
-            self.old.pass.now self.new.pass.now result }
+        ensures awaited { GuardReturns (awaits (P.did self.old.parking.now) condition Plain) self.old self.new
+            result }
     {
         let pass = &mut *self.pass;
         let how = How::Plain;
@@ -189,16 +169,13 @@ impl<'a, T: Drop, P: Parking, R: Wait + Clock, I: Keeps<T>, H: Hooks + Drop> Gua
         condition: u8,
         predicate: F,
     ) -> Result<(), Fault>
-        requires guards { Guards self.old.lock.now (P.seats self.old.parking.now) self.old.pass.now
-            self.old.slot }
+        requires guards { Owns (P.seats self.old.parking.now) self.old }
         requires kept { Kept I.invariant self.old.slot }
         requires callable { F.IsAlwaysCallable predicate }
         ensures same_reference { self.new.pass.ghost_name ≡ self.old.pass.ghost_name }
         ensures same { IsSame self.old.pass.now self.new.pass.now }
-        ensures same_lock { (self.new.lock.now ≡ self.old.lock.now) ×
-            (self.new.parking.now ≡ self.old.parking.now) }
-        ensures guards { Guards self.new.lock.now (P.seats self.new.parking.now) self.new.pass.now
-            self.new.slot }
+        ensures same_lock { IsOfOneLock self.old self.new }
+        ensures guards { Owns (P.seats self.new.parking.now) self.new }
         ensures kept { Kept I.invariant self.new.slot }
         ensures keeps { holds self.new.pass.now ≡ holds self.old.pass.now }
         ensures over { IfOk result (λ _. Sees (FnReturnsAt F.Fn predicate) self.new.slot false) }
@@ -212,7 +189,7 @@ impl<'a, T: Drop, P: Parking, R: Wait + Clock, I: Keeps<T>, H: Hooks + Drop> Gua
             (owner self.old.pass.now self.old.slot) (owner self.new.pass.now self.new.slot) fault) }
     {
         for _ in self.rt.forever() {
-            if !predicate(self.value()) {
+            if !predicate(self.slot.value()) {
                 return Ok(());
             }
             self.wait(condition)?;
@@ -228,16 +205,13 @@ impl<'a, T: Drop, P: Parking, R: Wait + Clock, I: Keeps<T>, H: Hooks + Drop> Gua
         ms: u32,
         predicate: F,
     ) -> Result<bool, Fault>
-        requires guards { Guards self.old.lock.now (P.seats self.old.parking.now) self.old.pass.now
-            self.old.slot }
+        requires guards { Owns (P.seats self.old.parking.now) self.old }
         requires kept { Kept I.invariant self.old.slot }
         requires callable { F.IsAlwaysCallable predicate }
         ensures same_reference { self.new.pass.ghost_name ≡ self.old.pass.ghost_name }
         ensures same { IsSame self.old.pass.now self.new.pass.now }
-        ensures same_lock { (self.new.lock.now ≡ self.old.lock.now) ×
-            (self.new.parking.now ≡ self.old.parking.now) }
-        ensures guards { Guards self.new.lock.now (P.seats self.new.parking.now) self.new.pass.now
-            self.new.slot }
+        ensures same_lock { IsOfOneLock self.old self.new }
+        ensures guards { Owns (P.seats self.new.parking.now) self.new }
         ensures kept { Kept I.invariant self.new.slot }
         ensures keeps { holds self.new.pass.now ≡ holds self.old.pass.now }
         ensures over { IfOk result (λ is_over. Sees (FnReturnsAt F.Fn predicate) self.new.slot (not is_over)) }
@@ -264,16 +238,13 @@ impl<'a, T: Drop, P: Parking, R: Wait + Clock, I: Keeps<T>, H: Hooks + Drop> Gua
         moment: u64,
         predicate: F,
     ) -> Result<bool, Fault>
-        requires guards { Guards self.old.lock.now (P.seats self.old.parking.now) self.old.pass.now
-            self.old.slot }
+        requires guards { Owns (P.seats self.old.parking.now) self.old }
         requires kept { Kept I.invariant self.old.slot }
         requires callable { F.IsAlwaysCallable predicate }
         ensures same_reference { self.new.pass.ghost_name ≡ self.old.pass.ghost_name }
         ensures same { IsSame self.old.pass.now self.new.pass.now }
-        ensures same_lock { (self.new.lock.now ≡ self.old.lock.now) ×
-            (self.new.parking.now ≡ self.old.parking.now) }
-        ensures guards { Guards self.new.lock.now (P.seats self.new.parking.now) self.new.pass.now
-            self.new.slot }
+        ensures same_lock { IsOfOneLock self.old self.new }
+        ensures guards { Owns (P.seats self.new.parking.now) self.new }
         ensures kept { Kept I.invariant self.new.slot }
         ensures keeps { holds self.new.pass.now ≡ holds self.old.pass.now }
         ensures over { IfOk result (λ is_over. Sees (FnReturnsAt F.Fn predicate) self.new.slot (not is_over)) }
@@ -288,7 +259,7 @@ impl<'a, T: Drop, P: Parking, R: Wait + Clock, I: Keeps<T>, H: Hooks + Drop> Gua
             (owner self.old.pass.now self.old.slot) (owner self.new.pass.now self.new.slot) fault) }
     {
         for _ in self.rt.forever() {
-            if !predicate(self.value()) {
+            if !predicate(self.slot.value()) {
                 return Ok(true);
             }
             let left = milliseconds_left(self.rt, self.parking, moment);
@@ -303,18 +274,14 @@ impl<'a, T: Drop, P: Parking, R: Wait + Clock, I: Keeps<T>, H: Hooks + Drop> Gua
     /// Moves the first waiter of the condition into the wait queue of the lock, if there is one. The guard keeps the
     /// value. This is `Condition.signal()`.
     pub fn signal(&mut self, condition: u8) -> Result<(), Fault>
-        requires guards { Guards self.old.lock.now (P.seats self.old.parking.now) self.old.pass.now
-            self.old.slot }
+        requires guards { Owns (P.seats self.old.parking.now) self.old }
         ensures same_reference { self.new.pass.ghost_name ≡ self.old.pass.ghost_name }
         ensures same { IsSame self.old.pass.now self.new.pass.now }
-        ensures same_lock { (self.new.lock.now ≡ self.old.lock.now) ×
-            (self.new.parking.now ≡ self.old.parking.now) }
-        ensures guards { Guards self.new.lock.now (P.seats self.new.parking.now) self.new.pass.now
-            self.new.slot }
+        ensures same_lock { IsOfOneLock self.old self.new }
+        ensures guards { Owns (P.seats self.new.parking.now) self.new }
         ensures keeps { holds self.new.pass.now ≡ holds self.old.pass.now }
-        ensures signalled { CallReturnsDone self.old.lock.now.when_full
-            (signals (P.did self.old.parking.now) false condition)
-            self.old.pass.now self.new.pass.now result }
+        ensures signalled { GuardReturnsDone (signals (P.did self.old.parking.now) false condition) self.old
+            self.new result }
         ensures value { self.new.slot ≡ self.old.slot }
     {
         let pass = &mut *self.pass;
@@ -327,18 +294,14 @@ impl<'a, T: Drop, P: Parking, R: Wait + Clock, I: Keeps<T>, H: Hooks + Drop> Gua
     /// Moves all waiters of the condition into the wait queue of the lock, in order. The guard keeps the value. This
     /// is `Condition.signalAll()`.
     pub fn signal_all(&mut self, condition: u8) -> Result<(), Fault>
-        requires guards { Guards self.old.lock.now (P.seats self.old.parking.now) self.old.pass.now
-            self.old.slot }
+        requires guards { Owns (P.seats self.old.parking.now) self.old }
         ensures same_reference { self.new.pass.ghost_name ≡ self.old.pass.ghost_name }
         ensures same { IsSame self.old.pass.now self.new.pass.now }
-        ensures same_lock { (self.new.lock.now ≡ self.old.lock.now) ×
-            (self.new.parking.now ≡ self.old.parking.now) }
-        ensures guards { Guards self.new.lock.now (P.seats self.new.parking.now) self.new.pass.now
-            self.new.slot }
+        ensures same_lock { IsOfOneLock self.old self.new }
+        ensures guards { Owns (P.seats self.new.parking.now) self.new }
         ensures keeps { holds self.new.pass.now ≡ holds self.old.pass.now }
-        ensures signalled { CallReturnsDone self.old.lock.now.when_full
-            (signals (P.did self.old.parking.now) true condition)
-            self.old.pass.now self.new.pass.now result }
+        ensures signalled { GuardReturnsDone (signals (P.did self.old.parking.now) true condition) self.old
+            self.new result }
         ensures value { self.new.slot ≡ self.old.slot }
     {
         let pass = &mut *self.pass;
@@ -348,18 +311,14 @@ impl<'a, T: Drop, P: Parking, R: Wait + Clock, I: Keeps<T>, H: Hooks + Drop> Gua
     /// Acquires the lock once more: `Ok(true)`, or a fault. `Err(TooManyHolds)` with 2147483647 holds. This is
     /// `ReentrantLock.lock()` by its owner.
     pub fn again(&mut self) -> Result<bool, Fault>
-        requires guards { Guards self.old.lock.now (P.seats self.old.parking.now) self.old.pass.now
-            self.old.slot }
+        requires guards { Owns (P.seats self.old.parking.now) self.old }
         ensures same_reference { self.new.pass.ghost_name ≡ self.old.pass.ghost_name }
         ensures same { IsSame self.old.pass.now self.new.pass.now }
-        ensures same_lock { (self.new.lock.now ≡ self.old.lock.now) ×
-            (self.new.parking.now ≡ self.old.parking.now) }
-        ensures guards { Guards self.new.lock.now (P.seats self.new.parking.now) self.new.pass.now
-            self.new.slot }
+        ensures same_lock { IsOfOneLock self.old self.new }
+        ensures guards { Owns (P.seats self.new.parking.now) self.new }
         ensures gains { holds self.new.pass.now ≡ holds self.old.pass.now + gained result }
-        ensures acquired { CallReturns self.old.lock.now.when_full
-            (acquires (P.did self.old.parking.now) Plain)
-            self.old.pass.now self.new.pass.now result }
+        ensures acquired { GuardReturns (acquires (P.did self.old.parking.now) Plain) self.old self.new
+            result }
         ensures value { self.new.slot ≡ self.old.slot }
     {
         let pass = &mut *self.pass;
@@ -368,15 +327,12 @@ impl<'a, T: Drop, P: Parking, R: Wait + Clock, I: Keeps<T>, H: Hooks + Drop> Gua
 
     /// Releases one of several holds. It can't fail.
     pub fn leave(&mut self)
-        requires guards { Guards self.old.lock.now (P.seats self.old.parking.now) self.old.pass.now
-            self.old.slot }
+        requires guards { Owns (P.seats self.old.parking.now) self.old }
         requires several { 1 < holds self.old.pass.now }
         ensures same_reference { self.new.pass.ghost_name ≡ self.old.pass.ghost_name }
         ensures same { IsSame self.old.pass.now self.new.pass.now }
-        ensures same_lock { (self.new.lock.now ≡ self.old.lock.now) ×
-            (self.new.parking.now ≡ self.old.parking.now) }
-        ensures guards { Guards self.new.lock.now (P.seats self.new.parking.now) self.new.pass.now
-            self.new.slot }
+        ensures same_lock { IsOfOneLock self.old self.new }
+        ensures guards { Owns (P.seats self.new.parking.now) self.new }
         ensures loses { holds self.new.pass.now + 1 ≡ holds self.old.pass.now }
         ensures recorded { IsRecorded (P.did self.old.parking.now) self.old.pass.now (Give X 1)
             self.new.pass.now }
@@ -388,7 +344,7 @@ impl<'a, T: Drop, P: Parking, R: Wait + Clock, I: Keeps<T>, H: Hooks + Drop> Gua
 
     /// Unlocks now. It can't fail. This is `ReentrantLock.unlock()`.
     pub fn unlock(self)
-        requires guards { Guards self.lock.now (P.seats self.parking.now) self.pass.now self.slot }
+        requires guards { Owns (P.seats self.parking.now) self }
         requires last { holds self.pass.now ≡ 1 }
         requires kept { Kept I.invariant self.slot }
         ensures free { holds self.exit.0.now ≡ 0 }
@@ -401,7 +357,7 @@ impl<'a, T: Drop, P: Parking, R: Wait + Clock, I: Keeps<T>, H: Hooks + Drop> Gua
 impl<T: Drop, P: Parking, R: Wait + Clock, I: Keeps<T>, H: Hooks + Drop> Drop
     for Guard<'_, T, P, R, I, H> {
     fn drop(self)
-        requires guards { Guards self.lock.now (P.seats self.parking.now) self.pass.now self.slot }
+        requires guards { Owns (P.seats self.parking.now) self }
         requires last { holds self.pass.now ≡ 1 }
         requires kept { Kept I.invariant self.slot }
         ensures free { holds self.exit.0.now ≡ 0 }

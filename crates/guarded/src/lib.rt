@@ -7,7 +7,7 @@
 //! always in exactly one place.
 //!
 //! An [`RwMutex`] is a read-write lock of the same kind. A writer has the value. While no thread writes, the
-//! value is in the lock, which shows it to one reader at a time.
+//! value is in the lock, and each reader has a share of it, in a [`ReadGuard`]: many look at it at the same time.
 //!
 //! A [`Pool`] is a semaphore with an item for each permit ([`Shelf`]). It has as many items as permits are
 //! free. An acquire returns items, which move in the turn that takes the permits. A release puts items
@@ -40,8 +40,8 @@
 //!   may do so more than once. It returns `HistoryFull` only if a history without entries has no room, and
 //!   `TrimFull` only if more than 1000000000000000 entries would be folded.
 //!
-//! An `unlock` always has room and memory: both were reserved when the hold was recorded. The same holds for
-//! `unread` and [`downgrade`](Guard::downgrade). A `release` of items may lack them, and then returns the
+//! An `unlock` always has room and memory: both were reserved when the hold was recorded. The same holds for the end of
+//! a reader's guard and for [`downgrade`](Guard::downgrade). A `release` of items may lack them, and then returns the
 //! items with the fault. That is why a pool has no guards that release items when they are dropped.
 #![tactic(auto)]
 
@@ -54,8 +54,10 @@ mod locking;
 mod mutex;
 mod options;
 mod pool;
+mod read_guard;
 mod reading;
 mod rw_mutex;
+mod shared;
 mod shelf;
 mod signalling;
 mod slot;
@@ -69,7 +71,9 @@ pub use monitor_fronts::WhenFull;
 pub use mutex::Mutex;
 pub use options::Options;
 pub use pool::Pool;
+pub use read_guard::ReadGuard;
 pub use rw_mutex::RwMutex;
+pub use shared::{Shared, Sharing};
 pub use shelf::Shelf;
 pub use slot::Slot;
 pub use try_lock::TryLockFault;

@@ -6,7 +6,7 @@ ghost use Rattle.monitor.specs.declared.how.How.TheVariants.{Plain, Interruptibl
 ghost use Rattle.monitor_fronts.specs.FrontCalls.{LastsUntil};
 ghost use Rattle.monitor_fronts.specs.Holding.{holds, with_yes};
 ghost use Rattle.guarded.specs.Asking.{acquires, tries};
-ghost use Rattle.guarded.specs.Guarding.{CanLock, Guards, Locked, NotLocked, yes_unless_missed};
+ghost use Rattle.guarded.specs.Guarding.{CanLock, HasLocked, NotLocked, Owns, yes_unless_missed};
 ghost use Rattle.guarded.specs.Stowed.{Kept};
 
 use crate::asking::Asked;
@@ -41,11 +41,9 @@ impl<T: Drop, I: Keeps<T>, H: Hooks + Drop> Mutex<T, I, H> {
             (λ last. NotLocked lock.now.when_full (acquires (P.did parking.now) Plain)
             pass.old (with_yes result) last)) }
         ensures same_reference { IfOk result (λ guard. guard.pass.ghost_name ≡ pass.entry.ghost_name) }
-        ensures guards { IfOk result (λ guard.
-            Guards guard.lock.now (P.seats guard.parking.now) guard.pass.now guard.slot) }
-        ensures locked { IfOk result (λ guard.
-            Locked lock.now.when_full (acquires (P.did parking.now) Plain)
-            pass.old guard.slot guard.pass.now) }
+        ensures guards { IfOk result (λ guard. Owns (P.seats guard.parking.now) guard) }
+        ensures locked { IfOk result
+            (HasLocked lock.now.when_full (acquires (P.did parking.now) Plain) pass.old) }
         ensures kept { IfOk result (λ guard. Kept I.invariant guard.slot) }
     {
         let slot = lock.take(rt, parking, pass, How::Plain)?;
@@ -71,11 +69,9 @@ impl<T: Drop, I: Keeps<T>, H: Hooks + Drop> Mutex<T, I, H> {
             (λ last. NotLocked lock.now.when_full (acquires (P.did parking.now) Interruptible)
             pass.old (with_yes result) last)) }
         ensures same_reference { IfOk result (λ guard. guard.pass.ghost_name ≡ pass.entry.ghost_name) }
-        ensures guards { IfOk result (λ guard.
-            Guards guard.lock.now (P.seats guard.parking.now) guard.pass.now guard.slot) }
-        ensures locked { IfOk result (λ guard.
-            Locked lock.now.when_full (acquires (P.did parking.now) Interruptible)
-            pass.old guard.slot guard.pass.now) }
+        ensures guards { IfOk result (λ guard. Owns (P.seats guard.parking.now) guard) }
+        ensures locked { IfOk result
+            (HasLocked lock.now.when_full (acquires (P.did parking.now) Interruptible) pass.old) }
         ensures kept { IfOk result (λ guard. Kept I.invariant guard.slot) }
     {
         let slot = lock.take(rt, parking, pass, How::Interruptible)?;
@@ -101,10 +97,9 @@ impl<T: Drop, I: Keeps<T>, H: Hooks + Drop> Mutex<T, I, H> {
             (λ last. NotLocked lock.now.when_full (tries (P.did parking.now))
             pass.old (yes_unless_missed result) last)) }
         ensures same_reference { IfOk result (λ guard. guard.pass.ghost_name ≡ pass.entry.ghost_name) }
-        ensures guards { IfOk result (λ guard.
-            Guards guard.lock.now (P.seats guard.parking.now) guard.pass.now guard.slot) }
-        ensures locked { IfOk result (λ guard.
-            Locked lock.now.when_full (tries (P.did parking.now)) pass.old guard.slot guard.pass.now) }
+        ensures guards { IfOk result (λ guard. Owns (P.seats guard.parking.now) guard) }
+        ensures locked { IfOk result
+            (HasLocked lock.now.when_full (tries (P.did parking.now)) pass.old) }
         ensures kept { IfOk result (λ guard. Kept I.invariant guard.slot) }
     {
         let slot = lock.try_take(rt, parking, pass, Asked::Try)?;
@@ -132,11 +127,9 @@ impl<T: Drop, I: Keeps<T>, H: Hooks + Drop> Mutex<T, I, H> {
             (λ last. NotLocked lock.now.when_full (acquires (P.did parking.now) (Timed ms))
             pass.old (yes_unless_missed result) last)) }
         ensures same_reference { IfOk result (λ guard. guard.pass.ghost_name ≡ pass.entry.ghost_name) }
-        ensures guards { IfOk result (λ guard.
-            Guards guard.lock.now (P.seats guard.parking.now) guard.pass.now guard.slot) }
-        ensures locked { IfOk result (λ guard.
-            Locked lock.now.when_full (acquires (P.did parking.now) (Timed ms))
-            pass.old guard.slot guard.pass.now) }
+        ensures guards { IfOk result (λ guard. Owns (P.seats guard.parking.now) guard) }
+        ensures locked { IfOk result
+            (HasLocked lock.now.when_full (acquires (P.did parking.now) (Timed ms)) pass.old) }
         ensures kept { IfOk result (λ guard. Kept I.invariant guard.slot) }
     {
         let slot = lock.try_take(rt, parking, pass, Asked::Acquire(How::Timed(ms)))?;
@@ -164,11 +157,9 @@ impl<T: Drop, I: Keeps<T>, H: Hooks + Drop> Mutex<T, I, H> {
             (λ how. NotLocked lock.now.when_full (acquires (P.did parking.now) how)
             pass.old (yes_unless_missed result) last))) }
         ensures same_reference { IfOk result (λ guard. guard.pass.ghost_name ≡ pass.entry.ghost_name) }
-        ensures guards { IfOk result (λ guard.
-            Guards guard.lock.now (P.seats guard.parking.now) guard.pass.now guard.slot) }
+        ensures guards { IfOk result (λ guard. Owns (P.seats guard.parking.now) guard) }
         ensures locked { IfOk result (λ guard. LastsUntil (P.did parking.now) moment
-            (λ how. Locked lock.now.when_full (acquires (P.did parking.now) how)
-            pass.old guard.slot guard.pass.now)) }
+            (λ how. HasLocked lock.now.when_full (acquires (P.did parking.now) how) pass.old guard)) }
         ensures kept { IfOk result (λ guard. Kept I.invariant guard.slot) }
     {
         let ms = milliseconds_left(rt, parking, moment);

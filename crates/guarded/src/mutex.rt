@@ -267,37 +267,20 @@ impl<T: Drop, I: Keeps<T>, H: Hooks + Drop> Mutex<T, I, H> {
         ensures fit { MayLie I.invariant slot.old → MayLie I.invariant slot.new }
         ensures stays { was_refused result ≡ true → slot.new ≡ slot.old }
     {
+        let monitor = &self.monitor;
         let when_full = self.when_full;
         match asked {
             Asked::Acquire(how) => {
                 let request = Request::Acquire(Mode::X, 1);
-                call_in_room(
-                    &self.monitor,
-                    rt,
-                    parking,
-                    pass,
-                    slot,
-                    request,
-                    how,
-                    when_full,
-                )
+                call_in_room(monitor, rt, parking, pass, slot, request, how, when_full)
             }
             Asked::Try => {
                 let step = Step::Try(Mode::X, 1);
-                enter_in_room(&self.monitor, rt, parking, pass, slot, step, when_full)
+                enter_in_room(monitor, rt, parking, pass, slot, step, when_full)
             }
             Asked::Await(condition, how) => {
                 let request = Request::AwaitOn(condition);
-                call_in_room(
-                    &self.monitor,
-                    rt,
-                    parking,
-                    pass,
-                    slot,
-                    request,
-                    how,
-                    when_full,
-                )
+                call_in_room(monitor, rt, parking, pass, slot, request, how, when_full)
             }
         }
     }

@@ -258,20 +258,12 @@ impl<T: Drop, I: Keeps<T>> Pool<T, I> {
         ensures ends { Ends asked (whether_of result) shelf.old shelf.new }
         ensures kept { All I.invariant shelf.new.items }
     {
+        let monitor = &self.monitor;
         let when_full = self.when_full;
         match asked {
             PoolCall::Acquire(n, how) => {
                 let request = Request::Acquire(Mode::S, n);
-                call_in_room(
-                    &self.monitor,
-                    rt,
-                    parking,
-                    pass,
-                    shelf,
-                    request,
-                    how,
-                    when_full,
-                )
+                call_in_room(monitor, rt, parking, pass, shelf, request, how, when_full)
             }
             PoolCall::Try(n) => {
                 let step = Step::Try(Mode::S, n);

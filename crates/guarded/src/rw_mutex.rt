@@ -1,7 +1,6 @@
 //! A reentrant read-write lock that guards a value.
-ghost use Rattle.std.specs.Prelude.{◌≡◌, ◌<◌, ◌≤◌, ◌+◌, All, IfOk, IfErr, IfSome};
+ghost use Rattle.std.specs.Prelude.{◌≡◌, ◌≤◌, All, IfOk, IfErr, IfSome};
 ghost use Rattle.std.specs.Borrow.{sem, RestsIfErr};
-ghost use Rattle.std.specs.Fn.{FnOnceReturnsAt};
 ghost use Rattle.frame.specs.Core.{header_of};
 ghost use Rattle.history.specs.Counts.{counts};
 ghost use Rattle.history.specs.Entries.{start_on};
@@ -16,30 +15,28 @@ ghost use Rattle.monitor.specs.contracts.pass.Pass.{the_row};
 ghost use Rattle.monitor.specs.declared.how.How.TheVariants.{Plain, Interruptible, Timed};
 ghost use Rattle.monitor.specs.Closing.{Closes, IsMissing};
 ghost use Rattle.monitor.specs.declared.closing.CloseFault.TheVariants.{MissingPass};
-ghost use Rattle.monitor.specs.Lawful.{blank};
-ghost use Rattle.monitor.specs.Observing.{IsLook};
-ghost use Rattle.monitor.specs.Shown.{opening_passes};
 ghost use Rattle.monitor.specs.Stepping.{IsSame};
 ghost use Rattle.monitor_fronts.specs.declared.room.WhenFull.TheVariants.{Trim};
 ghost use Rattle.monitor_fronts.specs.FrontCalls.{LastsUntil};
-ghost use Rattle.monitor_fronts.specs.Holding.{gained, holds, with_yes};
-ghost use Rattle.guarded.specs.Asking.{IsRecorded, CallReturns, acquires, tries};
-ghost use Rattle.guarded.specs.Guarding.{CanLock, Guards, Locked, NotLocked, yes_unless_missed};
-ghost use Rattle.guarded.specs.Reading.{GainsReads, GivesRead, Saw, reads, reads_by, tries_read};
-ghost use Rattle.guarded.specs.Stowed.{Kept, Rests};
+ghost use Rattle.monitor_fronts.specs.Holding.{holds, with_yes};
+ghost use Rattle.guarded.specs.Asking.{IsRecorded, acquires, tries};
+ghost use Rattle.guarded.specs.Guarding.{CanLock, GuardReturns, HasLocked, IsOfOneLock, NotLocked, Owns, yes_unless_missed};
+ghost use Rattle.guarded.specs.Reading.{GainsReads, IsOpened, reads, reads_by};
+ghost use Rattle.guarded.specs.Stowed.{IsFull, Kept, Rests};
+ghost use Rattle.guarded.specs.declared.slot.Slot.TheVariants.{Full};
 
-use crate::asking::Reading;
 use crate::guard::Guard;
 use crate::keeps::{Any, Keeps};
 use crate::mutex::Mutex;
-use crate::options::{CAP, CONDITIONS, Options};
+use crate::options::Options;
+use crate::shared::{Shared, Sharing, unshared};
 use crate::slot::Slot;
 use crate::try_lock::TryLockFault;
 use crate::view::View;
 use history::fault::Fault;
 use history::header::Policy;
-use monitor::{CloseFault, Closed, How, Monitor, Pass};
-use monitor_fronts::{WhenFull, milliseconds_left};
+use monitor::{CloseFault, Closed, Monitor, Pass};
+use monitor_fronts::WhenFull;
 use permit::Parking;
 use read_write::hooks::RwHooks;
 use std::alloc::Global;
@@ -51,9 +48,8 @@ use std::time::Clock;
 /// with the conditions of its write lock; as a guard of a value, `std::sync::RwLock` of Rust. A pass stands
 /// for a thread.
 ///
-/// A writer has the value, in a [`Guard`]. Readers hold the lock together, and the value stays in it:
-/// `read_with` shows it to one reader at a time, until its closure returns. There is no guard with a `&T`,
-/// since the value is under the monitor's lock, which each look acquires.
+/// A writer has the value, in a [`Guard`]. Readers hold the lock together, and each has a
+/// [`ReadGuard`](crate::ReadGuard), which lends the value: many threads look at it at the same time.
 ///
 /// `I` is the invariant that the lock keeps of its value, or [`Any`] for none.
 ///
@@ -62,7 +58,7 @@ use std::time::Clock;
 /// kinds until an interrupt or their time.
 #[derive(Drop)]
 pub struct RwMutex<T: Drop, I: Keeps<T> = Any> {
-    pub(crate) mutex: Mutex<T, I, RwHooks>,
+    pub(crate) mutex: Mutex<Shared<T>, Sharing<I>, RwHooks>,
 }
 
 impl<T: Drop, I: Keeps<T>> Model for RwMutex<T, I> {
@@ -80,15 +76,10 @@ impl<T: Drop> RwMutex<T> {
     pub fn new(alloc: Global, value: T, seats: u16) -> Result<(RwMutex<T>, Vec<Pass>), Fault>
         requires some { 1 ≤ seats }
         requires few { seats ≤ 256 }
-        ensures header { IfOk result (λ r. r.0.lock.header ≡ header_of (ReadWrite NonFair) seats 16 4096) }
-        ensures when_full { IfOk result (λ r. r.0.when_full ≡ Trim) }
-        ensures passes { IfOk result (λ r.
-            r.1.items ≡ opening_passes r.0.lock (blank r.0.lock.header) 0 seats) }
-        ensures own { IfOk result (λ r. All (λ p. p.lock ≡ r.0.lock) r.1.items) }
-        ensures free { IfOk result (λ r. All (λ p. holds p ≡ 0) r.1.items) }
+        ensures opened { IfOk result (λ r. IsOpened (ReadWrite NonFair) Trim seats 16 4096 r.0 r.1.items) }
         ensures err { IfErr result (λ fault. fault ≡ OutOfMemory) }
     {
-        RwMutex::open_for(alloc, value, seats, Options::new())
+        RwMutex::new_keeping(alloc, value, seats)
     }
 
     /// [`new`](RwMutex::new) with these choices.
@@ -99,31 +90,18 @@ impl<T: Drop> RwMutex<T> {
         options: Options,
     ) -> Result<(RwMutex<T>, Vec<Pass>), Fault>
         requires { IsInRange (header_of (ReadWrite options.policy) seats options.conditions options.cap) }
-        ensures header { IfOk result (λ r.
-            r.0.lock.header ≡ header_of (ReadWrite options.policy) seats options.conditions options.cap) }
-        ensures when_full { IfOk result (λ r. r.0.when_full ≡ options.when_full) }
-        ensures passes { IfOk result (λ r.
-            r.1.items ≡ opening_passes r.0.lock (blank r.0.lock.header) 0 seats) }
-        ensures own { IfOk result (λ r. All (λ p. p.lock ≡ r.0.lock) r.1.items) }
-        ensures free { IfOk result (λ r. All (λ p. holds p ≡ 0) r.1.items) }
+        ensures opened { IfOk result (λ r. IsOpened (ReadWrite options.policy) options.when_full seats
+            options.conditions options.cap r.0 r.1.items) }
         ensures err { IfErr result (λ fault. fault ≡ OutOfMemory) }
     {
-        let Options {
-            policy,
-            when_full,
-            conditions,
-            cap,
-        } = options;
-        match RwMutex::open(alloc, value, policy, when_full, seats, conditions, cap) {
-            Ok((lock, passes)) => Ok((lock, passes)),
-            Err((_value, fault)) => Err(fault),
-        }
+        RwMutex::open_or_drop(alloc, value, seats, options)
     }
 
     /// Opens a lock that guards the value, and whose write lock has conditions 0 to `conditions - 1`. Returns a
     /// pass for each seat too, in order. `cap` is the greatest number of entries of its history, owed ones
     /// included. If memory is refused, it returns the value.
-    pub fn open(
+    pub fn open<R: Wait>(
+        rt: &R,
         alloc: Global,
         value: T,
         policy: Policy,
@@ -133,16 +111,11 @@ impl<T: Drop> RwMutex<T> {
         cap: u32,
     ) -> Result<(RwMutex<T>, Vec<Pass>), (T, Fault)>
         requires { IsInRange (header_of (ReadWrite policy) seats conditions cap) }
-        ensures header { IfOk result
-            (λ r. r.0.lock.header ≡ header_of (ReadWrite policy) seats conditions cap) }
-        ensures when_full { IfOk result (λ r. r.0.when_full ≡ when_full) }
-        ensures passes { IfOk result (λ r.
-            r.1.items ≡ opening_passes r.0.lock (blank r.0.lock.header) 0 seats) }
-        ensures own { IfOk result (λ r. All (λ p. p.lock ≡ r.0.lock) r.1.items) }
-        ensures free { IfOk result (λ r. All (λ p. holds p ≡ 0) r.1.items) }
+        ensures opened { IfOk result
+            (λ r. IsOpened (ReadWrite policy) when_full seats conditions cap r.0 r.1.items) }
         ensures back { IfErr result (λ e. (e.0 ≡ value) × (e.1 ≡ OutOfMemory)) }
     {
-        RwMutex::open_keeping(alloc, value, policy, when_full, seats, conditions, cap)
+        RwMutex::open_keeping(rt, alloc, value, policy, when_full, seats, conditions, cap)
     }
 }
 
@@ -157,31 +130,15 @@ impl<T: Drop, I: Keeps<T>> RwMutex<T, I> {
         requires some { 1 ≤ seats }
         requires few { seats ≤ 256 }
         requires kept { I.invariant value }
-        ensures header { IfOk result (λ r. r.0.lock.header ≡ header_of (ReadWrite NonFair) seats 16 4096) }
-        ensures when_full { IfOk result (λ r. r.0.when_full ≡ Trim) }
-        ensures passes { IfOk result (λ r.
-            r.1.items ≡ opening_passes r.0.lock (blank r.0.lock.header) 0 seats) }
-        ensures own { IfOk result (λ r. All (λ p. p.lock ≡ r.0.lock) r.1.items) }
-        ensures free { IfOk result (λ r. All (λ p. holds p ≡ 0) r.1.items) }
+        ensures opened { IfOk result (λ r. IsOpened (ReadWrite NonFair) Trim seats 16 4096 r.0 r.1.items) }
         ensures err { IfErr result (λ fault. fault ≡ OutOfMemory) }
     {
-        let when_full = WhenFull::Trim;
-        match RwMutex::open_keeping(
-            alloc,
-            value,
-            Policy::NonFair,
-            when_full,
-            seats,
-            CONDITIONS,
-            CAP,
-        ) {
-            Ok((lock, passes)) => Ok((lock, passes)),
-            Err((_value, fault)) => Err(fault),
-        }
+        RwMutex::open_or_drop(alloc, value, seats, Options::new())
     }
 
     /// [`open`](RwMutex::open) of a lock that keeps an invariant, which the value meets.
-    pub fn open_keeping(
+    pub fn open_keeping<R: Wait>(
+        rt: &R,
         alloc: Global,
         value: T,
         policy: Policy,
@@ -192,26 +149,70 @@ impl<T: Drop, I: Keeps<T>> RwMutex<T, I> {
     ) -> Result<(RwMutex<T, I>, Vec<Pass>), (T, Fault)>
         requires range { IsInRange (header_of (ReadWrite policy) seats conditions cap) }
         requires kept { I.invariant value }
-        ensures header { IfOk result
-            (λ r. r.0.lock.header ≡ header_of (ReadWrite policy) seats conditions cap) }
-        ensures when_full { IfOk result (λ r. r.0.when_full ≡ when_full) }
-        ensures passes { IfOk result (λ r.
-            r.1.items ≡ opening_passes r.0.lock (blank r.0.lock.header) 0 seats) }
-        ensures own { IfOk result (λ r. All (λ p. p.lock ≡ r.0.lock) r.1.items) }
-        ensures free { IfOk result (λ r. All (λ p. holds p ≡ 0) r.1.items) }
+        ensures opened { IfOk result
+            (λ r. IsOpened (ReadWrite policy) when_full seats conditions cap r.0 r.1.items) }
         ensures back { IfErr result (λ e. (e.0 ≡ value) × (e.1 ≡ OutOfMemory)) }
     {
-        let Ok(hooks) = RwHooks::open(alloc, policy, seats) else {
-            return Err((value, Fault::OutOfMemory));
+        let options = Options {
+            policy,
+            when_full,
+            conditions,
+            cap,
         };
-        let slot = Slot::Full(value);
-        match Monitor::open_with(alloc, hooks, slot, seats, conditions, cap) {
+        match Shared::new(alloc, value) {
+            Ok(shared) => match RwMutex::open_shared(alloc, shared, seats, options) {
+                Ok(opened) => Ok(opened),
+                Err((shared, fault)) => Err((shared.into_value(rt), fault)),
+            },
+            Err(value) => Err((value, Fault::OutOfMemory)),
+        }
+    }
+
+    // Drops the value if memory is refused.
+    fn open_or_drop(
+        alloc: Global,
+        value: T,
+        seats: u16,
+        options: Options,
+    ) -> Result<(RwMutex<T, I>, Vec<Pass>), Fault>
+        requires range { IsInRange (header_of (ReadWrite options.policy) seats options.conditions options.cap) }
+        requires kept { I.invariant value }
+        ensures opened { IfOk result (λ r. IsOpened (ReadWrite options.policy) options.when_full seats
+            options.conditions options.cap r.0 r.1.items) }
+        ensures err { IfErr result (λ fault. fault ≡ OutOfMemory) }
+    {
+        let Ok(shared) = Shared::new(alloc, value) else {
+            return Err(Fault::OutOfMemory);
+        };
+        match RwMutex::open_shared(alloc, shared, seats, options) {
+            Ok(opened) => Ok(opened),
+            Err((_shared, fault)) => Err(fault),
+        }
+    }
+
+    fn open_shared(
+        alloc: Global,
+        shared: Shared<T>,
+        seats: u16,
+        options: Options,
+    ) -> Result<(RwMutex<T, I>, Vec<Pass>), (Shared<T>, Fault)>
+        requires range { IsInRange (header_of (ReadWrite options.policy) seats options.conditions options.cap) }
+        requires kept { I.invariant shared }
+        ensures opened { IfOk result (λ r. IsOpened (ReadWrite options.policy) options.when_full seats
+            options.conditions options.cap r.0 r.1.items) }
+        ensures back { IfErr result (λ e. (e.0 ≡ shared) × (e.1 ≡ OutOfMemory)) }
+    {
+        let Ok(hooks) = RwHooks::open(alloc, options.policy, seats) else {
+            return Err((shared, Fault::OutOfMemory));
+        };
+        let when_full = options.when_full;
+        match Monitor::open_with(alloc, hooks, Slot::Full(shared), seats, options.conditions, options.cap) {
             Ok((monitor, passes)) => {
                 let mutex = Mutex { monitor, when_full };
                 Ok((RwMutex { mutex }, passes))
             }
             Err((slot, fault)) => match slot {
-                Slot::Full(value) => Err((value, fault)),
+                Slot::Full(shared) => Err((shared, fault)),
                 Slot::Empty => unreachable!(),
                 Slot::Lent(_) => unreachable!(),
             },
@@ -240,13 +241,13 @@ impl<T: Drop, I: Keeps<T>> RwMutex<T, I> {
         ensures back { IfErr result (λ r. (r.0 ≡ self) × (r.1 ≡ passes)) }
     {
         match self.mutex.close(rt, passes) {
-            Ok(closed) => Ok(closed),
+            Ok((closed, share)) => Ok((closed, unshared(rt, share))),
             Err((mutex, passes, fault)) => Err((RwMutex { mutex }, passes, fault)),
         }
     }
 
     /// Returns a view of the lock, which shows who holds it and who waits, and which trims its history.
-    pub fn view(&self) -> View<'_, RwHooks, Slot<T, I>>
+    pub fn view(&self) -> View<'_, RwHooks, Slot<Shared<T>, Sharing<I>>>
         ensures { result.monitor.now ≡ self.now.lock }
     {
         self.mutex.view()
@@ -256,7 +257,7 @@ impl<T: Drop, I: Keeps<T>> RwMutex<T, I> {
 /// Each of these is called by a pass that doesn't write, and returns a guard, which has the value. After an `Err` the
 /// pass doesn't write. The faults are those of [`Mutex`].
 ///
-/// A pass that reads would wait for its own read hold: it calls `unread` first.
+/// A pass that reads would wait for its own read hold: it gives that back first.
 ///
 /// The pass is the first argument, as in `RwMutex::write(pass, &lock, rt, parking)`, since the guard borrows it.
 impl<T: Drop, I: Keeps<T>> RwMutex<T, I> {
@@ -267,17 +268,15 @@ impl<T: Drop, I: Keeps<T>> RwMutex<T, I> {
         lock: &'a RwMutex<T, I>,
         rt: &'a R,
         parking: &'a P,
-    ) -> Result<Guard<'a, T, P, R, I, RwHooks>, Fault>
+    ) -> Result<Guard<'a, Shared<T>, P, R, Sharing<I>, RwHooks>, Fault>
         requires can { CanLock lock.now (P.seats parking.now) pass.old }
         ensures* not_locked { sem 𝓛 (RestsIfErr the_row pass.entry (λ guard. guard.pass.ghost_name) result
             (λ last. NotLocked lock.now.when_full (acquires (P.did parking.now) Plain)
             pass.old (with_yes result) last)) }
         ensures same_reference { IfOk result (λ guard. guard.pass.ghost_name ≡ pass.entry.ghost_name) }
-        ensures guards { IfOk result (λ guard.
-            Guards guard.lock.now (P.seats guard.parking.now) guard.pass.now guard.slot) }
-        ensures locked { IfOk result (λ guard.
-            Locked lock.now.when_full (acquires (P.did parking.now) Plain)
-            pass.old guard.slot guard.pass.now) }
+        ensures guards { IfOk result (λ guard. Owns (P.seats guard.parking.now) guard) }
+        ensures locked { IfOk result
+            (HasLocked lock.now.when_full (acquires (P.did parking.now) Plain) pass.old) }
         ensures kept { IfOk result (λ guard. Kept I.invariant guard.slot) }
     {
         Mutex::lock(pass, &lock.mutex, rt, parking)
@@ -290,17 +289,15 @@ impl<T: Drop, I: Keeps<T>> RwMutex<T, I> {
         lock: &'a RwMutex<T, I>,
         rt: &'a R,
         parking: &'a P,
-    ) -> Result<Guard<'a, T, P, R, I, RwHooks>, Fault>
+    ) -> Result<Guard<'a, Shared<T>, P, R, Sharing<I>, RwHooks>, Fault>
         requires can { CanLock lock.now (P.seats parking.now) pass.old }
         ensures* not_locked { sem 𝓛 (RestsIfErr the_row pass.entry (λ guard. guard.pass.ghost_name) result
             (λ last. NotLocked lock.now.when_full (acquires (P.did parking.now) Interruptible)
             pass.old (with_yes result) last)) }
         ensures same_reference { IfOk result (λ guard. guard.pass.ghost_name ≡ pass.entry.ghost_name) }
-        ensures guards { IfOk result (λ guard.
-            Guards guard.lock.now (P.seats guard.parking.now) guard.pass.now guard.slot) }
-        ensures locked { IfOk result (λ guard.
-            Locked lock.now.when_full (acquires (P.did parking.now) Interruptible)
-            pass.old guard.slot guard.pass.now) }
+        ensures guards { IfOk result (λ guard. Owns (P.seats guard.parking.now) guard) }
+        ensures locked { IfOk result
+            (HasLocked lock.now.when_full (acquires (P.did parking.now) Interruptible) pass.old) }
         ensures kept { IfOk result (λ guard. Kept I.invariant guard.slot) }
     {
         Mutex::lock_interruptibly(pass, &lock.mutex, rt, parking)
@@ -313,16 +310,15 @@ impl<T: Drop, I: Keeps<T>> RwMutex<T, I> {
         lock: &'a RwMutex<T, I>,
         rt: &'a R,
         parking: &'a P,
-    ) -> Result<Guard<'a, T, P, R, I, RwHooks>, TryLockFault>
+    ) -> Result<Guard<'a, Shared<T>, P, R, Sharing<I>, RwHooks>, TryLockFault>
         requires can { CanLock lock.now (P.seats parking.now) pass.old }
         ensures* not_locked { sem 𝓛 (RestsIfErr the_row pass.entry (λ guard. guard.pass.ghost_name) result
             (λ last. NotLocked lock.now.when_full (tries (P.did parking.now))
             pass.old (yes_unless_missed result) last)) }
         ensures same_reference { IfOk result (λ guard. guard.pass.ghost_name ≡ pass.entry.ghost_name) }
-        ensures guards { IfOk result (λ guard.
-            Guards guard.lock.now (P.seats guard.parking.now) guard.pass.now guard.slot) }
-        ensures locked { IfOk result (λ guard.
-            Locked lock.now.when_full (tries (P.did parking.now)) pass.old guard.slot guard.pass.now) }
+        ensures guards { IfOk result (λ guard. Owns (P.seats guard.parking.now) guard) }
+        ensures locked { IfOk result
+            (HasLocked lock.now.when_full (tries (P.did parking.now)) pass.old) }
         ensures kept { IfOk result (λ guard. Kept I.invariant guard.slot) }
     {
         Mutex::try_lock(pass, &lock.mutex, rt, parking)
@@ -337,17 +333,15 @@ impl<T: Drop, I: Keeps<T>> RwMutex<T, I> {
         rt: &'a R,
         parking: &'a P,
         ms: u32,
-    ) -> Result<Guard<'a, T, P, R, I, RwHooks>, TryLockFault>
+    ) -> Result<Guard<'a, Shared<T>, P, R, Sharing<I>, RwHooks>, TryLockFault>
         requires can { CanLock lock.now (P.seats parking.now) pass.old }
         ensures* not_locked { sem 𝓛 (RestsIfErr the_row pass.entry (λ guard. guard.pass.ghost_name) result
             (λ last. NotLocked lock.now.when_full (acquires (P.did parking.now) (Timed ms))
             pass.old (yes_unless_missed result) last)) }
         ensures same_reference { IfOk result (λ guard. guard.pass.ghost_name ≡ pass.entry.ghost_name) }
-        ensures guards { IfOk result (λ guard.
-            Guards guard.lock.now (P.seats guard.parking.now) guard.pass.now guard.slot) }
-        ensures locked { IfOk result (λ guard.
-            Locked lock.now.when_full (acquires (P.did parking.now) (Timed ms))
-            pass.old guard.slot guard.pass.now) }
+        ensures guards { IfOk result (λ guard. Owns (P.seats guard.parking.now) guard) }
+        ensures locked { IfOk result
+            (HasLocked lock.now.when_full (acquires (P.did parking.now) (Timed ms)) pass.old) }
         ensures kept { IfOk result (λ guard. Kept I.invariant guard.slot) }
     {
         Mutex::try_lock_for(pass, &lock.mutex, rt, parking, ms)
@@ -361,175 +355,54 @@ impl<T: Drop, I: Keeps<T>> RwMutex<T, I> {
         rt: &'a R,
         parking: &'a P,
         moment: u64,
-    ) -> Result<Guard<'a, T, P, R, I, RwHooks>, TryLockFault>
+    ) -> Result<Guard<'a, Shared<T>, P, R, Sharing<I>, RwHooks>, TryLockFault>
         requires can { CanLock lock.now (P.seats parking.now) pass.old }
         ensures* not_locked { sem 𝓛 (RestsIfErr the_row pass.entry (λ guard. guard.pass.ghost_name) result
             (λ last. LastsUntil (P.did parking.now) moment
             (λ how. NotLocked lock.now.when_full (acquires (P.did parking.now) how)
             pass.old (yes_unless_missed result) last))) }
         ensures same_reference { IfOk result (λ guard. guard.pass.ghost_name ≡ pass.entry.ghost_name) }
-        ensures guards { IfOk result (λ guard.
-            Guards guard.lock.now (P.seats guard.parking.now) guard.pass.now guard.slot) }
+        ensures guards { IfOk result (λ guard. Owns (P.seats guard.parking.now) guard) }
         ensures locked { IfOk result (λ guard. LastsUntil (P.did parking.now) moment
-            (λ how. Locked lock.now.when_full (acquires (P.did parking.now) how)
-            pass.old guard.slot guard.pass.now)) }
+            (λ how. HasLocked lock.now.when_full (acquires (P.did parking.now) how) pass.old guard)) }
         ensures kept { IfOk result (λ guard. Kept I.invariant guard.slot) }
     {
         Mutex::try_lock_until(pass, &lock.mutex, rt, parking, moment)
     }
 }
 
-/// Each of these is called by a pass that doesn't write; it may read already. Afterwards it has one more read
-/// hold. After an `Err` it has as many as before. All passes together may have 65535 read holds; a call for
-/// more returns `Err(TooManyHolds)`; the other faults are the monitor's, as at [`Mutex`].
-impl<T: Drop, I: Keeps<T>> RwMutex<T, I> {
-    /// Waits until nobody writes. An interrupt doesn't end the wait, and stays pending. This is `ReadLock.lock()` of
-    /// Java SE 8.
-    pub fn read<P: Parking, R: Wait + Clock>(
-        &self,
-        rt: &R,
-        parking: &P,
-        pass: &mut Pass,
-    ) -> Result<(), Fault>
-        requires can { CanLock self.now (P.seats parking.now) pass.old }
-        ensures called { Called pass.old pass.new }
-        ensures returned { CallReturns self.now.when_full (reads_by (P.did parking.now) Plain) pass.old
-            pass.new
-            (with_yes result) }
-        ensures gains { GainsReads pass.old (with_yes result) pass.new }
+/// A writer, which may read too, and so become a reader.
+impl<'a, T: Drop, P: Parking, R: Wait + Clock, I: Keeps<T>> Guard<'a, Shared<T>, P, R, Sharing<I>, RwHooks> {
+    ghost use Rattle.guarded.specs.GuardLending.{LendsWritten};
+
+    /// Returns the value.
+    pub fn value(&self) -> &T
+        requires there { IsFull self.now.slot }
+        ensures value { Full result.now ≡ self.now.slot }
     {
-        self.mutex.read_by(rt, parking, pass, How::Plain)
+        self.slot.value().value()
     }
 
-    /// Waits until it reads, or is interrupted: `Err(Interrupted)`, also if an interrupt was pending. The interrupt
-    /// is taken. This is `ReadLock.lockInterruptibly()`.
-    pub fn read_interruptibly<P: Parking, R: Wait + Clock>(
-        &self,
-        rt: &R,
-        parking: &P,
-        pass: &mut Pass,
-    ) -> Result<(), Fault>
-        requires can { CanLock self.now (P.seats parking.now) pass.old }
-        ensures called { Called pass.old pass.new }
-        ensures returned { CallReturns self.now.when_full (reads_by (P.did parking.now) Interruptible)
-            pass.old pass.new
-            (with_yes result) }
-        ensures gains { GainsReads pass.old (with_yes result) pass.new }
+    /// Returns the value, to change it.
+    pub fn value_mut(&mut self) -> &mut T
+        requires there { IsFull self.old.slot }
+        ensures* lends { sem 𝓛 (LendsWritten T.row P.row R.row I.row I.Keeps self.entry result) }
+        ensures value { Full result.now ≡ self.old.slot }
     {
-        self.mutex.read_by(rt, parking, pass, How::Interruptible)
+        let rt = self.rt;
+        let shared = self.slot.value_mut();
+        shared.value_mut(rt)
     }
 
-    /// Acquires a read hold if no thread writes now. It overtakes waiters, under a fair policy too, but not under a
-    /// strict one.
-    /// This is `ReadLock.tryLock()`.
-    pub fn try_read<P: Parking, R: Wait + Clock>(
-        &self,
-        rt: &R,
-        parking: &P,
-        pass: &mut Pass,
-    ) -> Result<(), TryLockFault>
-        requires can { CanLock self.now (P.seats parking.now) pass.old }
-        ensures called { Called pass.old pass.new }
-        ensures returned { CallReturns self.now.when_full (tries_read (P.did parking.now)) pass.old pass.new
-            (yes_unless_missed result) }
-        ensures gains { GainsReads pass.old (yes_unless_missed result) pass.new }
-    {
-        self.mutex.try_read_by(rt, parking, pass, Reading::Try)
-    }
-
-    /// Waits for a read hold, for `ms` milliseconds at most, or until it is interrupted: `Err(Failed(Interrupted))`.
-    /// With 0 it doesn't wait, and under a fair or strict policy it doesn't overtake waiters. This is
-    /// `ReadLock.tryLock(time, unit)`.
-    pub fn try_read_for<P: Parking, R: Wait + Clock>(
-        &self,
-        rt: &R,
-        parking: &P,
-        pass: &mut Pass,
-        ms: u32,
-    ) -> Result<(), TryLockFault>
-        requires can { CanLock self.now (P.seats parking.now) pass.old }
-        ensures called { Called pass.old pass.new }
-        ensures returned { CallReturns self.now.when_full (reads_by (P.did parking.now) (Timed ms)) pass.old
-            pass.new
-            (yes_unless_missed result) }
-        ensures gains { GainsReads pass.old (yes_unless_missed result) pass.new }
-    {
-        self.mutex
-            .try_read_by(rt, parking, pass, Reading::Acquire(How::Timed(ms)))
-    }
-
-    /// [`try_read_for`](RwMutex::try_read_for) until a moment on the clock of the parking, which
-    /// `parking.now(rt)` shows. If that moment has come, the call doesn't wait.
-    pub fn try_read_until<P: Parking, R: Wait + Clock>(
-        &self,
-        rt: &R,
-        parking: &P,
-        pass: &mut Pass,
-        moment: u64,
-    ) -> Result<(), TryLockFault>
-        requires can { CanLock self.now (P.seats parking.now) pass.old }
-        ensures called { Called pass.old pass.new }
-        ensures returned { LastsUntil (P.did parking.now) moment (λ how. CallReturns self.now.when_full
-            (reads_by (P.did parking.now) how) pass.old pass.new (yes_unless_missed result)) }
-        ensures gains { GainsReads pass.old (yes_unless_missed result) pass.new }
-    {
-        let ms = milliseconds_left(rt, parking, moment);
-        self.try_read_for(rt, parking, pass, ms)
-    }
-}
-
-impl<T: Drop, I: Keeps<T>> RwMutex<T, I> {
-    /// Shows the value to `look`, in one turn of the lock. No other thread makes a call until `look` returns, so it
-    /// should be short. The pass keeps its read holds. The value meets the lock's invariant.
-    pub fn read_with<R: Wait, A, F: FnOnce(&T) -> A>(&self, rt: &R, pass: &mut Pass, look: F) -> A
-        requires is_of { pass.old.lock ≡ self.now.lock }
-        requires reads { 0 < reads pass.old }
-        requires free { holds pass.old ≡ 0 }
-        requires callable { F.IsAlwaysCallable look }
-        ensures looked { IsLook pass.old pass.new }
-        ensures reads { reads pass.new ≡ reads pass.old }
-        ensures keeps { holds pass.new ≡ holds pass.old }
-        ensures saw { Saw I.invariant (λ value answer. FnOnceReturnsAt F.FnOnce look value answer) pass.new
-            result }
-    {
-        self.mutex.look(rt, pass, look)
-    }
-
-    /// Releases a read hold. It never lacks room or memory. `Err(OutOfPhase)` if the pass is in the middle of
-    /// another call. No call of this crate leaves it there, but no contract says so. This is `ReadLock.unlock()`.
-    pub fn unread<P: Parking, R: Wait + Clock>(
-        &self,
-        rt: &R,
-        parking: &P,
-        pass: &mut Pass,
-    ) -> Result<(), Fault>
-        requires can { CanLock self.now (P.seats parking.now) pass.old }
-        requires reads { 0 < reads pass.old }
-        ensures called { Called pass.old pass.new }
-        ensures given { GivesRead (P.did parking.now) pass.old result pass.new }
-        ensures loses { reads pass.new + gained (with_yes result) ≡ reads pass.old }
-        ensures keeps { holds pass.new ≡ holds pass.old }
-    {
-        self.mutex.end_reading(rt, parking, pass)
-    }
-}
-
-/// A writer may read too, and so become a reader.
-impl<T: Drop, P: Parking, R: Wait + Clock, I: Keeps<T>> Guard<'_, T, P, R, I, RwHooks> {
     /// Acquires a read hold beside the write hold: `Ok(true)`, or a fault. This is `ReadLock.lock()` by the owner
     /// of the write lock.
     pub fn read(&mut self) -> Result<bool, Fault>
-        requires guards { Guards self.old.lock.now (P.seats self.old.parking.now) self.old.pass.now
-            self.old.slot }
+        requires guards { Owns (P.seats self.old.parking.now) self.old }
         ensures same_reference { self.new.pass.ghost_name ≡ self.old.pass.ghost_name }
         ensures same { IsSame self.old.pass.now self.new.pass.now }
-        ensures same_lock { (self.new.lock.now ≡ self.old.lock.now) ×
-            (self.new.parking.now ≡ self.old.parking.now) }
-        ensures guards { Guards self.new.lock.now (P.seats self.new.parking.now) self.new.pass.now
-            self.new.slot }
-        ensures returned { CallReturns self.old.lock.now.when_full
-            (reads_by (P.did self.old.parking.now) Plain)
-            self.old.pass.now self.new.pass.now result }
+        ensures same_lock { IsOfOneLock self.old self.new }
+        ensures guards { Owns (P.seats self.new.parking.now) self.new }
+        ensures returned { GuardReturns (reads_by (P.did self.old.parking.now) Plain) self.old self.new result }
         ensures gains { GainsReads self.old.pass.now result self.new.pass.now }
         ensures value { self.new.slot ≡ self.old.slot }
     {
@@ -539,8 +412,9 @@ impl<T: Drop, P: Parking, R: Wait + Clock, I: Keeps<T>> Guard<'_, T, P, R, I, Rw
 
     /// Unlocks now, and keeps the read holds: a writer becomes a reader, and no other writer comes in
     /// between. It can't fail. This is `WriteLock.unlock()` by an owner that reads too.
+    /// [`ReadGuard::of`](crate::ReadGuard::of) makes the reader's guard.
     pub fn downgrade(self)
-        requires guards { Guards self.lock.now (P.seats self.parking.now) self.pass.now self.slot }
+        requires guards { Owns (P.seats self.parking.now) self }
         requires last { holds self.pass.now ≡ 1 }
         requires kept { Kept I.invariant self.slot }
         ensures free { holds self.exit.0.now ≡ 0 }

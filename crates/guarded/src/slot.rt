@@ -26,7 +26,7 @@ impl<T: Drop, I: Keeps<T>> Slot<T, I> {
 
     pub(crate) fn value(&self) -> &T
         requires { IsFull self.now }
-        ensures { Full result.now ≡ self.now }
+        ensures value { Full result.now ≡ self.now }
     {
         match self {
             Slot::Full(value) => value,

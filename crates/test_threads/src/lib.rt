@@ -16,6 +16,8 @@ mod plays;
 #[cfg(test)]
 mod predicates;
 #[cfg(test)]
+mod readers;
+#[cfg(test)]
 mod rounds;
 #[cfg(test)]
 mod storms;

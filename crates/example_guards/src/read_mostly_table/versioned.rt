@@ -1,11 +1,10 @@
 //! The table, and the threads at it.
-ghost use Rattle.std.specs.Prelude.{◌≡◌, ◌<◌, ◌≤◌, ◌+◌, ◌%◌, ◌^◌, IfErr, IfOk, IfSome, replicate};
-ghost use Rattle.guarded.specs.Reading.{reads};
+ghost use Rattle.std.specs.Prelude.{◌≡◌, ◌≤◌, ◌+◌, ◌%◌, ◌^◌, IfErr, IfOk, IfSome, replicate};
 ghost use Rattle.history.specs.declared.fault.Fault.TheVariants.{OutOfMemory};
 ghost use Rattle.monitor.specs.Stepping.{IsSame};
 ghost use Rattle.monitor_fronts.specs.Holding.{holds};
 
-use guarded::RwMutex;
+use guarded::{ReadGuard, RwMutex};
 use history::fault::Fault;
 use monitor::Pass;
 use permit::ThreadParking;
@@ -109,33 +108,6 @@ pub struct Worker {
     pub tally: Tally,
 }
 
-/// Reads the table with a read hold, and releases the hold. Returns the versions of the first row and the
-/// last.
-fn see_and_unread<R: Wait + Clock>(
-    rt: &R,
-    parking: &ThreadParking,
-    lock: &RwMutex<Table>,
-    pass: &mut Pass,
-) -> Result<(u64, u64), Fault>
-    requires is_of { pass.old.lock ≡ lock.now.lock }
-    requires places { lock.now.lock.header.seats ≤ parking.now }
-    requires reads { 0 < reads pass.old }
-    requires free { holds pass.old ≡ 0 }
-    ensures same { IsSame pass.old pass.new }
-    ensures free { holds pass.new ≡ 0 }
-    ensures whole { IfOk result (λ seen. seen.0 ≡ seen.1) }
-{
-    let seen = lock.read_with(
-        rt,
-        pass,
-        |table: &Table| -> (u64, u64)
-            ensures { result.0 ≡ result.1 }
-        { table.ends() },
-    );
-    lock.unread(rt, parking, pass)?;
-    Ok(seen)
-}
-
 /// Reads the table, together with other readers. Returns the versions of the first row and the last.
 fn look<R: Wait + Clock>(
     rt: &R,
@@ -150,8 +122,8 @@ fn look<R: Wait + Clock>(
     ensures free { holds pass.new ≡ 0 }
     ensures whole { IfOk result (λ seen. seen.0 ≡ seen.1) }
 {
-    lock.read(rt, parking, pass)?;
-    see_and_unread(rt, parking, lock, pass)
+    let table = RwMutex::read(pass, lock, rt, parking)?;
+    Ok(table.value().ends())
 }
 
 /// What an update came to.
@@ -184,11 +156,9 @@ fn update<R: Wait + Clock>(
         return Ok(Updated { made, seen: None });
     }
     guard.downgrade();
-    let seen = see_and_unread(rt, parking, lock, pass)?;
-    Ok(Updated {
-        made,
-        seen: Some(seen),
-    })
+    let table = ReadGuard::of(pass, lock, rt, parking);
+    let seen = Some(table.value().ends());
+    Ok(Updated { made, seen })
 }
 
 /// One turn of a thread.

@@ -1,0 +1,230 @@
+//! How a pass comes to read a value that a read-write lock guards, and a reader's side of it.
+ghost use Rattle.std.specs.Prelude.{◌≡◌, ◌<◌, IfOk};
+ghost use Rattle.std.specs.Borrow.{sem, RestsIfErr};
+ghost use Rattle.monitor.specs.contracts.pass.Pass.{the_row};
+ghost use Rattle.monitor.specs.declared.how.How.TheVariants.{Plain, Interruptible, Timed};
+ghost use Rattle.monitor.specs.Observing.{IsLook};
+ghost use Rattle.monitor_fronts.specs.FrontCalls.{LastsUntil};
+ghost use Rattle.monitor_fronts.specs.Holding.{with_yes};
+ghost use Rattle.guarded.specs.Guarding.{CanLock, yes_unless_missed};
+ghost use Rattle.guarded.specs.Reading.{AsksToRead, EndsReading, Reads, ReadsBy, Saw, reads, reads_by, tries_read};
+
+use crate::keeps::{Any, Keeps};
+use crate::rw_mutex::RwMutex;
+use crate::shared::Shared;
+use crate::try_lock::TryLockFault;
+use history::fault::Fault;
+use monitor::{How, Pass};
+use monitor_fronts::milliseconds_left;
+use permit::Parking;
+use std::ops::Deref;
+use std::sync::Wait;
+use std::time::Clock;
+
+/// The value of a read-write lock, with one of its readers. Others may read at the same time, and nobody writes.
+/// Dropping it gives the read hold back. `&*guard` may be lent to other threads.
+///
+/// It borrows its pass, so the pass makes no other call while the guard lives. `S` is the share of the value, which is
+/// dropped before the hold is given back.
+pub struct ReadGuard<
+    'a,
+    T: Drop,
+    P: Parking,
+    R: Wait + Clock,
+    I: Keeps<T> = Any,
+    S: Drop = Shared<T>,
+> {
+    pub(crate) pass: &'a mut Pass,
+    pub(crate) share: S,
+    pub(crate) lock: &'a RwMutex<T, I>,
+    pub(crate) rt: &'a R,
+    pub(crate) parking: &'a P,
+}
+
+impl<'a, T: Drop, P: Parking, R: Wait + Clock, I: Keeps<T>> ReadGuard<'a, T, P, R, I> {
+    /// The guard of a read hold that the pass has already, as that of a writer that read too.
+    pub fn of(
+        pass: &'a mut Pass,
+        lock: &'a RwMutex<T, I>,
+        rt: &'a R,
+        parking: &'a P,
+    ) -> ReadGuard<'a, T, P, R, I>
+        requires can { CanLock lock.now (P.seats parking.now) pass.old }
+        requires some { 0 < reads pass.old }
+        ensures same_reference { result.pass.ghost_name ≡ pass.entry.ghost_name }
+        ensures looked { IsLook pass.old result.pass.now }
+        ensures reads { Reads (P.seats result.parking.now) result }
+        ensures saw { Saw I.invariant result.pass.now result.share }
+    {
+        let share = lock.mutex.look(rt, pass);
+        ReadGuard {
+            pass,
+            share,
+            lock,
+            rt,
+            parking,
+        }
+    }
+
+    /// Returns the value. It is the same at each look.
+    pub fn value(&self) -> &T
+        ensures { result.now ≡ self.now.share }
+    {
+        self.share.value()
+    }
+
+    /// Gives the read hold back now. This is `ReadLock.unlock()`.
+    pub fn unread(self)
+        requires reads { Reads (P.seats self.parking.now) self }
+        ensures ends { EndsReading (P.did self.entry.parking.now) self.entry.pass.now self.exit.0.now }
+    {}
+}
+
+impl<'a, T: Drop, P: Parking, R: Wait + Clock, I: Keeps<T>> Deref for ReadGuard<'a, T, P, R, I> {
+    type Target = T;
+
+    ghost deref_gives = { λ guard value. value ≡ guard.share };
+
+    fn deref(&self) -> &T {
+        self.value()
+    }
+}
+
+impl<T: Drop, P: Parking, R: Wait + Clock, I: Keeps<T>, S: Drop> Drop
+    for ReadGuard<'_, T, P, R, I, S> {
+    fn drop(self)
+        requires reads { Reads (P.seats self.parking.now) self }
+        ensures ends { EndsReading (P.did self.entry.parking.now) self.entry.pass.now self.exit.0.now }
+    {
+        let ReadGuard {
+            pass,
+            share,
+            lock,
+            rt,
+            parking,
+        } = self;
+        drop(share);
+        lock.mutex.end_reading(rt, parking, pass);
+    }
+}
+
+/// Each of these is called by a pass that doesn't write, and returns a guard, which lends the value. After an `Err` the
+/// pass has as many read holds as before. All passes together may have 65535 read holds; a call for more returns
+/// `Err(TooManyHolds)`; the other faults are those of [`Mutex`](crate::Mutex).
+///
+/// The pass is the first argument, as in `RwMutex::read(pass, &lock, rt, parking)`, since the guard borrows it.
+impl<T: Drop, I: Keeps<T>> RwMutex<T, I> {
+    /// Waits until nobody writes. An interrupt doesn't end the wait, and stays pending. This is `ReadLock.lock()` of
+    /// Java SE 8.
+    pub fn read<'a, P: Parking, R: Wait + Clock>(
+        pass: &'a mut Pass,
+        lock: &'a RwMutex<T, I>,
+        rt: &'a R,
+        parking: &'a P,
+    ) -> Result<ReadGuard<'a, T, P, R, I>, Fault>
+        requires can { CanLock lock.now (P.seats parking.now) pass.old }
+        ensures* not_read { sem 𝓛 (RestsIfErr the_row pass.entry (λ guard. guard.pass.ghost_name) result
+            (AsksToRead lock.now.when_full (reads_by (P.did parking.now) Plain) pass.old (with_yes result))) }
+        ensures same_reference { IfOk result (λ guard. guard.pass.ghost_name ≡ pass.entry.ghost_name) }
+        ensures reads { IfOk result (λ guard. Reads (P.seats guard.parking.now) guard) }
+        ensures asked { IfOk result (λ guard. ReadsBy lock.now.when_full (reads_by (P.did parking.now) Plain)
+            pass.old guard.pass.now) }
+        ensures saw { IfOk result (λ guard. Saw I.invariant guard.pass.now guard.share) }
+    {
+        lock.mutex.read_by(rt, parking, pass, How::Plain)?;
+        Ok(ReadGuard::of(pass, lock, rt, parking))
+    }
+
+    /// Waits until it reads, or is interrupted: `Err(Interrupted)`, also if an interrupt was pending. The interrupt
+    /// is taken. This is `ReadLock.lockInterruptibly()`.
+    pub fn read_interruptibly<'a, P: Parking, R: Wait + Clock>(
+        pass: &'a mut Pass,
+        lock: &'a RwMutex<T, I>,
+        rt: &'a R,
+        parking: &'a P,
+    ) -> Result<ReadGuard<'a, T, P, R, I>, Fault>
+        requires can { CanLock lock.now (P.seats parking.now) pass.old }
+        ensures* not_read { sem 𝓛 (RestsIfErr the_row pass.entry (λ guard. guard.pass.ghost_name) result
+            (AsksToRead lock.now.when_full (reads_by (P.did parking.now) Interruptible) pass.old
+            (with_yes result))) }
+        ensures same_reference { IfOk result (λ guard. guard.pass.ghost_name ≡ pass.entry.ghost_name) }
+        ensures reads { IfOk result (λ guard. Reads (P.seats guard.parking.now) guard) }
+        ensures asked { IfOk result (λ guard. ReadsBy lock.now.when_full
+            (reads_by (P.did parking.now) Interruptible) pass.old guard.pass.now) }
+        ensures saw { IfOk result (λ guard. Saw I.invariant guard.pass.now guard.share) }
+    {
+        let how = How::Interruptible;
+        lock.mutex.read_by(rt, parking, pass, how)?;
+        Ok(ReadGuard::of(pass, lock, rt, parking))
+    }
+
+    /// Reads if no thread writes now. It overtakes waiters, under a fair policy too, but not under a strict one. This
+    /// is `ReadLock.tryLock()`.
+    pub fn try_read<'a, P: Parking, R: Wait + Clock>(
+        pass: &'a mut Pass,
+        lock: &'a RwMutex<T, I>,
+        rt: &'a R,
+        parking: &'a P,
+    ) -> Result<ReadGuard<'a, T, P, R, I>, TryLockFault>
+        requires can { CanLock lock.now (P.seats parking.now) pass.old }
+        ensures* not_read { sem 𝓛 (RestsIfErr the_row pass.entry (λ guard. guard.pass.ghost_name) result
+            (AsksToRead lock.now.when_full (tries_read (P.did parking.now)) pass.old
+            (yes_unless_missed result))) }
+        ensures same_reference { IfOk result (λ guard. guard.pass.ghost_name ≡ pass.entry.ghost_name) }
+        ensures reads { IfOk result (λ guard. Reads (P.seats guard.parking.now) guard) }
+        ensures asked { IfOk result (λ guard. ReadsBy lock.now.when_full (tries_read (P.did parking.now))
+            pass.old guard.pass.now) }
+        ensures saw { IfOk result (λ guard. Saw I.invariant guard.pass.now guard.share) }
+    {
+        lock.mutex.try_read_by(rt, parking, pass, None)?;
+        Ok(ReadGuard::of(pass, lock, rt, parking))
+    }
+
+    /// Waits for a read hold, for `ms` milliseconds at most, or until it is interrupted: `Err(Failed(Interrupted))`.
+    /// With 0 it doesn't wait, and under a fair or strict policy it doesn't overtake waiters. This is
+    /// `ReadLock.tryLock(time, unit)`.
+    pub fn try_read_for<'a, P: Parking, R: Wait + Clock>(
+        pass: &'a mut Pass,
+        lock: &'a RwMutex<T, I>,
+        rt: &'a R,
+        parking: &'a P,
+        ms: u32,
+    ) -> Result<ReadGuard<'a, T, P, R, I>, TryLockFault>
+        requires can { CanLock lock.now (P.seats parking.now) pass.old }
+        ensures* not_read { sem 𝓛 (RestsIfErr the_row pass.entry (λ guard. guard.pass.ghost_name) result
+            (AsksToRead lock.now.when_full (reads_by (P.did parking.now) (Timed ms)) pass.old
+            (yes_unless_missed result))) }
+        ensures same_reference { IfOk result (λ guard. guard.pass.ghost_name ≡ pass.entry.ghost_name) }
+        ensures reads { IfOk result (λ guard. Reads (P.seats guard.parking.now) guard) }
+        ensures asked { IfOk result (λ guard. ReadsBy lock.now.when_full
+            (reads_by (P.did parking.now) (Timed ms)) pass.old guard.pass.now) }
+        ensures saw { IfOk result (λ guard. Saw I.invariant guard.pass.now guard.share) }
+    {
+        let how = Some(How::Timed(ms));
+        lock.mutex.try_read_by(rt, parking, pass, how)?;
+        Ok(ReadGuard::of(pass, lock, rt, parking))
+    }
+
+    /// [`try_read_for`](RwMutex::try_read_for) until a moment on the clock of the parking, which
+    /// `parking.now(rt)` shows. If that moment has come, the call doesn't wait.
+    pub fn try_read_until<'a, P: Parking, R: Wait + Clock>(
+        pass: &'a mut Pass,
+        lock: &'a RwMutex<T, I>,
+        rt: &'a R,
+        parking: &'a P,
+        moment: u64,
+    ) -> Result<ReadGuard<'a, T, P, R, I>, TryLockFault>
+        requires can { CanLock lock.now (P.seats parking.now) pass.old }
+        ensures* not_read { sem 𝓛 (RestsIfErr the_row pass.entry (λ guard. guard.pass.ghost_name) result
+            (λ last. LastsUntil (P.did parking.now) moment (λ how. AsksToRead lock.now.when_full
+            (reads_by (P.did parking.now) how) pass.old (yes_unless_missed result) last))) }
+        ensures same_reference { IfOk result (λ guard. guard.pass.ghost_name ≡ pass.entry.ghost_name) }
+        ensures reads { IfOk result (λ guard. Reads (P.seats guard.parking.now) guard) }
+        ensures asked { IfOk result (λ guard. LastsUntil (P.did parking.now) moment (λ how.
+            ReadsBy lock.now.when_full (reads_by (P.did parking.now) how) pass.old guard.pass.now)) }
+        ensures saw { IfOk result (λ guard. Saw I.invariant guard.pass.now guard.share) }
+    {
+        let ms = milliseconds_left(rt, parking, moment);
+        RwMutex::try_read_for(pass, lock, rt, parking, ms)
+    }
+}
