@@ -94,8 +94,8 @@ impl<T: Drop, P: Parking, R: Wait + Clock, I: Keeps<T>, H: Hooks + Drop> Guard<'
         ensures kept { Kept I.invariant self.new.slot }
         ensures keeps { holds self.new.pass.now ≡ holds self.old.pass.now }
         ensures value { IfErr result (λ fault. fault ≢ Interrupted → self.new.slot ≡ self.old.slot) }
-        ensures awaited { GuardReturns (awaits (P.did self.old.parking.now) condition Interruptible) self.old self.new
-            result }
+        ensures awaited { GuardReturns (awaits (P.did self.old.parking.now) condition Interruptible)
+            self.old self.new result }
     {
         let pass = &mut *self.pass;
         let how = How::Interruptible;
@@ -114,8 +114,8 @@ impl<T: Drop, P: Parking, R: Wait + Clock, I: Keeps<T>, H: Hooks + Drop> Guard<'
         ensures kept { Kept I.invariant self.new.slot }
         ensures keeps { holds self.new.pass.now ≡ holds self.old.pass.now }
         ensures value { IfErr result (λ fault. fault ≢ Interrupted → self.new.slot ≡ self.old.slot) }
-        ensures awaited { GuardReturns (awaits (P.did self.old.parking.now) condition (Timed ms)) self.old self.new
-            result }
+        ensures awaited { GuardReturns (awaits (P.did self.old.parking.now) condition (Timed ms))
+            self.old self.new result }
     {
         let pass = &mut *self.pass;
         let how = How::Timed(ms);
@@ -154,8 +154,8 @@ impl<T: Drop, P: Parking, R: Wait + Clock, I: Keeps<T>, H: Hooks + Drop> Guard<'
         ensures kept { Kept I.invariant self.new.slot }
         ensures keeps { holds self.new.pass.now ≡ holds self.old.pass.now }
         ensures value { IfErr result (λ fault. fault ≢ Interrupted → self.new.slot ≡ self.old.slot) }
-        ensures awaited { GuardReturns (awaits (P.did self.old.parking.now) condition Plain) self.old self.new
-            result }
+        ensures awaited { GuardReturns (awaits (P.did self.old.parking.now) condition Plain)
+            self.old self.new result }
     {
         let pass = &mut *self.pass;
         let how = How::Plain;

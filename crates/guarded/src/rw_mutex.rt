@@ -175,7 +175,7 @@ impl<T: Drop, I: Keeps<T>> RwMutex<T, I> {
         seats: u16,
         options: Options,
     ) -> Result<(RwMutex<T, I>, Vec<Pass>), Fault>
-        requires range { IsInRange (header_of (ReadWrite options.policy) seats options.conditions options.cap) }
+        requires fit { IsInRange (header_of (ReadWrite options.policy) seats options.conditions options.cap) }
         requires kept { I.invariant value }
         ensures opened { IfOk result (λ r. IsOpened (ReadWrite options.policy) options.when_full seats
             options.conditions options.cap r.0 r.1.items) }
@@ -196,7 +196,7 @@ impl<T: Drop, I: Keeps<T>> RwMutex<T, I> {
         seats: u16,
         options: Options,
     ) -> Result<(RwMutex<T, I>, Vec<Pass>), (Shared<T>, Fault)>
-        requires range { IsInRange (header_of (ReadWrite options.policy) seats options.conditions options.cap) }
+        requires fit { IsInRange (header_of (ReadWrite options.policy) seats options.conditions options.cap) }
         requires kept { I.invariant shared }
         ensures opened { IfOk result (λ r. IsOpened (ReadWrite options.policy) options.when_full seats
             options.conditions options.cap r.0 r.1.items) }
@@ -206,7 +206,14 @@ impl<T: Drop, I: Keeps<T>> RwMutex<T, I> {
             return Err((shared, Fault::OutOfMemory));
         };
         let when_full = options.when_full;
-        match Monitor::open_with(alloc, hooks, Slot::Full(shared), seats, options.conditions, options.cap) {
+        match Monitor::open_with(
+            alloc,
+            hooks,
+            Slot::Full(shared),
+            seats,
+            options.conditions,
+            options.cap,
+        ) {
             Ok((monitor, passes)) => {
                 let mutex = Mutex { monitor, when_full };
                 Ok((RwMutex { mutex }, passes))
@@ -372,7 +379,14 @@ impl<T: Drop, I: Keeps<T>> RwMutex<T, I> {
 }
 
 /// A writer, which may read too, and so become a reader.
-impl<'a, T: Drop, P: Parking, R: Wait + Clock, I: Keeps<T>> Guard<'a, Shared<T>, P, R, Sharing<I>, RwHooks> {
+impl<'a, T: Drop, P: Parking, R: Wait + Clock, I: Keeps<T>> Guard<
+    'a,
+    Shared<T>,
+    P,
+    R,
+    Sharing<I>,
+    RwHooks,
+> {
     ghost use Rattle.guarded.specs.GuardLending.{LendsWritten};
 
     /// Returns the value.
@@ -402,7 +416,8 @@ impl<'a, T: Drop, P: Parking, R: Wait + Clock, I: Keeps<T>> Guard<'a, Shared<T>,
         ensures same { IsSame self.old.pass.now self.new.pass.now }
         ensures same_lock { IsOfOneLock self.old self.new }
         ensures guards { Owns (P.seats self.new.parking.now) self.new }
-        ensures returned { GuardReturns (reads_by (P.did self.old.parking.now) Plain) self.old self.new result }
+        ensures returned { GuardReturns (reads_by (P.did self.old.parking.now) Plain)
+            self.old self.new result }
         ensures gains { GainsReads self.old.pass.now result self.new.pass.now }
         ensures value { self.new.slot ≡ self.old.slot }
     {

@@ -100,7 +100,8 @@
 #![tactic(auto)]
 
 pub use guarded::{
-    Any, Guard, ItemFault, Keeps, Mutex, Options, Pool, ReadGuard, RwMutex, Shared, Sharing, TryLockFault, View,
+    Any, Guard, ItemFault, Keeps, Mutex, Options, Pool, ReadGuard, RwMutex, Shared, Sharing,
+    TryLockFault, View,
 };
 pub use history::entries::History;
 pub use history::fault::Fault;

@@ -39,7 +39,16 @@ fn refusals_of_mutex<R: Abort + AllocGlobal>(rt: &R, memory: &mut Memory) -> usi
 /// Returns how often a read-write lock with two threads and a condition is refused memory.
 fn refusals_of_rw_mutex<R: Abort + AllocGlobal + Wait>(rt: &R, memory: &mut Memory) -> usize {
     for refused in 0..MOST {
-        match RwMutex::open(rt, rt.alloc(), VALUE, Policy::Fair, WhenFull::Trim, 2, 1, 16) {
+        match RwMutex::open(
+            rt,
+            rt.alloc(),
+            VALUE,
+            Policy::Fair,
+            WhenFull::Trim,
+            2,
+            1,
+            16,
+        ) {
             Ok((_lock, passes)) => {
                 assert_eq!(rt; passes.len(), 2);
                 return refused;
