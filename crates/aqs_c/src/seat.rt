@@ -69,7 +69,6 @@ impl Seat {
     }
 
     /// One step, if the seat is in no call and the step is done at once.
-    #[tactic(auto, using(crate::proofs::SeatTurns::seat_stays))]
     pub(crate) fn step_at_once(&mut self, step: AqsStep) -> u32
         ensures { IsSeatStepAtOnce self.old step result self.new }
     {
@@ -181,7 +180,6 @@ fn step_idle(monitor: &Monitor<AnyHooks>, pass: &mut Pass, step: AqsStep) -> Aqs
 }
 
 // An acquire or a release of such a seat, if it is done at once. Each has a copy of the code that is made for it.
-#[tactic(auto, using(crate::proofs::SeatTurns::seat_stays))]
 fn step_idle_at_once(monitor: &Monitor<AnyHooks>, pass: &mut Pass, step: AqsStep) -> u32
     requires of { pass.old.lock ≡ monitor.now }
     ensures of { pass.new.lock ≡ monitor.now }
