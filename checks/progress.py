@@ -6,10 +6,12 @@
 - With a pipe, a file or nothing as standard error, nothing is written there, and with a terminal the output is the same
   to the byte: to standard output, to a file, and as a JSON object.
 - A fault has its one line on a terminal too. A text of 50 MB has no line.
+- A run that goes on for 10 seconds says on a terminal how its threads stand, and a pipe is told nothing.
 
 The last line is 'N passed, M failed'.
 """
 
+import concurrent.futures
 import os
 import pathlib
 import pty
@@ -19,6 +21,7 @@ import sys
 import tempfile
 import termios
 import threading
+import time
 
 SECONDS = 120
 STEP = 50_000_000
@@ -82,6 +85,48 @@ def keyboard(program):
     with Terminal() as seen:
         done = subprocess.run([program], stdin=subprocess.DEVNULL, stderr=seen.end, timeout=SECONDS)
     yield "no keyboard", told not in seen.said
+
+
+def script_of(call):
+    """A script whose one thread makes a call of a semaphore that has no permits."""
+    objects = '{"objects": [["never", "semaphore fair seats 1 permits 0 cap 16"]], '
+    return f'{objects}"threads": [{{"repeat": 1, "calls": ["never {call}"]}}]}}'.encode()
+
+
+def told_of(call):
+    """What a terminal is told of such a run after 10 seconds."""
+    return (b"aqs: not ended after 10000 milliseconds; a thread may be about to go on\n"
+            b"thread 0 calls 0 of 1 waits in never %s\n"
+            b"aqs: the run goes on; Ctrl-C ends it, and --timeout M ends a run after M milliseconds\n" % call.encode())
+
+
+def long_runs(program):
+    """A long run says on a terminal, once, how its threads stand and which option ends it, and goes on."""
+    call = "acquire-timed s 1 20000"
+    asked = ([], ["--object", "never"], ["--unrecorded"], ["--timeout", "15000"])
+    with concurrent.futures.ThreadPoolExecutor() as pool:
+        loud, quiet = ([pool.submit(answer, program, ["run", *words], script_of(call), on_terminal=it) for words in asked]
+                       for it in (True, False))
+        short = pool.submit(answer, program, ["run"], script_of("try s 1"))
+    for words, on, off in zip(asked, loud, quiet):
+        status, output, said = on.result()
+        is_timed = "--timeout" in words
+        yield f"run {words}: a pipe is told nothing", off.result() == (is_timed, output, b"") and output != b""
+        yield f"run {words}: a terminal is told", (status, said) == (is_timed, b"" if is_timed else told_of(call))
+    yield "a short run tells nothing", short.result()[::2] == (0, b"")
+    with Terminal() as seen:
+        run = subprocess.Popen([program, "run"], stdin=subprocess.PIPE, stdout=subprocess.PIPE, stderr=seen.end)
+        run.stdin.write(script_of("acquire s 1"))
+        run.stdin.close()
+        for _ in range(10 * SECONDS):
+            if seen.said == told_of("acquire s 1"):
+                break
+            time.sleep(0.1)
+        is_on = run.poll() is None
+        run.kill()
+        output = run.stdout.read()
+        run.wait()
+    yield "a run that waits for ever", is_on and (output, seen.said) == (b"", told_of("acquire s 1"))
 
 
 def shown(said):
@@ -148,6 +193,7 @@ def results(program, scratch):
     yield "audit of standard input", told[:2] == quiet[:2] and quiet[2] == b"" and ends == b"" and is_told(lines, None)
     yield from into_files(program, history, scratch)
     yield from keyboard(program)
+    yield from long_runs(program)
     yield from with_faults(program, text, scratch)
     yield from on_one_terminal(program, history)
     short = scratch / "short.history"

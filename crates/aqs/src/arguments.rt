@@ -25,7 +25,7 @@ pub struct Asked {
     pub output: Option<String>,
     /// The file with the names of seats and conditions, if one is named.
     pub names: Option<String>,
-    /// What else is asked of a run, if its command line has such options.
+    /// What else is asked of a run, if its command line has such options or a terminal is told of it.
     pub options: Option<RunOptions>,
 }
 
@@ -227,13 +227,18 @@ fn keep_in(options: &ArgMatches<'_>) -> Keep {
 }
 
 /// Returns what else a run is asked for. A history text has no place for answers that no history records.
-fn options_in(alloc: Global, options: &ArgMatches<'_>) -> Result<Option<RunOptions>, Fault> {
+fn options_in(
+    alloc: Global,
+    options: &ArgMatches<'_>,
+    is_told: bool,
+) -> Result<Option<RunOptions>, Fault> {
     let timeout = timeout_in(options)?;
     let object = object_in(alloc, options)?;
     let dir = file_in(alloc, options, "dir")?;
     let keep = keep_in(options);
+    let is_plain = timeout.is_none() && object.is_none() && dir.is_none();
     match keep {
-        Keep::Count if timeout.is_none() && object.is_none() && dir.is_none() => Ok(None),
+        Keep::Count if is_plain && !is_told => Ok(None),
         Keep::Each if object.is_some() => Err(Fault::Usage),
         _ => Ok(Some(RunOptions {
             timeout,
@@ -245,7 +250,7 @@ fn options_in(alloc: Global, options: &ArgMatches<'_>) -> Result<Option<RunOptio
 }
 
 /// Returns what the parsed words ask for. Without a command, standard input is replayed.
-fn asked_by(alloc: Global, words: &ArgMatches<'_>) -> Result<Asked, Fault> {
+fn asked_by(alloc: Global, words: &ArgMatches<'_>, is_told: bool) -> Result<Asked, Fault> {
     let Some((name, options)) = words.subcommand() else {
         return Ok(Asked {
             job: Job::Answer(Task::Replay(Form::Replay)),
@@ -270,7 +275,7 @@ fn asked_by(alloc: Global, words: &ArgMatches<'_>) -> Result<Asked, Fault> {
         _ => None,
     };
     let options = match job {
-        Job::Run => options_in(alloc, options)?,
+        Job::Run => options_in(alloc, options, is_told)?,
         Job::Answer(_) | Job::Explain(_, _) | Job::Tell(_) => None,
     };
     Ok(Asked {
@@ -282,9 +287,10 @@ fn asked_by(alloc: Global, words: &ArgMatches<'_>) -> Result<Asked, Fault> {
     })
 }
 
-/// Returns what the words of a command line ask for. The first word is the program's name.
-pub fn arguments<S: AsStr>(alloc: Global, words: &[S]) -> Result<Asked, Fault> {
+/// Returns what the words of a command line ask for. The first word is the program's name. `is_told` says whether
+/// a terminal is told of a run.
+pub fn arguments<S: AsStr>(alloc: Global, words: &[S], is_told: bool) -> Result<Asked, Fault> {
     let program = program(alloc)?;
     let words = program.try_get_matches_from(words).map_err(fault_of)?;
-    asked_by(alloc, &words)
+    asked_by(alloc, &words, is_told)
 }

@@ -1,22 +1,11 @@
 //! The program `aqs`: replays the steps of a synchroniser's seats, audits and draws histories, and runs
 //! threads.
 //!
-//! `aqs replay [FILE]` reads a steps text, from standard input if no file is named. It writes the replay text
-//! to standard output, or with `--history` the history text. `aqs audit [FILE]` reads a history text and
-//! writes its audit text. The exit status is 1 if the history isn't legal. `aqs draw [FILE]` writes a picture
-//! of a history as an SVG document, with the same status; with `--page` it writes a page of HTML that steps
-//! through the entries. `--names` names the file with names of seats and conditions, and `--from` and `--to`
-//! choose entries. `aqs explain [FILE]` explains the first entry that isn't legal, or the one of `--at`, with
-//! the same status. Of any other text it says where it is wrong, of a file that can't be read why, with
-//! status 1. `aqs summary [FILE]` sums a history up, seat by seat, with the status of its verdict. `aqs run
-//! [FILE]` reads a script and runs its threads. It writes the history of each of its objects, with the
-//! audit's lines on it; with `--object` the history of one object alone. `--dir` leaves the histories in a
-//! folder too, and `--unrecorded` lists the answers that no history records. With `--timeout` it says how the
-//! threads stand if they have not ended in time, with status 1. `aqs manual` and `aqs about` write pages.
-//! Without any words the program replays. With `--json` an audit, an explanation or a summary is one JSON
-//! object. With `-o FILE` what a command writes goes to a file. A fault is printed on standard error, in one
-//! line. Nothing has been written then, unless writing itself failed. While a long text is read, and standard
-//! error is a terminal, a line there says how much was read.
+//! `aqs manual` says what each command does. The exit status is 1 for a history that isn't legal, for a text or
+//! a file of which an explanation says what is wrong, and for a run that didn't end in time. A fault is printed
+//! on standard error, in one line. Nothing has been written then, unless writing itself failed. If standard
+//! error is a terminal, a line there says how much of a long text was read, and lines there how the threads of a
+//! long run stand.
 #![tactic(auto)]
 
 ghost use Rattle.std.specs.Prelude.{◌≡◌, ◌↔◌, Ok, false, IfErr, IfOk, IfSome, IsErrOf, IsTrue};
@@ -69,7 +58,6 @@ use tasks::perform::perform_with;
 use tasks::ran::Ran;
 use tasks::run_script::{run_script, script_of};
 use tasks::timed::{Timed, run_within, tell_late};
-use workers::Keep;
 
 /// What is said on a terminal if only the program's name was given.
 const KEYBOARD: &[u8] =
@@ -110,12 +98,7 @@ fn work<R: AllocGlobal + Threads + Wait + Clock + Sync, S: Source, W: Sink>(
 }
 
 /// Does a job, with the text from a reader. The terminal is told how much of the text was read.
-fn finish<
-    R: AllocGlobal + Threads + Wait + Clock + Sync,
-    I: Read + Drop,
-    E: IsTerminal + Write + Drop,
-    W: Sink,
->(
+fn finish<R: AllocGlobal + Threads + Wait + Clock + Sync, I: Read + Drop, E: Write + Drop, W: Sink>(
     rt: &R,
     job: Job,
     names: &Names,
@@ -183,21 +166,8 @@ fn write_ran<R: AllocGlobal, W: Sink>(
     }
 }
 
-/// Runs the threads of a script to their ends, or for a limited time.
-fn timed<R: AllocGlobal + Threads + Wait + Clock + Sync + Send + Copy + 'static>(
-    rt: &R,
-    script: Arc<Script>,
-    timeout: Option<u32>,
-    keep: Keep,
-) -> Result<Timed, Fault> {
-    match timeout {
-        None => Ok(Timed::Ended(Ran::of(rt, script, keep)?)),
-        Some(milliseconds) => run_within(rt, script, milliseconds, keep),
-    }
-}
-
 /// Returns the script of a reader. The terminal is told how much of it was read.
-fn script_in<I: Read + Drop, E: IsTerminal + Write + Drop>(
+fn script_in<I: Read + Drop, E: Write + Drop>(
     alloc: Global,
     input: I,
     progress: Progress<E>,
@@ -211,14 +181,16 @@ fn script_in<I: Read + Drop, E: IsTerminal + Write + Drop>(
     script
 }
 
-/// Runs the threads of a script, and does what its options ask for.
+/// Runs the threads of a script, and does what its options ask for. A terminal is told of a long run.
 fn run_with<
     R: Files + AllocGlobal + Threads + Wait + Clock + Sync + Send + Copy + 'static,
+    E: Write + Drop,
     W: Sink,
 >(
     rt: &R,
     options: &RunOptions,
     script: Script,
+    terminal: &mut Option<E>,
     writer: &mut W,
     left: &mut Left,
 ) -> Result<u8, Fault>
@@ -231,7 +203,7 @@ fn run_with<
     if let Some(folder) = &options.dir {
         left.choose(rt, folder.as_str(), &*script)?;
     }
-    let ran = match timed(rt, script, options.timeout, options.keep)? {
+    let ran = match run_within(rt, script, options.timeout, options.keep, terminal)? {
         Timed::Ended(ran) => ran,
         Timed::Late(text) => return tell_late(writer, &text),
     };
@@ -245,7 +217,7 @@ fn answer<
     I: Read + Drop,
     O: Write + Drop,
     E: IsTerminal + Write + Drop,
->(rt: &R, asked: &Asked, given: I, output: O, error: E, left: &mut Left) -> Result<u8, Fault> {
+>(rt: &R, asked: &Asked, given: I, output: O, mut error: E, left: &mut Left) -> Result<u8, Fault> {
     let job = asked.job;
     let file = asked.file.as_ref().map(|name| name.as_str());
     let names = names_in(rt, asked.names.as_ref().map(|name| name.as_str()))?;
@@ -258,10 +230,12 @@ fn answer<
         },
     };
     let mut input = Input::new(origin);
-    let progress = Progress::new(rt.alloc(), error, input.size());
+    let is_terminal = error.is_terminal();
+    let progress = Progress::new(rt.alloc(), &mut error, is_terminal, input.size());
     if let Some(options) = &asked.options {
         let script = script_in(rt.alloc(), &mut input, progress)?;
-        return run_with(rt, options, script, &mut writer, left);
+        let mut terminal = if is_terminal { Some(error) } else { None };
+        return run_with(rt, options, script, &mut terminal, &mut writer, left);
     }
     let done = finish(rt, job, &names, &mut input, progress, &mut writer);
     match (done, input.failure()) {
@@ -287,7 +261,7 @@ fn run<
     O: Write + Drop,
     E: IsTerminal + Write + Drop,
 >(rt: &R, words: &[S], given: I, output: O, mut error: E) -> Result<u8, Fault> {
-    let asked = arguments(rt.alloc(), words)?;
+    let asked = arguments(rt.alloc(), words, error.is_terminal())?;
     if words.len() < 2 {
         tell_of_keyboard(&given, &mut error);
     }

@@ -5,7 +5,7 @@ ghost use Rattle.aqs.specs.Progress.{MayShow, Notes, Puts, Wipes, line_text, of_
 
 use history::number::put_number;
 use std::alloc::{AllocError, Global};
-use std::io::{IsTerminal, Write};
+use std::io::Write;
 use streams::device::Device;
 use streams::sink::Sink;
 use streams::watched::Watch;
@@ -73,15 +73,15 @@ fn put<E: Write>(error: &mut Device<E>, piece: &[u8])
     }
 }
 
-impl<E: IsTerminal + Write> Progress<E> {
-    pub fn new(alloc: Global, error: E, size: Option<u64>) -> Self
+impl<E: Write> Progress<E> {
+    pub fn new(alloc: Global, error: E, is_shown: bool, size: Option<u64>) -> Self
         ensures error { result.error ≡ (error, false) }
+        ensures shown { result.is_shown ≡ is_shown }
         ensures size { result.size ≡ size }
         ensures read { result.read ≡ 0 }
         ensures next { result.next ≡ 50000000 }
         ensures length { result.length ≡ 0 }
     {
-        let is_shown = error.is_terminal();
         Progress {
             alloc,
             error: Device::new(error),
@@ -92,9 +92,7 @@ impl<E: IsTerminal + Write> Progress<E> {
             length: 0,
         }
     }
-}
 
-impl<E: Write> Progress<E> {
     /// Writes the line on a terminal, if memory does not lack for it.
     fn tell(&mut self)
         ensures { MayShow E.contents self.old self.new }

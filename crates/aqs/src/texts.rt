@@ -206,7 +206,8 @@ pub const RUN: &[u8] = b"\
     \n\
     Reads a script, which is a JSON text, and runs its threads at its objects. For each object it\n\
     writes the history, the lines of an audit of it, and how many calls ended. If the threads wait for\n\
-    each other it never ends, unless it is given a time.\n\
+    each other it never ends, unless it is given a time. A terminal is told after 10 seconds how they\n\
+    stand.\n\
     \n\
     \x20 --timeout M   if the run has not ended after M milliseconds, writes in which call each thread\n\
     \x20               waits, what it holds, and threads that wait for each other in a circle. The\n\

@@ -1,5 +1,5 @@
 -- What a run for a limited time leaves.
-use Rattle.std.specs.Prelude.{◌≡◌, ℕ, List, length}
+use Rattle.std.specs.Prelude.{◌≡◌, ℕ, IsSomeAnd, List, Option, length}
 use Rattle.tasks.specs.Below.{ScriptView, WorkerView, IsListed}
 use Rattle.run_text.specs.StandingText.{IsStandingText}
 use Rattle.tasks.specs.declared.fault.Fault.{Fault}
@@ -10,11 +10,11 @@ use Rattle.tasks.specs.Ran.{IsFaultOfThreads}
 use Rattle.workers.specs.declared.standing.Standing.{Standing}
 use Rattle.workers.specs.declared.unrecorded.Keep.{Keep}
 
--- what its threads left, or the text of how each of them stood
-abbrev pub IsTimed : ℕ → Keep → ScriptView → Timed → Type 0
-IsTimed ms keep s (Ended ran) = (ran.script ≡ s) × IsListed keep ran.report.listed
-IsTimed ms keep s (Late text) =
-    (ts : List Standing) × (length ts ≡ length s.workers) × IsStandingText ms s ts text.items
+-- what its threads left, or if there is a limit the text of how each of them stood
+abbrev pub IsTimed : Option ℕ → Keep → ScriptView → Timed → Type 0
+IsTimed limit keep s (Ended ran) = (ran.script ≡ s) × IsListed keep ran.report.listed
+IsTimed limit keep s (Late text) = IsSomeAnd limit (λ ms.
+    (ts : List Standing) × (length ts ≡ length s.workers) × IsStandingText ms s ts text.items)
 
 -- as without a limit, or memory lacks for the text
 abbrev pub IsFaultOfTimed : List WorkerView → Fault → Type 0

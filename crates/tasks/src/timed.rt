@@ -1,4 +1,4 @@
-//! Running a script for a limited time.
+//! Running a script for a limited time, or telling a terminal how a long run stands.
 
 ghost use Rattle.std.specs.Prelude.{◌≡◌, ◌↔◌, false, IfErr, IfOk, IsErrOf, IsTrue};
 ghost use Rattle.std.specs.Arc.{arc_value};
@@ -12,11 +12,19 @@ use crate::fault::Fault;
 use crate::ran::Ran;
 use run_text::standing_text;
 use script::Script;
+use std::io::Write;
 use std::sync::{Arc, Wait};
 use std::thread::Threads;
 use std::time::Clock;
 use streams::sink::Sink;
-use workers::{Keep, Outcome, run_threads_within};
+use workers::{Keep, Running};
+
+/// After how many milliseconds a terminal is told how a run stands that has no limit.
+const PATIENCE: u32 = 10_000;
+
+/// What comes after the lines of the threads.
+const GOES_ON: &[u8] =
+    b"aqs: the run goes on; Ctrl-C ends it, and --timeout M ends a run after M milliseconds\n";
 
 /// How a run for a limited time went.
 #[derive(Drop)]
@@ -27,26 +35,42 @@ pub enum Timed {
     Late(Vec<u8>),
 }
 
-/// Runs the threads of a script, and waits for their ends at most this many milliseconds.
+/// Runs the threads of a script, and waits for their ends at most this many milliseconds, if there is a limit. Without
+/// one a terminal is told how they stand if they take long.
 ///
 /// # Errors
 ///
-/// [`Fault::Run`], as of [`run_threads_within`], and [`Fault::Memory`] if memory lacks for the text.
-pub fn run_within<T: AllocGlobal + Threads + Wait + Clock + Sync + Send + Copy + 'static>(
+/// [`Fault::Run`], as of [`Running::report`], and [`Fault::Memory`] if memory lacks for the text.
+pub fn run_within<T: AllocGlobal + Threads + Wait + Clock + Sync + Send + Copy + 'static, E: Write>(
     rt: &T,
     script: Arc<Script>,
-    milliseconds: u32,
+    timeout: Option<u32>,
     keep: Keep,
+    terminal: &mut Option<E>,
 ) -> Result<Timed, Fault>
-    ensures timed { IfOk result (IsTimed milliseconds keep (arc_value script)) }
+    ensures timed { IfOk result (IsTimed timeout keep (arc_value script)) }
     ensures err { IfErr result (IsFaultOfTimed (arc_value script).workers) }
 {
-    match run_threads_within(rt, rt.alloc(), &script, milliseconds, keep)? {
-        Outcome::Ended(report) => Ok(Timed::Ended(Ran::made(script, report))),
-        Outcome::Late(standings) => {
-            let text = standing_text(rt.alloc(), milliseconds, &*script, &standings)?;
-            Ok(Timed::Late(text))
+    let run = Running::start(rt, rt.alloc(), &script, keep)?;
+    let milliseconds = timeout.unwrap_or(PATIENCE);
+    if !run.ends_within(rt, milliseconds) {
+        let standings = run.standings(rt.alloc())?;
+        let text = standing_text(rt.alloc(), milliseconds, &*script, &standings)?;
+        match timeout {
+            Some(_) => return Ok(Timed::Late(text)),
+            None => tell(terminal, &text),
         }
+    }
+    let report = run.report(rt)?;
+    Ok(Timed::Ended(Ran::made(script, report)))
+}
+
+/// Tells a terminal, if there is one, how the threads of a run stand that goes on.
+fn tell<E: Write>(terminal: &mut Option<E>, text: &[u8]) {
+    if let Some(terminal) = terminal {
+        let _ = terminal.write_all(b"aqs: ");
+        let _ = terminal.write_all(text);
+        let _ = terminal.write_all(GOES_ON);
     }
 }
 

@@ -9,8 +9,8 @@
 //! proved to be legal, so none is audited. [`Keep`] says whether the report also lists the answers that no history
 //! records.
 //!
-//! [`run_threads_within`] waits for the end at most a given time. After that it returns how each thread stands: how
-//! many of its calls have ended, whether it waits, and what it holds.
+//! A [`Running`] is a run in threads of its own. Whoever started it waits for its end at most a given time, and
+//! asks how each thread stands: how many of its calls have ended, whether it waits, and what it holds.
 //!
 //! Proved of a report: for each worker and object there is one pass, and that worker's calls produced it.
 //! Every call changed its pass as the monitor's call promises. Each object's history is legal from its base
@@ -44,4 +44,4 @@ pub use report::{ObjectReport, Report};
 pub use run::run_threads;
 pub use standing::{Held, Standing};
 pub use unrecorded::{Keep, Unrecorded};
-pub use within::{Outcome, run_threads_within};
+pub use within::Running;

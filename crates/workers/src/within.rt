@@ -1,8 +1,8 @@
-//! Running a script for a limited time.
-ghost use Rattle.std.specs.Prelude.{IfErr, IfOk};
+//! Running a script in threads of its own, and looking at it meanwhile.
+ghost use Rattle.std.specs.Prelude.{◌≡◌, IfErr, IfOk, length, vec_len};
 ghost use Rattle.std.specs.Arc.{arc_value};
 ghost use Rattle.workers.specs.Gates.{IsFaultOfRun};
-ghost use Rattle.workers.specs.Within.{IsEnd, IsOutcome, lets};
+ghost use Rattle.workers.specs.Within.{IsEnd, IsReportOf, lets};
 
 use crate::fault::RunFault;
 use crate::gate::OpenGate;
@@ -13,21 +13,13 @@ use crate::standing::Standing;
 use crate::threads::not_started;
 use crate::unrecorded::Keep;
 use script::Script;
-use std::alloc::Global;
+use std::alloc::{AllocError, Global};
+use std::marker::Model;
 use std::snapshot::Snapshot;
 use std::sync::{Arc, Wait};
 use std::thread;
-use std::thread::{Promise, Threads};
+use std::thread::{Promise, PromisedHandle, Threads};
 use std::time::Clock;
-
-/// How a run for a limited time went.
-#[derive(Debug, Drop)]
-pub enum Outcome {
-    /// It ended in time.
-    Ended(Report),
-    /// It did not end in time: how each thread stood then, in the order of the script.
-    Late(Vec<Standing>),
-}
 
 /// The promise of the thread that runs a script.
 #[derive(Drop)]
@@ -60,48 +52,80 @@ fn run_and_tell<R: Threads + Wait + Clock + Sync>(
     ended
 }
 
-/// Runs a script as [`run_threads`](crate::run_threads) does, and waits for its end at most this many
-/// milliseconds.
-///
-/// If it is late, its threads are left as they are: they go on, or wait, until the program ends. No contract
-/// says how they stood.
-///
-/// # Errors
-///
-/// As of [`run_threads`](crate::run_threads). [`RunFault::Memory`] also if memory lacks to tell how the run
-/// stands, and [`RunFault::NotStarted`] of worker 0 if the system refuses the thread that starts the others.
-pub fn run_threads_within<R: Threads + Wait + Clock + Sync + Send + Copy + 'static>(
-    rt: &R,
-    alloc: Global,
-    script: &Arc<Script>,
-    milliseconds: u32,
-    keep: Keep,
-) -> Result<Outcome, RunFault>
-    ensures outcome { IfOk result (IsOutcome (arc_value script.now) keep) }
-    ensures fault { IfErr result (IsFaultOfRun lets (arc_value script.now).workers) }
-{
-    let notes = Arc::new(alloc, Notes::of(alloc, &**script)?)?;
-    let theirs = Arc::try_clone(&notes)?;
-    let shared = Arc::try_clone(script)?;
-    let handle = *rt;
-    let promise = Runs {
-        script: Snapshot::of(&**script),
-        keep,
-    };
-    let child = thread::spawn_with(
-        rt,
-        promise,
-        move || -> Result<Report, RunFault>
-            ensures { IsEnd (arc_value shared) keep result }
-        { run_and_tell(&handle, alloc, &*shared, keep, &theirs) },
-    );
-    let child = match child {
-        Ok(child) => child,
-        Err(refused) => return Err(not_started(refused, 0)),
-    };
-    if notes.ends_within(rt, milliseconds) {
-        Ok(Outcome::Ended(child.join(rt)?))
-    } else {
-        Ok(Outcome::Late(notes.standings(alloc)?))
+/// A run of a script in threads of its own. If it is dropped, its threads go on, or wait, until the program ends.
+#[derive(Drop)]
+pub struct Running {
+    child: PromisedHandle<Result<Report, RunFault>, Runs>,
+    notes: Arc<Notes>,
+}
+
+impl Model for Running {
+    ghost use Rattle.std.specs.Prelude.{◌≡◌, length};
+    ghost use Rattle.std.specs.Arc.{arc_value};
+    ghost use Rattle.workers.specs.Within.{RunningView};
+
+    ghost Value = { RunningView };
+
+    ghost view = { λ r. record { script = r.child.promise.script.value; keep = r.child.promise.keep } };
+
+    ghost invariant = { λ r. arc_value r.notes ≡ length r.child.promise.script.value.workers };
+}
+
+impl Running {
+    /// Starts a run as [`run_threads`](crate::run_threads) does.
+    ///
+    /// # Errors
+    ///
+    /// [`RunFault::Memory`], and [`RunFault::NotStarted`] of worker 0 if the system refuses the thread that starts the
+    /// others.
+    pub fn start<R: Threads + Wait + Clock + Sync + Send + Copy + 'static>(
+        rt: &R,
+        alloc: Global,
+        script: &Arc<Script>,
+        keep: Keep,
+    ) -> Result<Running, RunFault>
+        ensures runs { IfOk result (λ run. run ≡ record { script = arc_value script.now; keep = keep }) }
+        ensures fault { IfErr result (IsFaultOfRun lets (arc_value script.now).workers) }
+    {
+        let notes = Arc::new(alloc, Notes::of(alloc, &**script)?)?;
+        let theirs = Arc::try_clone(&notes)?;
+        let shared = Arc::try_clone(script)?;
+        let handle = *rt;
+        let promise = Runs {
+            script: Snapshot::of(&**script),
+            keep,
+        };
+        let child = thread::spawn_with(
+            rt,
+            promise,
+            move || -> Result<Report, RunFault>
+                ensures { IsEnd (arc_value shared) keep result }
+            { run_and_tell(&handle, alloc, &*shared, keep, &theirs) },
+        );
+        match child {
+            Ok(child) => Ok(Running { child, notes }),
+            Err(refused) => Err(not_started(refused, 0)),
+        }
+    }
+
+    /// Waits for the end at most this many milliseconds, and returns whether it came.
+    pub fn ends_within<R: Wait + Clock>(&self, rt: &R, milliseconds: u32) -> bool {
+        self.notes.ends_within(rt, milliseconds)
+    }
+
+    /// Returns how each thread stands, in the order of the script. No contract says how.
+    pub fn standings(&self, alloc: Global) -> Result<Vec<Standing>, AllocError>
+        ensures { IfOk result (λ all. vec_len all ≡ length self.now.script.workers) }
+    {
+        self.notes.standings(alloc)
+    }
+
+    /// Waits for the end, and returns the report or the fault, as of [`run_threads`](crate::run_threads).
+    pub fn report<R: Threads>(self, rt: &R) -> Result<Report, RunFault>
+        ensures report { IfOk result (IsReportOf self.script self.keep) }
+        ensures fault { IfErr result (IsFaultOfRun lets self.script.workers) }
+    {
+        let Running { child, notes: _ } = self;
+        child.join(rt)
     }
 }
