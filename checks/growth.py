@@ -33,10 +33,11 @@ SECONDS = 60
 LONGER = 4  # the longer text, in lengths of the shorter
 TIMES = 5  # as long as the shorter at most
 CROWDED = 2  # with 256 seats as long as with 2 at most
-TRIM = 1.3  # with one trim as long as without it at most: the replay copies what is folded
+TRIM = 1.3  # with one trim as long as without it at most
 ENTRY = 8  # bytes of an entry in memory
-ANSWER = 16  # bytes of an answer that no entry says, a trim among them
-LISTED = 1.4  # answers, and entries that were folded, stand in lists, which have more room than they use
+ANSWER = 3  # bytes of an answer
+WHOLE = 32  # bytes more at most of one of a rare kind, whose line is kept, a trim among them
+LISTED = 1.4  # answers stand in lists, which have more room than they use
 ITSELF = 3 << 20  # bytes that the program takes with a short text
 STACKS = 16 << 20  # and with a thread
 THREAD = (8 << 20) + 60_000  # bytes of each further thread of a script, most of them for its stack
@@ -140,11 +141,12 @@ def beside(program, other):
 def growing(program):
     """The cases of a text that grows."""
     call = ["a acquire x 1", "a give x 1"]
-    folded = LISTED * (2 * ENTRY + ANSWER)
+    answered = 2 * (ENTRY + LISTED * ANSWER)
+    folded = LISTED * (3 * ANSWER + WHOLE)
     legal = lambda count: history(program, pairs(count))
     on_base = lambda count: history(program, steps(LOCK.format(2), PAIR + "trim\n", PAIR, count, form=2))
-    yield Case("replay", ["replay"], 200_000, pairs, 2 * ENTRY)
-    yield Case("replay, its history", ["replay", "--history"], 200_000, pairs, 2 * ENTRY)
+    yield Case("replay", ["replay"], 200_000, pairs, answered)
+    yield Case("replay, its history", ["replay", "--history"], 200_000, pairs, answered)
     yield Case("replay of looks in vain", ["replay"], 200_000, waits, LISTED * ANSWER)
     yield Case("replay with trims", ["replay"], 100_000, trimmed, folded)
     yield Case("replay with trims, its history", ["replay", "--history"], 100_000, trimmed, folded)

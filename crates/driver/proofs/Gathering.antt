@@ -79,12 +79,14 @@ no_room held after old new added r is front =
     gathers_failed held after old new added r is
     (front_longer held after old added (subst (AppendsFront held after) (append-nil old) front))
 
--- what holds where writing fails or doesn't
+-- what holds where writing fails
 pub if_failed : (r : Result (Unit {0}) DeviceFailed) (P : Type 0) → P → OnErr r P
 if_failed r P p = grind arith
 
-pub where_failed : (r : Result (Unit {0}) DeviceFailed) (P Q : Type 0) → (P → Q) → OnErr r P → OnErr r Q
-where_failed r P Q f p = grind arith
-
-pub where_written : (r : Result (Unit {0}) DeviceFailed) (P Q : Type 0) → (P → Q) → OnOk r P → OnOk r Q
-where_written r P Q f p = grind arith
+-- where writing fails, a front of all that was to come was written
+pub front_of_all : (a b c : Option (List ℕ)) (old mid x y rest all : List ℕ) → IsGathered a old b mid x →
+    AppendsFront b c (mid ++ y) → all ≡ (x ++ y) ++ rest → AppendsFront a c (old ++ all)
+front_of_all a b c old mid x y rest all p q is =
+    subst (AppendsFront a c) (append_assoc old (x ++ y) rest
+    ∙ ap (λ (t : List ℕ). old ++ t) (sym is))
+    (front_longer a c (old ++ (x ++ y)) rest (front_more a b c old mid x y p q))

@@ -2,7 +2,7 @@
 use Rattle.std.proofs.Common.{◌≡◌, inl, inr, ℕ, ◌+◌, false, true, ltb, List, [], ◌∷◌, ◌++◌, length, Result, Ok, Err, refl, ap, sym, ◌∙◌, arith, append_assoc, append-nil}
 use Rattle.driver.specs.Below.{Act, Do, Trim, as_answered, outcome, CoreView, IsAnswered, start_of, Entry, Fault, OutOfMemory, TrimFull, Header, Answer, Step, answer, Base, based, folded, opening_base, MOST_FOLDED, ended}
 use Rattle.driver.specs.ReplayText.{answer_line, done_line, done_lines, entries_done, entries_of, trim_line}
-use Rattle.driver.proofs.Remarking.{added_count, added_is}
+use Rattle.driver.proofs.Replies.{added_count, added_is}
 
 -- ---- what is left to do
 

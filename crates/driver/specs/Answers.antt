@@ -1,50 +1,35 @@
 -- The answers to the steps and trims of a text, and what is written of them.
-use Rattle.std.specs.Prelude.{◌≡◌, ℕ, List, [], ◌++◌, Option, Result, Ok, Err, codes, length, reverse}
+use Rattle.std.specs.Prelude.{◌≡◌, ℕ, ◌+◌, List, ◌++◌, Option, Result, Ok, Err, codes, length, reverse}
 use Rattle.std.specs.Io.KnownBytes.{Appends, Keeps}
-use Rattle.driver.specs.Below.{Entry, Header, Base, based, ended_calls, IsGood, calls, part_of, ended, counts_line, history_text, StepsHeader, StreamFault, WriteFailed, Memory, AppendsFront}
+use Rattle.driver.specs.Below.{Entry, Base, based, calls, part_of, ended, counts_line, entry_lines, history_text, StepsHeader, StreamFault, WriteFailed, Memory, AppendsFront}
 use Rattle.driver.specs.declared.form.Form.{Form}
 use Rattle.driver.specs.declared.form.Form.TheVariants.{Replay, History}
-use Rattle.driver.specs.declared.remark.Remark.{Remark}
 use Rattle.driver.specs.ReplayText.{header_line}
-use Rattle.driver.specs.Remarks.{told_lines}
 
--- The header; the entries that were folded, the oldest first; the base that they left, and the entries after
--- it, the newest first; and the remarks.
+-- The header; the base that trims left, and the entries after it, the newest first; and the lines of all answers.
 pub record AllAnswers : Type 0 where
   pub header : StepsHeader
-  pub past : List Entry
   pub base : Base
   pub entries : List Entry
-  pub remarks : List Remark
+  pub lines : List ℕ
 
--- all entries, the oldest first
-abbrev pub all_of : AllAnswers → List Entry
-all_of a = a.past ++ reverse a.entries
-
--- These entries were folded into the base, which is good and has their calls.
-pub record AreFolded (k : Header) (past : List Entry) (b : Base) : Type 0 where
-  pub header : b.header ≡ k
-  pub entries : b.entries ≡ length past
-  pub ended : calls (based b) [] ≡ ended_calls past
-  pub good : IsGood b
-
--- the first line of the text that has all entries
+-- the first line of the text that has the lines of answers, or of entries
 abbrev pub first_line : Form → StepsHeader → List ℕ
 first_line Replay h = header_line h
 first_line History h = codes "aqs-history 1 " ++ part_of h.header
 
--- a history text has no lines of remarks
-abbrev pub remarks_in : Form → List Remark → List Remark
-remarks_in Replay remarks = remarks
-remarks_in History remarks = []
+abbrev pub form_lines : Form → AllAnswers → List ℕ
+form_lines Replay a = a.lines
+form_lines History a = entry_lines 0 (reverse a.entries)
+
+-- the end line counts the folded entries too
+abbrev pub ended_line : AllAnswers → List ℕ
+ended_line a = ended (counts_line (a.base.entries + length a.entries) (calls (based a.base) a.entries))
 
 -- what follows the first line
 abbrev pub text_behind : Form → AllAnswers → List ℕ
-text_behind form a =
-    told_lines (all_of a) 0 (remarks_in form a.remarks)
-    ++ ended (counts_line (length (all_of a)) (ended_calls (all_of a)))
+text_behind form a = form_lines form a ++ ended_line a
 
--- the text with the lines of all entries, also the folded ones
 abbrev pub lines_text : Form → AllAnswers → List ℕ
 lines_text form a = ended (first_line form a.header) ++ text_behind form a
 

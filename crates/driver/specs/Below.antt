@@ -27,7 +27,7 @@ pub use Rattle.history.specs.Answers.{recorded, answer_by, answer}
 pub use Rattle.history.specs.Base.{Base, opening_base, based, folded}
 pub use Rattle.history.specs.Entries.{ended_calls, or_opening, start_on, IsBasedWell}
 pub use Rattle.history.specs.Entry.{ends_call}
-pub use Rattle.history.specs.EntryWords.{IsSpelt}
+pub use Rattle.history.specs.EntryWords.{IsSpelt, entry_words}
 pub use Rattle.history.specs.Fault.{fault_name}
 pub use Rattle.history.specs.Fold.{MayFold}
 pub use Rattle.history.specs.GoodBase.{IsGood, IsBaseOf}
@@ -40,7 +40,7 @@ pub use Rattle.history.specs.Room.{has_room}
 pub use Rattle.history.specs.Spelling.{part_of}
 pub use Rattle.history.specs.Start.{Start}
 pub use Rattle.history.specs.Steps.{entry_for}
-pub use Rattle.history.specs.Text.{ended}
+pub use Rattle.history.specs.Text.{ended, line_of}
 pub use Rattle.history_text.specs.declared.base_line.BaseLine.{BaseLine}
 pub use Rattle.history_text.specs.declared.base_under_way.TheConstants.{MOST_LINES}
 pub use Rattle.history_text.specs.declared.place.Head.{Head}

@@ -4,8 +4,6 @@ pub mod Answers
 pub mod AuditText
 pub mod BaseReader
 pub mod LineWriter
-pub mod Remarks
-pub mod Replay
 pub mod ReplayStream
 pub mod ReplayText
 pub mod StepReader

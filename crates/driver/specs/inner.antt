@@ -1,6 +1,7 @@
 -- What only contracts of private functions cite: no promise of the crate rests on it.
 pub mod BaseReader
 pub mod Choice
+pub mod Codes
 pub mod HistoryReader
 pub mod Judged
 pub mod Logged

@@ -3,8 +3,7 @@
 ghost use Rattle.std.specs.Prelude.{◌≡◌, ◌+◌, ◌++◌, ◌≤◌, IfSome, codes, decimal, length, take};
 ghost use Rattle.history.specs.Text.{ended};
 ghost use Rattle.driver.specs.declared.limits.TheConstants.{LONGEST_LINE};
-ghost use Rattle.driver.specs.Replay.{HasLine};
-ghost use Rattle.driver.specs.ReplayText.{answer_line, trim_line};
+ghost use Rattle.driver.specs.ReplayText.{HasLine, answer_line, trim_line};
 
 use history::fault::Fault;
 use history::number::{Numbering, spell};

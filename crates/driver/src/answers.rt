@@ -1,29 +1,25 @@
 //! The answers to the steps and trims of a text, kept in short form until they are written.
 
-ghost use Rattle.std.specs.Prelude.{◌≡◌, ◌↔◌, ◌-◌, ◌++◌, ◌≤◌, [], false, All, IfOk, IfErr, IsErr};
-ghost use Rattle.std.specs.Prelude.{IsErrOf, IsTrue, OnErr, OnOk, drop, length, reverse, slice_get, take};
+ghost use Rattle.std.specs.Prelude.{◌≡◌, ◌↔◌, ◌+◌, ◌++◌, ◌<◌, ◌≤◌, ◌^◌, [], false, All, IfOk, IfErr, IsErr, IsErrOf, IsTrue, OnErr, OnOk, length, reverse};
 ghost use Rattle.std.specs.Io.KnownBytes.{Appends};
 ghost use Rattle.history.specs.Base.{based};
-ghost use Rattle.history.specs.Entries.{base_on, ended_calls};
 ghost use Rattle.history.specs.EntryWords.{IsSpelt};
 ghost use Rattle.history.specs.Header.{IsInRange};
-ghost use Rattle.history.specs.Legal.{IsLegal};
+ghost use Rattle.history.specs.Legal.{calls};
+ghost use Rattle.history.specs.declared.limits.TheConstants.{MOST_FOLDED};
 ghost use Rattle.history.specs.Text.{ended};
 ghost use Rattle.streams.specs.declared.stream_fault.StreamFault.TheVariants.{Memory};
-ghost use Rattle.driver.specs.Answers.{AreFolded, Writes, all_of, answers_text};
-ghost use Rattle.driver.specs.Answers.{first_line, lines_text, remarks_in, text_behind};
+ghost use Rattle.driver.specs.Answers.{Writes, answers_text, first_line, form_lines, lines_text, text_behind};
 ghost use Rattle.driver.specs.LineWriter.{Gathers};
-ghost use Rattle.driver.specs.Remarks.{said_line, told_lines};
-ghost use Rattle.history_text.specs.Pieces.{entry_lines};
 ghost use Rattle.driver.specs.ReplayText.{name_of};
+ghost use Rattle.history_text.specs.Pieces.{entry_lines};
 ghost use Rattle.streams.specs.Writing.{AppendsFront};
 
 use crate::form::Form;
 use crate::line_writer::LineWriter;
-use crate::remark::{Remark, Said};
-use crate::replay::Log;
+use crate::piece::Pieces;
+use crate::tape::Tape;
 use history::entries::History;
-use history::entry::Entry;
 use history::step::Answer;
 use history_text::history_text::write_text;
 use std::alloc::Global;
@@ -34,61 +30,37 @@ use streams::source::DeviceFailed;
 use streams::stream_fault::StreamFault;
 use streams::writing::write_all;
 
-/// The answers of an object to all steps and trims of a text.
-///
-/// An entry has almost all of the answer that recorded it. So the history is kept, with the entries that were
-/// folded before, and a remark for each answer with more in it.
+/// The answers of an object to all steps and trims of a text, in short form. Beside them is the history.
 #[derive(Drop)]
 pub struct Answers {
-    header: StepsHeader,
-    past: Vec<Entry>,
-    history: History,
-    remarks: Vec<Remark>,
+    pub(crate) header: StepsHeader,
+    pub(crate) history: History,
+    pub(crate) tape: Tape,
 }
 
 impl Model for Answers {
-    ghost use Rattle.std.specs.Prelude.{All, reverse, ◌++◌};
-    ghost use Rattle.history.specs.Entries.{base_on};
+    ghost use Rattle.std.specs.Prelude.{All, reverse};
+    ghost use Rattle.history.specs.Base.{based};
+    ghost use Rattle.history.specs.Entries.{IsBasedWell, base_on};
     ghost use Rattle.history.specs.EntryWords.{IsSpelt};
     ghost use Rattle.history.specs.Header.{IsInRange};
-    ghost use Rattle.driver.specs.Answers.{AllAnswers, AreFolded};
+    ghost use Rattle.driver.specs.Answers.{AllAnswers};
 
     ghost Value = { AllAnswers };
 
     ghost view = { λ a. record {
       header = a.header;
-      past = a.past.items;
       base = base_on a.header.header a.history;
       entries = a.history.entries;
-      remarks = a.remarks.items;
+      lines = a.tape.lines;
     } };
 
     ghost invariant = { λ a. IsInRange a.header.header
-        × All IsSpelt (a.past.items ++ reverse a.history.entries)
-        × AreFolded a.header.header a.past.items (base_on a.header.header a.history) };
+        × IsBasedWell a.header.header a.history.base
+        × All IsSpelt (reverse a.history.entries) };
 }
 
 impl Answers {
-    pub fn new(header: StepsHeader, history: History, log: Log) -> Self
-        requires range { IsInRange header.header }
-        requires spelt { All IsSpelt (log.past.items ++ reverse history.entries) }
-        requires folded { AreFolded header.header log.past.items (base_on header.header history) }
-        ensures { result ≡ record {
-          header = header;
-          past = log.past.items;
-          base = base_on header.header history;
-          entries = history.entries;
-          remarks = log.remarks.items;
-        } }
-    {
-        Answers {
-            header,
-            past: log.past,
-            history,
-            remarks: log.remarks,
-        }
-    }
-
     /// Writes the answers. All memory is reserved before the first piece is written.
     pub fn write<W: Sink>(
         &self,
@@ -102,14 +74,14 @@ impl Answers {
     {
         match form {
             Form::Replay => self.write_lines(alloc, writer, Form::Replay),
-            Form::History if self.past.as_slice().is_empty() => {
+            Form::History if self.folded() == 0 => {
                 self.write_lines(alloc, writer, Form::History)
             }
             Form::History => self.write_left(alloc, writer),
         }
     }
 
-    /// Writes the lines of all entries, piece by piece, with those that were folded.
+    /// Writes the lines of all answers, or of all entries, piece by piece.
     fn write_lines<W: Sink>(
         &self,
         alloc: Global,
@@ -121,8 +93,9 @@ impl Answers {
         ensures failing { IsErrOf result StreamFault.WriteFailed ↔ IsTrue (W.failed writer.new) }
     {
         let first = first_line(alloc, form, &self.header)?;
+        let pieces = Pieces::open(alloc)?;
         let mut lines = LineWriter::open(alloc, &first)?;
-        match self.put_all(&mut lines, writer, form) {
+        match self.put_all(&mut lines, writer, &pieces, form) {
             Ok(()) => Ok(()),
             Err(_) => Err(StreamFault::WriteFailed),
         }
@@ -131,7 +104,7 @@ impl Answers {
     /// Writes the history that trims left, on its base.
     fn write_left<W: Sink>(&self, alloc: Global, writer: &mut W) -> Result<(), StreamFault>
         requires writer { W.failed writer.old ≡ false }
-        requires folded { 1 ≤ length self.now.past }
+        requires folded { 1 ≤ self.now.base.entries }
         ensures writes { Writes (W.held writer.old) result (W.held writer.new)
             (answers_text Form.History self.now) }
         ensures failing { IsErrOf result StreamFault.WriteFailed ↔ IsTrue (W.failed writer.new) }
@@ -145,48 +118,59 @@ impl Answers {
         }
     }
 
-    /// Returns the remarks that a text of the form has.
-    fn remarks_in(&self, form: Form) -> &[Remark]
-        ensures { result.now ≡ remarks_in form self.now.remarks }
+    /// Returns how many entries were folded.
+    #[tactic(auto, using(crate::proofs::EntryLines::same_header))]
+    fn folded(&self) -> u64
+        ensures value { result ≡ self.now.base.entries }
+        ensures few { result < 2 ^ 63 }
+        ensures header { self.now.base.header ≡ self.now.header.header }
     {
-        match form {
-            Form::Replay => &self.remarks,
-            Form::History => &self.remarks[..0],
+        match self.history.base() {
+            Some(base) => base.entries as u64,
+            None => 0,
         }
-    }
-
-    /// Returns the entry of a number, also if it was folded.
-    #[inline(always)]
-    fn entry(&self, number: u64) -> Option<Entry>
-        ensures { result ≡ slice_get (all_of self.now) number }
-    {
-        let past = self.past.len() as u64;
-        if number < past {
-            return self.past.get(number as usize).copied();
-        }
-        self.history.get(number - past)
     }
 
     /// Returns how many entries there are, with those that were folded.
     fn count(&self) -> u64
-        ensures { result ≡ length (all_of self.now) }
+        ensures { result ≡ self.now.base.entries + length self.now.entries }
     {
-        self.past.len() as u64 + self.history.len()
+        self.folded() + self.history.len()
     }
 
     /// Returns how many of all entries end a call.
     fn calls(&self) -> u64
-        ensures { result ≡ ended_calls (all_of self.now) }
+        ensures { result ≡ calls (based self.now.base) self.now.entries }
     {
         let _few = self.history.len();
         self.history.calls()
     }
 
-    /// Writes the gathered bytes, and all that follows the first line. It allocates nothing.
-    pub fn put_all<W: Sink>(
+    /// Adds the lines of a form.
+    fn put_lines<W: Sink>(
         &self,
         lines: &mut LineWriter,
         writer: &mut W,
+        pieces: &Pieces,
+        form: Form,
+    ) -> Result<(), DeviceFailed>
+        requires { W.failed writer.old ≡ false }
+        ensures adds { Gathers (W.held writer.old) lines.old.bytes result (W.held writer.new) lines.new.bytes
+            (form_lines form self.now) }
+        ensures failing { IsTrue (W.failed writer.new) ↔ IsErr result }
+    {
+        match form {
+            Form::Replay => self.tape.put_lines(lines, writer, pieces),
+            Form::History => put_entries(lines, writer, &self.history, 0),
+        }
+    }
+
+    /// Writes the gathered bytes, and all that follows the first line. It allocates nothing.
+    fn put_all<W: Sink>(
+        &self,
+        lines: &mut LineWriter,
+        writer: &mut W,
+        pieces: &Pieces,
         form: Form,
     ) -> Result<(), DeviceFailed>
         requires { W.failed writer.old ≡ false }
@@ -197,8 +181,7 @@ impl Answers {
         ensures none { OnOk result (lines.new.bytes ≡ []) }
         ensures failing { IsTrue (W.failed writer.new) ↔ IsErr result }
     {
-        let _past = &self.past;
-        put_lines(lines, writer, self, self.remarks_in(form))?;
+        self.put_lines(lines, writer, pieces, form)?;
         lines.put_counts(writer, self.count(), self.calls())?;
         lines.flush(writer)
     }
@@ -232,80 +215,26 @@ pub fn first_line(alloc: Global, form: Form, header: &StepsHeader) -> Result<Vec
     Ok(out)
 }
 
-/// Adds the lines of all entries, and of the remarks between them.
-fn put_lines<W: Sink>(
+/// Adds the lines of all entries, numbered from `first` on.
+pub fn put_entries<W: Sink>(
     lines: &mut LineWriter,
     writer: &mut W,
-    answers: &Answers,
-    remarks: &[Remark],
+    history: &History,
+    first: u64,
 ) -> Result<(), DeviceFailed>
     requires writer { W.failed writer.old ≡ false }
-    requires spelt { All IsSpelt (all_of answers.now) }
+    requires spelt { All IsSpelt (reverse history.now.entries) }
+    requires few { first ≤ MOST_FOLDED }
     ensures adds { Gathers (W.held writer.old) lines.old.bytes result (W.held writer.new) lines.new.bytes
-        (told_lines (all_of answers.now) 0 remarks.now) }
+        (entry_lines first (reverse history.now.entries)) }
     ensures failing { IsTrue (W.failed writer.new) ↔ IsErr result }
 {
-    let mut number = 0;
-    for remark in remarks {
-        let before = u64::from(remark.before);
-        put_entries(lines, writer, answers, number, before)?;
-        put_remark(lines, writer, answers, remark)?;
-        number = before + remark.entries();
-    }
-    put_entries(lines, writer, answers, number, answers.count())
-}
-
-/// Adds the lines of the entries from one number up to another. None of them has a remark.
-#[inline(always)]
-fn put_entries<W: Sink>(
-    lines: &mut LineWriter,
-    writer: &mut W,
-    answers: &Answers,
-    from: u64,
-    to: u64,
-) -> Result<(), DeviceFailed>
-    requires writer { W.failed writer.old ≡ false }
-    requires spelt { All IsSpelt (all_of answers.now) }
-    ensures adds { Gathers (W.held writer.old) lines.old.bytes result (W.held writer.new) lines.new.bytes
-        (entry_lines from (take (to - from) (drop from (all_of answers.now)))) }
-    ensures failing { IsTrue (W.failed writer.new) ↔ IsErr result }
-{
-    let mut number = from;
-    while number < to {
-        let Some(entry) = answers.entry(number) else {
-            return Ok(());
+    for place in 0..history.len() {
+        let Some(entry) = history.get(place) else {
+            unreachable!()
         };
         let answer = Ok(Answer::Recorded(entry, None));
-        lines.put_answer(writer, number, entry.seat, &answer)?;
-        number += 1;
+        lines.put_answer(writer, first + place, entry.seat, &answer)?;
     }
     Ok(())
-}
-
-/// Adds the line of a remark.
-fn put_remark<W: Sink>(
-    lines: &mut LineWriter,
-    writer: &mut W,
-    answers: &Answers,
-    remark: &Remark,
-) -> Result<(), DeviceFailed>
-    requires writer { W.failed writer.old ≡ false }
-    requires spelt { All IsSpelt (all_of answers.now) }
-    ensures adds { Gathers (W.held writer.old) lines.old.bytes result (W.held writer.new) lines.new.bytes
-        (said_line remark.now.said remark.now.before remark.now.seat
-        (slice_get (all_of answers.now) remark.now.before)) }
-    ensures failing { IsTrue (W.failed writer.new) ↔ IsErr result }
-{
-    let number = u64::from(remark.before);
-    let answer = match remark.said {
-        Said::IsNamed => match answers.entry(number) {
-            Some(entry) => Ok(Answer::Recorded(entry, Some(remark.seat))),
-            None => return Ok(()),
-        },
-        Said::Sleeps => Ok(Answer::Sleep),
-        Said::Fails(fault) => Err(fault),
-        Said::Folds(count) => return lines.put_trim(writer, &Ok(u64::from(count))),
-        Said::FoldsNone(fault) => return lines.put_trim(writer, &Err(fault)),
-    };
-    lines.put_answer(writer, number, remark.seat, &answer)
 }

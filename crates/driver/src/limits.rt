@@ -1,7 +1,8 @@
 //! The limits of what is written. Contracts and definitions cite them by name.
 
-/// The most bytes of a line, with its break. An entry takes at most 108, and the waiter that it names 27.
-pub const LONGEST_LINE: usize = 136;
+/// No line has more bytes, with its break, so its length fits in a byte. An entry takes at most 108, and the
+/// waiter that it names 27.
+pub const LONGEST_LINE: usize = 255;
 
 /// How many entries are drawn if none are chosen.
 pub const UNCHOSEN: u64 = 2000;

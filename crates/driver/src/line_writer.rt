@@ -1,18 +1,20 @@
 //! Gathering lines for a sink.
 
-ghost use Rattle.std.specs.Prelude.{◌≡◌, ◌+◌, ◌++◌, ◌≤◌, ◌↔◌, [], false, length, IsErr, IsTrue, IfOk, OnErr, OnOk};
+ghost use Rattle.std.specs.Prelude.{◌≡◌, ◌+◌, ◌++◌, ◌<◌, ◌≤◌, ◌↔◌, [], false, length, IsErr, IsTrue, IfOk, OnErr, OnOk};
 ghost use Rattle.std.specs.Io.KnownBytes.{Appends};
 ghost use Rattle.history.specs.Text.{ended};
 ghost use Rattle.history_text.specs.EntryLines.{counts_line};
 ghost use Rattle.driver.specs.declared.limits.TheConstants.{LONGEST_LINE};
 ghost use Rattle.driver.specs.LineWriter.{Gathers};
-ghost use Rattle.driver.specs.Replay.{HasLine};
-ghost use Rattle.driver.specs.ReplayText.{answer_line, trim_line};
+ghost use Rattle.driver.specs.ReplayText.{HasLine, answer_line};
+ghost use Rattle.driver.specs.inner.Codes.{kept_in, line_by};
 ghost use Rattle.streams.specs.declared.limits.TheConstants.{PIECE};
 ghost use Rattle.streams.specs.Writing.{AppendsFront};
 
-use crate::answer_line::{spell_answer, spell_trim};
+use crate::answer_line::spell_answer;
+use crate::code::{Code, WHOLE};
 use crate::limits::LONGEST_LINE;
+use crate::piece::Pieces;
 use history::fault::Fault;
 use history::number::{Numbering, spell};
 use history::pieces::{put_byte, put_bytes};
@@ -119,22 +121,26 @@ impl LineWriter {
         Ok(())
     }
 
-    /// Adds the line of a trim: how many entries it folded, or its fault.
-    pub fn put_trim<W: Sink>(
+    /// Adds the line of a code. One that is kept whole is the first that `text` has. On an error nothing is
+    /// added.
+    #[tactic(auto, using(crate::proofs::Gathering::gathered_added, crate::proofs::Gathering::no_room))]
+    #[inline(always)]
+    pub(crate) fn put_code<W: Sink>(
         &mut self,
         writer: &mut W,
-        answer: &Result<u64, Fault>,
+        pieces: &Pieces,
+        number: u64,
+        code: Code,
+        text: &[u8],
     ) -> Result<(), DeviceFailed>
-        requires { W.failed writer.old ≡ false }
+        requires writer { W.failed writer.old ≡ false }
+        requires kept { kept_in code ≤ length text.now }
         ensures adds { Gathers (W.held writer.old) self.old.bytes result (W.held writer.new) self.new.bytes
-            (ended (trim_line answer.now)) }
-        ensures gathers { LONGEST_LINE ≤ self.old.room → writer.new ≡ writer.old }
-        ensures places { length self.new.bytes + self.new.room ≡ length self.old.bytes + self.old.room }
-        ensures kept { OnErr result (self.new ≡ self.old) }
+            (line_by number code text.now) }
         ensures failing { IsTrue (W.failed writer.new) ↔ IsErr result }
     {
         self.make_room(writer)?;
-        self.spell_trim(answer);
+        self.spell_code(pieces, number, code, text);
         Ok(())
     }
 
@@ -170,14 +176,19 @@ impl LineWriter {
         self.at = spell_answer(line, self.at, &mut self.numbering, number, seat, answer);
     }
 
-    /// Adds the line of a trim. There is room for it.
-    fn spell_trim(&mut self, answer: &Result<u64, Fault>)
-        requires { LONGEST_LINE ≤ self.old.room }
-        ensures bytes { self.new.bytes ≡ self.old.bytes ++ ended (trim_line answer.now) }
-        ensures places { length self.new.bytes + self.new.room ≡ length self.old.bytes + self.old.room }
+    /// Adds the line of a code. There is room for it.
+    #[inline(always)]
+    fn spell_code(&mut self, pieces: &Pieces, number: u64, code: Code, text: &[u8])
+        requires kept { kept_in code ≤ length text.now }
+        requires room { LONGEST_LINE ≤ self.old.room }
+        ensures { self.new.bytes ≡ self.old.bytes ++ line_by number code text.now }
     {
         let line = self.bytes.as_mut_slice();
-        self.at = spell_trim(line, self.at, answer);
+        self.at = if code.kind < WHOLE {
+            pieces.put_code(line, self.at, &mut self.numbering, number, code)
+        } else {
+            put_bytes(line, self.at, &text[..code.seat as usize])
+        };
     }
 
     /// Adds the end line. There is room for it.

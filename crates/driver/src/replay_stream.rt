@@ -87,8 +87,12 @@ fn answered<H: Hooks + Drop, R: Source>(
     let Ok(mut core) = Core::open(alloc, hooks, header.seats, header.conditions, header.cap) else {
         return Err(StreamFault::Memory);
     };
-    let log = replay(alloc, &mut core, steps, reader)?;
-    Ok(Answers::new(text, core.into_history(), log))
+    let tape = replay(alloc, &mut core, steps, reader)?;
+    Ok(Answers {
+        header: text,
+        history: core.into_history(),
+        tape,
+    })
 }
 
 /// Returns the answers of a new object with the text's header.

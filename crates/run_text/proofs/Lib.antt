@@ -1,6 +1,5 @@
 mod Appending
 mod AnswerLines
-pub mod EntryLines
 pub mod Judged
 pub mod Texts
 pub mod Written

@@ -2,15 +2,14 @@
 
 ghost use Rattle.std.specs.Prelude.{◌≡◌, ◌≤◌, ◌↔◌, [], false, All, IsErr, IsTrue, OnErr, OnOk, reverse};
 ghost use Rattle.std.specs.Io.KnownBytes.{Appends};
-ghost use Rattle.driver.specs.LineWriter.{Gathers};
 ghost use Rattle.history.specs.EntryWords.{IsSpelt};
 ghost use Rattle.history.specs.declared.limits.TheConstants.{MOST_FOLDED};
 ghost use Rattle.history_text.specs.Pieces.{entry_lines};
 ghost use Rattle.streams.specs.Writing.{AppendsFront};
 
+use driver::answers::put_entries;
 use driver::line_writer::LineWriter;
 use history::entries::History;
-use history::step::Answer;
 use streams::sink::Sink;
 use streams::source::DeviceFailed;
 
@@ -34,28 +33,4 @@ pub(crate) fn write_entries<W: Sink>(
 {
     put_entries(lines, writer, history, first)?;
     lines.flush(writer)
-}
-
-/// Adds the lines of all entries, numbered from `first` on.
-fn put_entries<W: Sink>(
-    lines: &mut LineWriter,
-    writer: &mut W,
-    history: &History,
-    first: u64,
-) -> Result<(), DeviceFailed>
-    requires writer { W.failed writer.old ≡ false }
-    requires spelt { All IsSpelt (reverse history.now.entries) }
-    requires few { first ≤ MOST_FOLDED }
-    ensures adds { Gathers (W.held writer.old) lines.old.bytes result (W.held writer.new) lines.new.bytes
-        (entry_lines first (reverse history.now.entries)) }
-    ensures failing { IsTrue (W.failed writer.new) ↔ IsErr result }
-{
-    for place in 0..history.len() {
-        let Some(entry) = history.get(place) else {
-            unreachable!()
-        };
-        let answer = Ok(Answer::Recorded(entry, None));
-        lines.put_answer(writer, first + place, entry.seat, &answer)?;
-    }
-    Ok(())
 }

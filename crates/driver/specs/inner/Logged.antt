@@ -1,44 +1,24 @@
 -- What is kept of the answers to acts, besides the core's history.
-use Rattle.std.specs.Prelude.{◌≡◌, ◌≢◌, ◌+◌, ℕ, List, [], ◌∷◌, ◌++◌, length, reverse, Option, Some, None, Result, Ok, Err}
-use Rattle.driver.specs.Below.{Act, Do, Trim, CoreView, IsAnswered, IsTrimmed, Entry, Fault, OutOfMemory, Answer, Step}
-use Rattle.driver.specs.declared.replay.Log.{Log}
-use Rattle.driver.specs.declared.remark.Remark.{Remark}
-use Rattle.driver.specs.Remarks.{remark_of, trim_remark}
+use Rattle.std.specs.Prelude.{◌≡◌, ◌≢◌, ℕ, Result, Err}
+use Rattle.driver.specs.Below.{Act, Do, Trim, CoreView, IsAnswered, IsTrimmed, Fault, OutOfMemory, Answer, Step, ended}
+use Rattle.driver.specs.ReplayText.{Told, answer_line, entries_of, told_more, trim_line}
 
--- what is kept: the entries that were folded, the oldest first, and the remarks
-pub record Logged : Type 0 where
-  pub past : List Entry
-  pub remarks : List Remark
+-- the line of an answer was added
+abbrev pub IsAnswerTold : Told → ℕ → Result Answer Fault → Told → Type 0
+IsAnswerTold told i r told' = told' ≡ told_more told (ended (answer_line told.count i r)) (entries_of r)
 
-abbrev pub logged : Log → Logged
-logged log = record { past = log.past.items; remarks = log.remarks.items }
+abbrev pub IsTrimTold : Told → Result ℕ Fault → Told → Type 0
+IsTrimTold told r told' = told' ≡ told_more told (ended (trim_line r)) 0
 
--- how many entries there are, with those that were folded
-abbrev pub count_of : CoreView → Logged → ℕ
-count_of core log = length log.past + length core.entries
+-- a step was answered, and not by OutOfMemory, and its line was kept
+abbrev pub IsStepLogged : CoreView → Told → ℕ → Step → CoreView → Told → Type 0
+IsStepLogged old told i step new told' =
+    (r : Result Answer Fault) × IsAnswered old i step r new × (r ≢ Err OutOfMemory) × IsAnswerTold told i r told'
 
--- a trim folds all entries, or none
-abbrev pub gone : Result ℕ Fault → List Entry → List Entry
-gone (Ok count) entries = reverse entries
-gone (Err fault) entries = []
+-- a trim was answered, and its line was kept
+abbrev pub IsTrimLogged : CoreView → Told → CoreView → Told → Type 0
+IsTrimLogged old told new told' = (r : Result ℕ Fault) × IsTrimmed old r new × IsTrimTold told r told'
 
--- a remark is added, if there is one
-abbrev pub IsRemarked : List Remark → Option Remark → List Remark → Type 0
-IsRemarked old None new = new ≡ old
-IsRemarked old (Some r) new = new ≡ old ++ r ∷ []
-
--- a step was answered, and not by OutOfMemory, and the answer was kept
-abbrev pub IsStepLogged : CoreView → Logged → ℕ → Step → CoreView → Logged → Type 0
-IsStepLogged old log i step new log' =
-    (r : Result Answer Fault) × IsAnswered old i step r new × (r ≢ Err OutOfMemory) × (log'.past ≡ log.past)
-    × IsRemarked log.remarks (remark_of (count_of old log) i r) log'.remarks
-
--- a trim was answered, and the entries that it folded were kept
-abbrev pub IsTrimLogged : CoreView → Logged → CoreView → Logged → Type 0
-IsTrimLogged old log new log' =
-    (r : Result ℕ Fault) × IsTrimmed old r new × (log'.past ≡ log.past ++ gone r old.entries)
-    × (log'.remarks ≡ log.remarks ++ trim_remark (count_of old log) r ∷ [])
-
-abbrev pub IsLogged : CoreView → Logged → Act → CoreView → Logged → Type 0
-IsLogged old log (Do i step) new log' = IsStepLogged old log i step new log'
-IsLogged old log Trim new log' = IsTrimLogged old log new log'
+abbrev pub IsLogged : CoreView → Told → Act → CoreView → Told → Type 0
+IsLogged old told (Do i step) new told' = IsStepLogged old told i step new told'
+IsLogged old told Trim new told' = IsTrimLogged old told new told'

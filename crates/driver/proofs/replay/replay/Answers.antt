@@ -1,32 +1,19 @@
-use Rattle.std.proofs.Common.{◌<◌, ◌∷◌, [], ◌++◌, length, reverse, refl, ap, sym, ◌∙◌, subst, arith}
-use Rattle.std.proofs.lemmas.List.Elements.{All-append}
-use Rattle.driver.specs.Below.{IsOfSeats, Header, IsSpelt, StepsHeader, steps_form, steps_so_far}
+use Rattle.std.proofs.Common.{◌<◌, ◌∷◌, [], ◌++◌, refl, ap, sym, ◌∙◌, subst, arith}
+use Rattle.driver.specs.Below.{IsOfSeats, Header, Memory, StepsHeader, steps_form, steps_so_far}
 use Rattle.streams.proofs.Faults.{err_is}
-use Rattle.driver.specs.inner.Logged.{logged}
 use Rattle.driver.specs.StepReader.{Held, common_act, progress}
 use Rattle.driver.proofs.Doing.{of_seats, spelt_on}
-use Rattle.driver.proofs.Driven.{answering_none, answering_act, answering_all, one_entry_more}
+use Rattle.driver.proofs.Driven.{answering_none, answering_act, answering_all}
 use Rattle.driver.proofs.StepsAhead.{no_text}
 use Rattle.driver.proofs.ReadingAhead.{goes_on, memory_at_end, memory_after}
 use Rattle.driver.proofs.replay.replay.Goals as goal
 
-pub answer_act-requires-clause-seat : goal.answer_act-requires-clause-seat
-answer_act-requires-clause-seat g c =
+pub answer_act-requires : goal.answer_act-requires
+answer_act-requires g c =
     let held = c.in_default.ensures.none in
     subst (λ (k : Header). IsOfSeats k.seats c.in-Some-2.act)
     (ap (λ (h : Held). h.header.header) held ∙ sym c.loop-seat-2.invariant.header)
     (of_seats c.next_common.new.self.header c.in-Some-2.act (rw c.in-Some-2.is at c.in_ok-act.ensures.seated))
-
-pub answer_act-requires-clause-few : goal.answer_act-requires-clause-few
-answer_act-requires-clause-few g c =
-    omega (
-      arith,
-      c.loop-seat-2.invariant.few,
-      ap (λ (h : Held). h.count) c.in_default.ensures.none,
-      rw c.in-Some-2.is at c.in_ok-act.ensures.counted,
-      c.count.ensures,
-      c.if-count-gt-MOST_ACTS.false,
-    )
 
 pub loop-seat-preserved : goal.loop-seat-preserved
 loop-seat-preserved g c =
@@ -35,22 +22,13 @@ loop-seat-preserved g c =
     let next = rw c.in-Some-2.is at c.in_ok-act.ensures.next in
     let same = c.in_ok-act.ensures.header ∙ ap (λ (h : Held). h.header) held in
     let a =
-    answering_act _ _ _ c.in-Some-2.act was.core c.answer_act.new.core (logged was.log)
-    (logged c.answer_act.new.log) (g.R.Source.left c.next.new.reader) next c.in_ok-act.ensures.header
-    c.in_ok-answer_act.ensures.ok c.in_ok-answer_act.ensures.may_fold
+    answering_act _ _ _ c.in-Some-2.act was.core c.answer_act.new.core was.tape c.answer_act.new.tape (g.R.Source.left c.next.new.reader) next c.in_ok-act.ensures.header
+    c.in_ok-answer_act.ensures
     (rw (← held) at was.invariant.answering) in
     record {
       going = goes_on c.in_ok-act.field-0 (g.R.Source.failed c.next.new.reader)
           (λ t. c.in_ok-act.ensures.failing.1 t);
       same = same ∙ was.invariant.same;
-      few = omega (
-        arith,
-        was.invariant.few,
-        ap (λ (h : Held). h.count) held,
-        rw c.in-Some-2.is at c.in_ok-act.ensures.counted,
-        one_entry_more c.in-Some-2.act was.core c.answer_act.new.core (logged was.log)
-            (logged c.answer_act.new.log) c.in_ok-answer_act.ensures.ok,
-      );
       header = a.1 ∙ was.invariant.header ∙ ap (λ (k : StepsHeader). k.header) (sym same);
       answering = a.0;
     }
@@ -63,7 +41,7 @@ pub returns-in_default-2-clause-ok : goal.returns-in_default-2-clause-ok
 returns-in_default-2-clause-ok g c =
     answering_all _ (progress c.next_common.new.self (g.R.Source.left c.loop-seat.reader))
     (progress c.next.new.self (g.R.Source.left c.next.new.reader))
-    c.loop-seat-2.core.base c.loop-seat-2.core.entries c.loop-seat-2.log.past.items c.loop-seat-2.log.remarks.items
+    c.loop-seat-2.core.base c.loop-seat-2.core.entries c.loop-seat-2.tape
     (g.R.Source.left c.next.new.reader)
     (ap (λ (h : Held). h.header) c.in_default.ensures.none ∙ c.loop-seat-2.invariant.same)
     (rw c.in_default-2.is at c.in_ok-act.ensures.next)
@@ -74,30 +52,24 @@ returns-in_default-2-clause-ok g c =
       in_fair_order = c.recall_lawful.ensures.fair;
     }) (rw (← c.in_default.ensures.none) at c.loop-seat-2.invariant.answering)
 
+pub returns-in_default-2-clause-based : goal.returns-in_default-2-clause-based
+returns-in_default-2-clause-based g c = (
+  c.recall_lawful.ensures.header ∙ c.loop-seat-2.invariant.header
+      ∙ ap (λ (k : StepsHeader). k.header) c.loop-seat-2.invariant.same,
+  c.recall_lawful.ensures.may_fold.can.good,
+)
+
 pub returns-in_default-2-clause-spelt : goal.returns-in_default-2-clause-spelt
 returns-in_default-2-clause-spelt g c =
-    All-append IsSpelt c.loop-seat-2.log.past.items (reverse c.loop-seat-2.core.entries)
-    c.loop-seat-2.invariant.answering.spelt
-    (spelt_on c.loop-seat-2.core.base c.loop-seat-2.core.entries c.recall_lawful.ensures.may_fold.can)
-
-pub returns-in_default-2-clause-folded : goal.returns-in_default-2-clause-folded
-returns-in_default-2-clause-folded g c = record {
-  header = c.recall_lawful.ensures.header ∙ c.loop-seat-2.invariant.header
-      ∙ ap (λ (k : StepsHeader). k.header) c.loop-seat-2.invariant.same;
-  entries = c.loop-seat-2.invariant.answering.counted;
-  ended = c.loop-seat-2.invariant.answering.ended;
-  good = c.recall_lawful.ensures.may_fold.can.good;
-}
+    spelt_on c.loop-seat-2.core.base c.loop-seat-2.core.entries c.recall_lawful.ensures.may_fold.can
 
 pub loop-seat-init : goal.loop-seat-init
 loop-seat-init g c = record {
   going = c.requires.reader;
   same = refl;
   header = c.requires.header;
-  few = omega (arith, ap length c.new.ensures.items, ap length c.requires.fresh);
-  answering =
-      rw (c.new.ensures.items, c.new-2.ensures.items) (answering_none _ c.args.core.now.base
-      c.args.core.now.entries c.requires.base c.requires.fresh);
+  answering = answering_none _ c.args.core.now.base c.args.core.now.entries c.new-tape.result c.requires.base
+      c.requires.fresh c.new-tape.ensures;
 }
 
 pub returns-in_err-act-clause-err : goal.returns-in_err-act-clause-err
@@ -113,8 +85,7 @@ returns-in_err-answer_act-clause-err g c =
     let next = rw c.in-Some-2.is at c.in_ok-act.ensures.next in
     let first = progress c.args.steps.now (g.R.Source.left c.args.reader.now) in
     let passed = c.from_residual-in_err-answer_act in
-    let full = err_is passed.result c.in_err-answer_act.field-0.0 passed.ensures in
-    rw (full, c.in_err-answer_act.ensures.err)
+    rw (err_is passed.result Memory passed.ensures)
     (memory_after steps_form first
     (a.acts ++ c.in-Some-2.act ∷ []) (steps_so_far c.next.new.self.header c.next.new.self.count)
     c.next.new.self.bytes (g.R.Source.left c.next.new.reader) c.in_ok-act.ensures.held
@@ -154,19 +125,14 @@ loop-seat-2-init g c =
     record {
       same = was.same;
       header = was.header;
-      few = was.few;
       further = omega arith;
       answering = was.answering;
     }
 
-pub answer_common-requires-clause-seat : goal.answer_common-requires-clause-seat
-answer_common-requires-clause-seat g c =
+pub answer_common-requires : goal.answer_common-requires
+answer_common-requires g c =
     subst (λ (k : Header). c.in-Some.seat < k.seats) (sym c.loop-seat-2.invariant.header)
     c.in-Some.ensures.seated.0
-
-pub answer_common-requires-clause-few : goal.answer_common-requires-clause-few
-answer_common-requires-clause-few g c =
-    omega (arith, c.loop-seat-2.invariant.few, c.in-Some.ensures.counted, c.in-Some.ensures.few)
 
 pub loop-seat-2-smaller : goal.loop-seat-2-smaller
 loop-seat-2-smaller g c = omega (arith, c.in-Some.ensures.counted, c.in-Some.ensures.few)
@@ -178,19 +144,11 @@ loop-seat-2-preserved g c =
     let next = c.in-Some.ensures.next (g.R.Source.left c.loop-seat.reader) in
     let same = c.in-Some.ensures.header in
     let a =
-    answering_act _ _ _ act was.core c.answer_common.new.core (logged was.log)
-    (logged c.answer_common.new.log) (g.R.Source.left c.loop-seat.reader) next same
-    c.in_ok-answer_common.ensures.ok (λ e. cc) was.invariant.answering in
+    answering_act _ _ _ act was.core c.answer_common.new.core was.tape c.answer_common.new.tape (g.R.Source.left c.loop-seat.reader) next same
+    c.in_ok-answer_common.ensures was.invariant.answering in
     record {
       same = same ∙ was.invariant.same;
       header = a.1 ∙ was.invariant.header ∙ ap (λ (k : StepsHeader). k.header) (sym same);
-      few = omega (
-        arith,
-        was.invariant.few,
-        c.in-Some.ensures.counted,
-        one_entry_more act was.core c.answer_common.new.core (logged was.log)
-            (logged c.answer_common.new.log) c.in_ok-answer_common.ensures.ok,
-      );
       further = omega (arith, was.invariant.further, c.in-Some.ensures.counted);
       answering = a.0;
     }
@@ -202,8 +160,7 @@ returns-in_err-answer_common-clause-err g c =
     let next = c.in-Some.ensures.next left in
     let first = progress c.args.steps.now (g.R.Source.left c.args.reader.now) in
     let passed = c.from_residual in
-    let full = err_is passed.result c.in_err-answer_common.field-0.0 passed.ensures in
-    rw (full, c.in_err-answer_common.ensures.err)
+    rw (err_is passed.result Memory passed.ensures)
     (memory_after steps_form first
     (a.acts ++ common_act (c.in-Some.seat, c.in-Some.common) ∷ [])
     (steps_so_far c.next_common.new.self.header c.next_common.new.self.count)

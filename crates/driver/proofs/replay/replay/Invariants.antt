@@ -1,4 +1,4 @@
-use Rattle.std.proofs.Common.{◌≡◌, ◌+◌, ◌-◌, ◌≤◌, ◌^◌, false, length}
+use Rattle.std.proofs.Common.{◌≡◌, ◌-◌, ◌≤◌, ◌^◌, false}
 use Rattle.driver.specs.StepReader.{progress}
 use Rattle.driver.proofs.Driven.{Answering}
 use Rattle.driver.proofs.replay.replay.Given as goal
@@ -9,10 +9,8 @@ invariant-loop-seat g l = record {
   going : g.R.Source.failed l.reader ≡ false;
   same : l.steps.header ≡ l.fn.steps.header;
   header : l.core.header ≡ l.steps.header.header;
-  few : length l.log.past.items + length l.core.entries ≤ l.steps.count;
   answering : Answering (progress l.fn.steps (g.R.Source.left l.fn.reader))
-      (progress l.steps (g.R.Source.left l.reader)) l.core.base l.core.entries l.log.past.items
-      l.log.remarks.items;
+      (progress l.steps (g.R.Source.left l.reader)) l.core.base l.core.entries l.tape;
 }
 
 abbrev pub decreases-loop-seat : goal.decreases-loop-seat
@@ -23,11 +21,9 @@ abbrev pub invariant-loop-seat-2 : goal.invariant-loop-seat-2
 invariant-loop-seat-2 g l = record {
   same : l.steps.header ≡ l.fn.steps.header;
   header : l.core.header ≡ l.steps.header.header;
-  few : length l.log.past.items + length l.core.entries ≤ l.steps.count;
   further : l.initial.steps.count ≤ l.steps.count;
   answering : Answering (progress l.fn.steps (g.R.Source.left l.fn.reader))
-      (progress l.steps (g.R.Source.left l.reader)) l.core.base l.core.entries l.log.past.items
-      l.log.remarks.items;
+      (progress l.steps (g.R.Source.left l.reader)) l.core.base l.core.entries l.tape;
 }
 
 abbrev pub decreases-loop-seat-2 : goal.decreases-loop-seat-2

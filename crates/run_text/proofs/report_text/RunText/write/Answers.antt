@@ -3,7 +3,8 @@ use Rattle.std.specs.List.{concat}
 use Rattle.std.specs.Io.KnownBytes.{Appends}
 use Rattle.std.proofs.KnownBytes.{Appends-trans}
 use Rattle.streams.specs.Writing.{AppendsFront}
-use Rattle.driver.proofs.Gathering.{if_failed, where_failed}
+use Rattle.std.proofs.lemmas.Result.{on_err_weaker}
+use Rattle.driver.proofs.Gathering.{if_failed}
 use Rattle.run_text.proofs.Written.{concat_more, front_behind, front_of_all}
 use Rattle.run_text.proofs.report_text.RunText.write.Goals as goal
 
@@ -39,6 +40,6 @@ returns-clause-err g c =
     let i = c.loop-part.part-index in
     let all : length parts ≤ i = search rules in
     let written = subst (Appends _ _) (ap concat (take_all i parts all)) c.loop-part.invariant.written in
-    where_failed c.write_all.result _ _ (λ front. subst (AppendsFront _ _) (sym c.loop-part.invariant.whole)
+    on_err_weaker c.write_all.result (λ front. subst (AppendsFront _ _) (sym c.loop-part.invariant.whole)
     (front_behind _ _ _ (concat parts) c.self.inside.last.items written (rw c.deref.ensures.value at front)))
     c.write_all.ensures.err
