@@ -16,6 +16,9 @@ const PLACES: u32 = 16;
 /// How often a wait checks, once a millisecond, before it gives up.
 const TURNS: u32 = 10_000;
 
+/// How often an unpark that is kept checks whether it may return.
+const SPINS: u32 = 500_000_000;
+
 /// Returns park results from a list, and `Permit` after that. A park ends when the test allows it, or after
 /// some 10 seconds.
 #[derive(Drop)]
@@ -29,6 +32,7 @@ pub struct NotedParking {
     tick: u64,
     /// Whether the next reading of the clock interrupts seat 1.
     is_late: AtomicBool,
+    keeps_unparks: AtomicBool,
 }
 
 impl NotedParking {
@@ -47,6 +51,7 @@ impl NotedParking {
             clock: AtomicU64::new(0),
             tick,
             is_late: AtomicBool::new(false),
+            keeps_unparks: AtomicBool::new(false),
         })
     }
 
@@ -76,6 +81,11 @@ impl NotedParking {
     /// Ends all parks, also later ones.
     pub fn end_all(&self) {
         self.ends.store(u64::MAX, Ordering::SeqCst);
+    }
+
+    /// Keeps an unpark, which ends all parks, until `keep_unparks(false)`. If late, it interrupts seat 0.
+    pub fn keep_unparks(&self, keeps: bool) {
+        self.keeps_unparks.store(keeps, Ordering::SeqCst);
     }
 
     /// Returns the calls of park, unpark and interrupt, in order.
@@ -118,6 +128,13 @@ impl Parking for NotedParking {
 
     fn unpark(&self, seat: u16, by: &Token) {
         self.notes.unpark(seat, by);
+        for _ in 0..SPINS {
+            if !self.keeps_unparks.load(Ordering::SeqCst) {
+                return;
+            }
+            self.end_all();
+        }
+        self.notes.interrupt(0);
     }
 
     fn interrupt(&self, seat: u16) {
