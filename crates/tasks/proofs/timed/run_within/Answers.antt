@@ -9,7 +9,7 @@ use Rattle.tasks.proofs.timed.run_within.Goals as goal
 
 pub returns-in_err-run-clause-err : goal.returns-in_err-run-clause-err
 returns-in_err-run-clause-err g c =
-    let fault : c.from_residual-in_err-report.result ≡ Err (Run c.in_err-run.field-0.0) = search rules in
+    let fault : c.from_residual.result ≡ Err (Run c.in_err-run.field-0.0) = search rules in
     subst (λ r. IfErr r (IsFaultOfTimed (arc_value c.args.script).workers)) (sym fault)
     (fault_of_threads (arc_value c.args.script).workers c.in_err-run.field-0.0 c.in_err-run.ensures.fault)
 
