@@ -142,8 +142,8 @@ fn each_read_and_each_write_fails_in_turn(rt: HostRuntime) -> Result<(), Fail> {
     Ok(())
 }
 
-/// About as many bytes are written at once: a piece, less the last line that didn't fit.
-const PIECE: usize = 65_400;
+/// About as many bytes are written at once: a piece, less the room of the longest line.
+const PIECE: usize = 65_280;
 
 /// Each piece of a long answer fails to be written in turn. What was written before is a beginning of the
 /// answer, and one piece longer each time.

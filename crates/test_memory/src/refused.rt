@@ -130,14 +130,14 @@ fn cores_and_what_they_stand_on_are_opened_whole_or_not_at_all(
     try_rows(
         &rt,
         &[
-            Row(Play::Core(lock), COARSE, 400, 424),
-            Row(Play::Core(read_write), COARSE, 416, 441),
-            Row(Play::Core(semaphore), COARSE, 280, 300),
-            Row(Play::Core(latch), COARSE, 280, 300),
+            Row(Play::Core(lock), COARSE, 335, 360),
+            Row(Play::Core(read_write), COARSE, 350, 376),
+            Row(Play::Core(semaphore), COARSE, 208, 230),
+            Row(Play::Core(latch), COARSE, 208, 230),
             Row(Play::Base(read_write), COARSE, 175, 192),
             Row(Play::Readers, COARSE, 2, 12),
-            Row(Play::Line, COARSE, 145, 158),
-            Row(Play::Sleepers, COARSE, 50, 64),
+            Row(Play::Line, COARSE, 97, 110),
+            Row(Play::Sleepers, COARSE, 26, 40),
             Row(Play::Nodes, COARSE, 34, 44),
             Row(Play::Run, COARSE, 40, 90),
             Row(Play::RunActs, COARSE, 60, 120),
@@ -167,8 +167,8 @@ fn monitors_and_parkings_are_opened_whole_or_not_at_all(rt: HostRuntime) -> Resu
 
 /// Texts through each stream, and how often they fail, with pieces of 64 bytes, at least and at most.
 const NARROW: [(Stream, &[u8], u32, u32); 8] = [
-    (Stream::Replay, STEPS, 980, 1070),
-    (Stream::History, STEPS, 980, 1070),
+    (Stream::Replay, STEPS, 1740, 1830),
+    (Stream::History, STEPS, 1740, 1830),
     (Stream::Audit, HISTORY, 830, 3000),
     (Stream::Draw, HISTORY, 830, 3400),
     (Stream::Audit, ON_SLEEPER, 830, 3000),
@@ -191,7 +191,7 @@ fn a_stream_that_lacks_memory_writes_nothing(rt: HostRuntime) -> Result<(), Fail
 #[test]
 fn a_replay_of_many_seats_takes_hardly_more_than_its_tables(rt: HostRuntime) -> Result<(), Fail> {
     for (number, text) in WIDE.iter().enumerate() {
-        let most: u32 = if number < 2 || number == 4 { 760 } else { 640 };
+        let most: u32 = if number < 2 || number == 4 { 690 } else { 570 };
         for stream in [Stream::Replay, Stream::History] {
             let what = Play::Through(stream, text);
             try_rows(&rt, &[Row(what, COARSE, most.saturating_sub(120), most)])?;
@@ -199,7 +199,7 @@ fn a_replay_of_many_seats_takes_hardly_more_than_its_tables(rt: HostRuntime) -> 
     }
     for text in &TRIMMED {
         for stream in [Stream::Replay, Stream::History] {
-            try_rows(&rt, &[Row(Play::Through(stream, text), COARSE, 280, 400)])?;
+            try_rows(&rt, &[Row(Play::Through(stream, text), COARSE, 270, 450)])?;
         }
     }
     Ok(())
@@ -211,8 +211,8 @@ fn what_is_read_is_read_whole_or_not_at_all(rt: HostRuntime) -> Result<(), Fail>
     try_rows(
         &rt,
         &[
-            Row(Play::Again(HISTORY), 64, 160, 200),
-            Row(Play::Again(ON_SLEEPER), 64, 185, 230),
+            Row(Play::Again(HISTORY), 64, 105, 140),
+            Row(Play::Again(ON_SLEEPER), 64, 125, 165),
             Row(Play::Script(SCRIPT), FINE, 700, 860),
         ],
     )?;
@@ -259,7 +259,7 @@ fn a_growth_of_a_history_is_refused(rt: HostRuntime) -> Result<(), Fail> {
     try_rows(
         &rt,
         &[
-            Row(Play::Again(history.as_bytes()), COARSE, 220, 280),
+            Row(Play::Again(history.as_bytes()), COARSE, 190, 240),
             Row(audit, COARSE, 250, 290),
         ],
     )?;
