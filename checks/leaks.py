@@ -24,6 +24,7 @@ import cases
 HERE = pathlib.Path(__file__).resolve().parent
 SECONDS = 300
 PIECE = 1 << 16  # bytes of a read and of a write
+LONGEST_LINE = 255  # bytes that a write may lack, as the next line might not fit
 MORE = 2  # reads and writes that a text may take beside those
 PARTS = 4  # writes of a run for each of its objects
 SIZES = range(1 << 20, 24 << 20, 1 << 18)  # bytes of data that a program may have
@@ -79,7 +80,7 @@ def fault(counts, size, more=MORE, files=1):
     if counts.reads > size // PIECE + files * MORE:
         return f"{counts.reads} reads for {size} bytes"
     objects = len(re.findall(rb"^object ", counts.told, re.M))
-    if counts.writes > len(counts.told) // PIECE + more + PARTS * objects:
+    if counts.writes > len(counts.told) // (PIECE - LONGEST_LINE) + more + PARTS * objects:
         return f"{counts.writes} writes for {len(counts.told)} bytes"
     return None
 
