@@ -89,9 +89,9 @@ static inline int one_step(object_t *object, seat_t *seat, uint8_t code, uint8_t
 
 static inline seat_t *seat_at(object_t *object, uint16_t index) { return &object->core->seats[index]; }
 
-/* A hold of the seat is over, if it was timed. */
-static inline void stop_timing(object_t *object, seat_t *seat) {
-    if (unlikely(seat->since)) end_hold(object, seat);
+/* A hold of the seat was over then, if it was timed. */
+static inline void stop_timing(object_t *object, seat_t *seat, uint64_t end) {
+    if (unlikely(seat->since)) end_hold(object, seat, end);
 }
 
 /* Mutexes ------------------------------------------------------------------------------------------------ */
@@ -146,12 +146,10 @@ SHOWN int pthread_mutex_destroy(pthread_mutex_t *mutex) {
 
 static inline int got_mutex(object_t *object, thread_t *me, uint16_t seat) {
     seat_at(object, seat)->holds = 1;
-    if (unlikely(is_timed)) {
-        count_one_call(object, me);
-        begin_hold(seat_at(object, seat));
-    }
+    count_call(object, me);
     object->owner_seat = seat;
     atomic_store_explicit(&object->owner, me->id, memory_order_relaxed);
+    begin_hold(seat_at(object, seat));
     leave(me);
     return 0;
 }
@@ -223,8 +221,8 @@ static int try_mutex(object_t *object) {
 }
 
 /* Gives the owner's last hold back. The caller has taken the ownership from object->owner. */
-static inline void give_mutex(object_t *object, thread_t *me, uint16_t seat) {
-    stop_timing(object, seat_at(object, seat));
+static inline void give_mutex(object_t *object, thread_t *me, uint16_t seat, uint64_t end) {
+    stop_timing(object, seat_at(object, seat), end);
     seat_at(object, seat)->holds = 0;
     one_step(object, seat_at(object, seat), AQS_STEP_GIVE, AQS_MODE_EXCLUSIVE);
     unclaim(object, seat_at(object, seat));
@@ -241,7 +239,7 @@ static COLD int unlock_for_owner(object_t *object, thread_t *me) {
     bool is_held = atomic_exchange(&object->owner, 0) != 0;
     aqs_answer_t answer = {0};
     if (is_held) {
-        stop_timing(object, seat_at(object, seat));
+        stop_timing(object, seat_at(object, seat), time_of_end());
         seat_at(object, seat)->holds = 0;
         aqs_step_t give = {1, AQS_STEP_GIVE, AQS_MODE_EXCLUSIVE};
         aqs_step_now(&seat_at(object, seat)->pass, give, &answer);
@@ -255,7 +253,7 @@ static COLD int unlock_for_owner(object_t *object, thread_t *me) {
     return 0;
 }
 
-static inline int unlock_mutex(object_t *object) {
+static inline int unlock_mutex(object_t *object, uint64_t end) {
     thread_t *me = self();
     if (unlikely(atomic_load_explicit(&object->owner, memory_order_relaxed) != me->id))
         return unlock_for_owner(object, me);
@@ -268,7 +266,7 @@ static inline int unlock_mutex(object_t *object) {
         if (unlikely(atomic_load(&object->pending))) flush(object, seat);
         /* Another thread may have unlocked it in this moment. */
         uint64_t owner = me->id;
-        if (likely(atomic_compare_exchange_strong(&object->owner, &owner, 0))) give_mutex(object, me, seat);
+        if (likely(atomic_compare_exchange_strong(&object->owner, &owner, 0))) give_mutex(object, me, seat, end);
     }
     leave(me);
     return 0;
@@ -280,7 +278,7 @@ uint32_t unlock_whole(object_t *object, thread_t *me) {
     uint16_t seat = object->owner_seat;
     uint32_t holds = seat_at(object, seat)->holds;
     leave(me);
-    for (uint32_t i = 0; i < holds; i++) unlock_mutex(object);
+    for (uint32_t i = 0; i < holds; i++) unlock_mutex(object, time_of_end());
     return holds;
 }
 
@@ -295,15 +293,37 @@ SHOWN int pthread_mutex_lock(pthread_mutex_t *mutex) {
 }
 
 SHOWN int pthread_mutex_unlock(pthread_mutex_t *mutex) {
+    uint64_t end = time_of_end();
     object_t *object = find_mutex(mutex, HERE);
     if (unlikely(!object)) return REAL(pthread_mutex_unlock, mutex);
-    return unlock_mutex(object);
+    return unlock_mutex(object, end);
 }
 
 SHOWN int pthread_mutex_trylock(pthread_mutex_t *mutex) {
     object_t *object = find_mutex(mutex, HERE);
     if (unlikely(!object)) return REAL(pthread_mutex_trylock, mutex);
     return try_mutex(object);
+}
+
+/* The least that the clock says of many holds of nothing. Their object is in no table, and is freed. That of a
+   read-write lock would be the same. */
+uint64_t least_hold(void) {
+    enum { MANY = 1000 };
+    static pthread_mutex_t mutex = PTHREAD_MUTEX_INITIALIZER;
+    object_t *object = heap_take_zeroed(sizeof *object);
+    uint64_t least = UINT64_MAX, before = 0;
+    if (!object) return 0;
+    object->born = epoch_of_now();
+    *tag_of_mutex(&mutex) = (tag_t){object, mark_of(&mutex)};
+    for (int i = 0; i < MANY; i++) {
+        pthread_mutex_lock(&mutex);
+        pthread_mutex_unlock(&mutex);
+        uint64_t sum = object->hold_times ? object->hold_times->sum : before;
+        if (sum - before < least) least = sum - before;
+        before = sum;
+    }
+    free_object(object);
+    return least;
 }
 
 /* A time that is none is a fault only where the call would wait. */
@@ -396,9 +416,9 @@ static void got_rwlock(object_t *object, thread_t *me, uint16_t seat, uint8_t mo
         return;
     }
     seat_at(object, seat)->holds = 1;
-    begin_hold(seat_at(object, seat));
     object->owner_seat = seat;
     atomic_store(&object->owner, me->id);
+    begin_hold(seat_at(object, seat));
 }
 
 static int acquire_by(object_t *object, thread_t *me, seat_t *seat, bool tries, request_t *request) {
@@ -444,7 +464,7 @@ static COLD void unlock_for_reader(object_t *object, thread_t *me) {
         if (mode == AQS_MODE_EXCLUSIVE) seat->holds = 0, object->owner = 0;
         else seat->reads--;
         if (seat->reads + seat->holds == 0) {
-            stop_timing(object, seat);
+            stop_timing(object, seat, time_of_end());
             atomic_store(&seat->user, 0);
         }
         break;
@@ -453,7 +473,7 @@ static COLD void unlock_for_reader(object_t *object, thread_t *me) {
     if (atomic_load(&object->outside)) wake_outside(object, false);
 }
 
-static int unlock_rwlock(object_t *object) {
+static int unlock_rwlock(object_t *object, uint64_t end) {
     thread_t *me = self();
     enter(me, object);
     seat_t *seat = own_seat(object, me);
@@ -470,7 +490,7 @@ static int unlock_rwlock(object_t *object) {
     } else {
         seat->reads--;
     }
-    if (seat->reads + seat->holds == 0) stop_timing(object, seat);
+    if (seat->reads + seat->holds == 0) stop_timing(object, seat, end);
     one_step(object, seat, AQS_STEP_GIVE, mode);
     seat = seat_at(object, index);
     if (seat->reads + seat->holds == 0) leave_seat(object, me, seat);
@@ -483,6 +503,12 @@ static int lock_rwlock_until(
     object_t *object, uint8_t mode, const struct timespec *moment, clockid_t clock, void *place) {
     if (!is_clock(clock) || !is_deadline(moment)) return EINVAL;
     return lock_rwlock(object, mode, false, (deadline_t){moment, clock}, place);
+}
+
+SHOWN int pthread_rwlock_unlock(pthread_rwlock_t *lock) {
+    uint64_t end = time_of_end();
+    object_t *object = object_of_rwlock(lock, HERE);
+    return likely(object != NULL) ? unlock_rwlock(object, end) : REAL(pthread_rwlock_unlock, lock);
 }
 
 #define RWLOCK_CALL(name, parameters, arguments, by_us)                 \
@@ -505,7 +531,6 @@ RWLOCK_CALL(
 RWLOCK_CALL(
     pthread_rwlock_trywrlock, (pthread_rwlock_t * lock), lock,
     lock_rwlock(object, AQS_MODE_EXCLUSIVE, true, FOREVER, HERE))
-RWLOCK_CALL(pthread_rwlock_unlock, (pthread_rwlock_t * lock), lock, unlock_rwlock(object))
 RWLOCK_CALL(
     pthread_rwlock_timedrdlock, (pthread_rwlock_t * lock, const struct timespec *at), lock AND at,
     lock_rwlock_until(object, AQS_MODE_SHARED, at, CLOCK_REALTIME, HERE))

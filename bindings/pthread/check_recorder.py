@@ -7,6 +7,7 @@ import pathlib
 import re
 import shutil
 import signal
+import statistics
 import subprocess
 import time
 from concurrent.futures import ThreadPoolExecutor
@@ -444,7 +445,7 @@ KNOWN_TIMES = {
 
 def record_times(tests, case):
     folder = tests.histories(f"times-{case}")
-    ran([RECORD, "--times", "-o", folder, "--", TIMES, case])
+    ran([RECORD, "--times", "-e", "0", "-o", folder, "--", TIMES, case])
     return folder
 
 
@@ -501,6 +502,34 @@ def check_known_times(tests):
     lines = re.findall(r"\w+\.[hc]:\d+", str(process and process["objects"][0]["place_line"]))
     wanted = [f"check.h:{line_with('in a header', 'check.h')}", f"times.c:{line_with('from here')}"]
     tests.count("a place in a header is told with the source that it came from", lines == wanted, told)
+
+
+def check_people(tests):
+    """Threads that used a lock which is gone are counted, and none is told as a holder that never held."""
+    process, told = report_of(["--report", record_times(tests, "mutexes_of_many_threads_are_gone")])
+    gone = [it for it in process["objects"] if "gone" in it] if process else []
+    is_good = [(it["gone"], it["calls"], it["threads"]) for it in gone] == [(14, 14, 14)]
+    tests.count("the threads of all mutexes that are gone are counted", is_good, told)
+    process, told = report_of(["--report", record_times(tests, "an_owner_that_ended_is_replaced")])
+    waits = [(it["thread"]["thread"], it["held_by"]) for it in process["longest_waits"]] if process else []
+    tests.count("who comes after an owner that has ended isn't told as the owner", waits == [(2, None)], told)
+
+
+def check_short_holds(tests):
+    """Holds as short as what the recorder adds to them are as long as the program's own clock says: the medians of 200
+    mutexes, since a busy machine disturbs some. If it disturbs one clock alone, both are asked again."""
+    for case in ("holds_of_60_nanoseconds", "holds_of_a_microsecond"):
+        told, is_near = [], False
+        while not is_near and len(told) < 8:
+            folder = tests.histories(f"times-{case}-{len(told)}")
+            said = ran([RECORD, "--times", "-e", "0", "-o", folder, "--", TIMES, case])
+            process, _ = report_of(["--report", folder])
+            holds = [it["held_ns"] / it["holds"] for it in process["objects"] if it["holds"] == 1000] if process else [0]
+            is_near = len(holds) == 200 and abs(statistics.median(holds) / float(said[1]) - 1) < 0.1
+            told.append(f"{said}: {statistics.median(holds)} ns in {len(holds)} mutexes")
+        tests.count(case.replace("_", " "), is_near, "\n".join(told))
+        is_said = process and f" add {process['taken_off_each_hold_ns']} ns to each hold: they are taken off.\n" in said[2]
+        tests.count(f"what is taken off is said of {case.replace('_', ' ')}", bool(is_said), said[2])
 
 
 def line_with(text, file="times.c"):
@@ -816,6 +845,7 @@ def check(tests, judged):
         return
     tests.run("texts that follow each other, and lack memory", [OUT / "texts"])
     tests.run("memory of the recorder's own", [OUT / "heaps"])
+    tests.run("who waits for a seat gets the one that comes free", [OUT / "seats"])
     check_refusals(tests)
     check_rare_cases(tests)
     check_what_is_recorded(tests)
@@ -835,6 +865,8 @@ def check(tests, judged):
     check_cost(tests)
     check_forks(tests)
     check_known_times(tests)
+    check_people(tests)
+    check_short_holds(tests)
     check_circles(tests)
     check_ends(tests)
     check_stripped(tests)

@@ -117,10 +117,14 @@ static void free_condition(condition_t *condition) {
     heap_give(condition);
 }
 
-/* The last one that uses the variable frees it. */
+/* The last one that uses the variable frees it. The thread is in the recorder. */
+static void end_use(condition_t *condition) {
+    if (atomic_fetch_sub(&condition->users, 1) == 1) free_condition(condition);
+}
+
 static void let_go(thread_t *me, condition_t *condition) {
     enter_elsewhere(me);
-    if (atomic_fetch_sub(&condition->users, 1) == 1) free_condition(condition);
+    end_use(condition);
     leave(me);
 }
 
@@ -326,6 +330,7 @@ typedef struct {
     thread_t *me;
     deadline_t deadline;
     void *place;
+    uint64_t end; /* of its hold */
     uint16_t seat;
     uint32_t holds;
     waiter_t waiter;
@@ -343,7 +348,7 @@ static void sleep_on(wait_t *wait, aqs_answer_t *answer) {
     call.how = wait->deadline.at ? AQS_HOW_TIMED : AQS_HOW_INTERRUPTIBLE;
     seat->how = call.how, seat->condition = call.mode, seat->order = ++object->order;
     object->sleepers++;
-    if (seat->since) end_hold(object, seat);
+    if (seat->since) end_hold(object, seat, wait->end);
     atomic_exchange(&object->owner, 0);
     seat->state = SLEEPING;
     aqs_begin(&seat->pass, &call, answer);
@@ -366,7 +371,6 @@ static void wake_up(wait_t *wait, const aqs_answer_t *answer) {
     object->sleepers--;
     object->moved -= answer->end == AQS_END_SIGNALLED;
     object->owner_seat = wait->seat;
-    begin_hold(seat);
     atomic_store(&object->owner, wait->me->id);
     end_sleep(wait->me, object);
 }
@@ -396,6 +400,7 @@ static void stop_sleeping(void *with) {
     wait->deadline.at = NULL;
     turns_of_wait(wait, &answer, NO_END);
     wake_up(wait, &answer);
+    begin_hold(&wait->object->core->seats[wait->seat]);
     bool is_lost = answer.end == AQS_END_SIGNALLED
                    && !signal_numbered(wait->object, wait->seat, wait->condition->number, false);
     leave(wait->me);
@@ -411,6 +416,8 @@ static int wait_numbered(wait_t *wait) {
     turns_of_wait(wait, &answer, ENDS_BY_CANCEL);
     pthread_cleanup_pop(0);
     wake_up(wait, &answer);
+    end_use(wait->condition);
+    begin_hold(&wait->object->core->seats[wait->seat]);
     leave(wait->me);
     return answer.end == AQS_END_TIMEOUT ? ETIMEDOUT : 0;
 }
@@ -490,10 +497,13 @@ static int wait_listed(wait_t *wait) {
     return error ? error : is_late ? ETIMEDOUT : 0;
 }
 
-static int wait_on(condition_t *condition, pthread_mutex_t *mutex, void *place, deadline_t deadline) {
+/* `end` is that of its hold. */
+static int
+wait_on(condition_t *condition, pthread_mutex_t *mutex, void *place, deadline_t deadline, uint64_t end) {
     if (deadline.at && !is_deadline(deadline.at)) return EINVAL;
     pthread_testcancel();
-    wait_t wait = {.condition = condition, .mutex = mutex, .deadline = deadline, .place = place, .me = self()};
+    wait_t wait = {.condition = condition, .mutex = mutex, .deadline = deadline, .place = place, .end = end};
+    wait.me = self();
     wait.object = object_of_mutex(mutex, place);
     if (wait.object && wait.object->owner != wait.me->id) return EPERM;
     bool is_numbered = false;
@@ -505,28 +515,32 @@ static int wait_on(condition_t *condition, pthread_mutex_t *mutex, void *place, 
         if (!is_numbered) leave(wait.me);
     }
     atomic_fetch_add(&condition->users, 1);
-    int error = is_numbered ? wait_numbered(&wait) : wait_listed(&wait);
+    if (is_numbered) return wait_numbered(&wait);
+    int error = wait_listed(&wait);
     let_go(wait.me, condition);
     return error;
 }
 
 SHOWN int pthread_cond_wait(pthread_cond_t *variable, pthread_mutex_t *mutex) {
+    uint64_t end = time_of_end();
     condition_t *condition = condition_of(variable);
     if (!condition) return REAL(pthread_cond_wait, variable, mutex);
-    return wait_on(condition, mutex, HERE, FOREVER);
+    return wait_on(condition, mutex, HERE, FOREVER, end);
 }
 
 SHOWN int
 pthread_cond_timedwait(pthread_cond_t *variable, pthread_mutex_t *mutex, const struct timespec *moment) {
+    uint64_t end = time_of_end();
     condition_t *condition = condition_of(variable);
     if (!condition) return REAL(pthread_cond_timedwait, variable, mutex, moment);
-    return wait_on(condition, mutex, HERE, (deadline_t){moment, condition->clock});
+    return wait_on(condition, mutex, HERE, (deadline_t){moment, condition->clock}, end);
 }
 
 SHOWN int pthread_cond_clockwait(
     pthread_cond_t *variable, pthread_mutex_t *mutex, clockid_t clock, const struct timespec *moment) {
+    uint64_t end = time_of_end();
     condition_t *condition = condition_of(variable);
     if (!condition) return REAL(pthread_cond_clockwait, variable, mutex, clock, moment);
     if (!is_clock(clock)) return EINVAL;
-    return wait_on(condition, mutex, HERE, (deadline_t){moment, clock});
+    return wait_on(condition, mutex, HERE, (deadline_t){moment, clock}, end);
 }

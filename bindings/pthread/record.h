@@ -205,7 +205,7 @@ typedef struct {
     _Atomic uint64_t user; /* the id of its thread, or 0 */
     thread_t *thread;
     uint64_t order; /* of sleepers: who came first */
-    uint64_t since; /* when its thread began to hold, if holds are timed */
+    uint64_t since; /* when its hold began, if holds are timed */
     uint32_t holds, reads;
     uint8_t state, condition, how;
 } seat_t;
@@ -365,6 +365,8 @@ static inline uint16_t index_of(const object_t *object, const seat_t *seat) {
 
 extern bool is_timed; /* AQS_TIMES: holds are timed too, and calls are counted */
 
+extern uint64_t added_to_hold; /* by the clock and the recorder. Each hold is told without it */
+
 enum { SLEEP = 2 }; /* what a thread waits for, beside AQS_MODE_EXCLUSIVE and AQS_MODE_SHARED */
 enum { LONGEST = 10 };
 
@@ -413,7 +415,8 @@ void begin_wait(thread_t *me, object_t *object, request_t *request);
 void end_wait(thread_t *me, object_t *object);
 void end_sleep(thread_t *me, object_t *object);
 COLD void count_one_call(object_t *object, const thread_t *me);
-COLD void end_hold(object_t *object, seat_t *seat);
+COLD void end_hold(object_t *object, seat_t *seat, uint64_t end);
+uint64_t least_hold(void);
 void forget_times(object_t *object);
 void forget_waits(void);
 void begin_longest(thread_t *me);
@@ -430,8 +433,12 @@ static inline void count_call(object_t *object, const thread_t *me) {
     if (unlikely(is_timed)) count_one_call(object, me);
 }
 
+/* The time, if holds are timed. Whoever unlocks reads it first of all: before it looks at the object, of which another
+   processor may have the memory. */
+static inline uint64_t time_of_end(void) { return unlikely(is_timed) ? nanoseconds() : 0; }
+
 static inline void begin_hold(seat_t *seat) {
-    if (unlikely(is_timed)) seat->since = nanoseconds();
+    if (unlikely(is_timed)) seat->since = nanoseconds() + added_to_hold;
 }
 
 /* Conditions --------------------------------------------------------------------------------------------- */

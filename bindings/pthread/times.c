@@ -10,6 +10,7 @@
 #include <unistd.h>
 
 bool is_timed;
+uint64_t added_to_hold;
 
 static unsigned bucket_of(uint64_t took) {
     unsigned bucket = took ? 63 - (unsigned)__builtin_clzll(took) : 0;
@@ -35,8 +36,8 @@ COLD void count_one_call(object_t *object, const thread_t *me) {
     if (!(object->threads & bit)) atomic_fetch_or(&object->threads, bit);
 }
 
-COLD void end_hold(object_t *object, seat_t *seat) {
-    add_time(&object->hold_times, nanoseconds() - seat->since);
+COLD void end_hold(object_t *object, seat_t *seat, uint64_t end) {
+    add_time(&object->hold_times, end > seat->since ? end - seat->since : 0);
     seat->since = 0;
 }
 

@@ -181,10 +181,20 @@ void aqs_drop(aqs_pass_t *pass) {
 static atomic_int futex_calls, orders;
 static void (*after_order)(void);
 static atomic_long slept_at;
+
+/* How often a thread slept that waits for a seat. If the test says so, it stays there until it may look again. */
+static atomic_int naps;
+static atomic_bool stays;
+static sem_t may_look;
 long __real_syscall(long number, long a, long b, long c, long d, long e, long f);
 long __wrap_syscall(long number, long a, long b, long c, long d, long e, long f) {
     if (number == SYS_futex) atomic_fetch_add(&futex_calls, 1);
     if (number == SYS_futex && b == FUTEX_WAIT_BITSET_PRIVATE) atomic_store(&slept_at, a);
+    if (number == SYS_futex && b == FUTEX_WAIT_PRIVATE && atomic_load(&stays)) {
+        atomic_fetch_add(&naps, 1);
+        while (sem_wait(&may_look) != 0) continue;
+        return 0;
+    }
     long result = __real_syscall(number, a, b, c, d, e, f);
     bool orders_turns = number == SYS_membarrier && a == MEMBARRIER_CMD_PRIVATE_EXPEDITED && result == 0;
     if (orders_turns) atomic_fetch_add(&orders, 1);
@@ -927,6 +937,99 @@ static void interrupts_at_entry(void) {
     }
 }
 
+/* Waits for a seat ------------------------------------------------------------------------------------- */
+
+/* Player 2 seeks a seat of the lock. */
+static void seek(const char *name, uint32_t time) {
+    atomic_store(&naps, 0);
+    ask(&players[2], call_of(LOCK, name), time, 0);
+    while (atomic_load(&naps) == 0) usleep(20);
+}
+
+/* Lets it look once more. Returns whether it seeks on. */
+static bool seeks_on(void) {
+    int before = atomic_load(&naps);
+    CHECK(sem_post(&may_look) == 0);
+    while (atomic_load(&naps) == before && atomic_load(&players[2].in_call)) usleep(20);
+    return atomic_load(&players[2].in_call);
+}
+
+/* A lock of which these seats are taken by as many players. */
+static void open_taken(uint16_t seats) {
+    atomic_store(&stays, true);
+    IS(aqs_lock_open(&lock, &(aqs_options_t){.threads = seats}), AQS_OK);
+    for (int i = 0; i < seats; i++) {
+        answer_with(i, 0, &got, 1);
+        ask(&players[i], LOCK_lock, 0, 0);
+        CHECK(ends(&players[i], LIMIT));
+    }
+}
+
+static void close_taken(uint16_t seats) {
+    static const aqs_answer_t gave = ENTRY(GAVE);
+    for (int i = 0; i < seats; i++) {
+        answer_with(i, 0, &gave, 1);
+        ask(&players[i], LOCK_unlock, 0, 0);
+        CHECK(ends(&players[i], LIMIT));
+    }
+    drops = 0;
+    aqs_lock_close(lock);
+    CHECK(drops == seats);
+    atomic_store(&stays, false);
+}
+
+/* A timed call that gets none: when it begins, after how many nanoseconds it still seeks, and after how many it
+   ends. It is never too early. */
+static const struct {
+    uint32_t time;
+    long begins, seeks_on, ends;
+} seeks[] = {
+    {9, 7001000000, 8000001, 9000001},  {9, 7000000001, 8999999, 10000000},
+    {1, 7999000000, 1, 1000001},        {5, 7000999999, 5000000, 5000002},
+    {0xffffffff, 7001000000, 4294967294000001, 4294967295000001},
+};
+
+static void times_without_a_seat(void) {
+    play_name = "a call that gets no seat", play_line = "a row";
+    open_taken(1);
+    for (size_t i = 0; i < sizeof seeks / sizeof seeks[0]; i++) {
+        atomic_store(&clock_shows, seeks[i].begins);
+        seek("timedlock", seeks[i].time);
+        atomic_store(&clock_shows, seeks[i].begins + seeks[i].seeks_on);
+        if (!seeks_on()) FAIL("%zu: it ends too early", i);
+        atomic_store(&clock_shows, seeks[i].begins + seeks[i].ends);
+        if (seeks_on()) FAIL("%zu: it doesn't end", i);
+        if (players[2].status != AQS_TIMED_OUT) FAIL("%zu: %s", i, aqs_status_name(players[2].status));
+    }
+    atomic_store(&clock_shows, 0);
+    close_taken(1);
+}
+
+/* A call that gets none ends if the threads of all seats wait on conditions at several looks in a row. If one comes
+   back between two looks, it seeks on. */
+static void looks_in_a_row(void) {
+    static const aqs_answer_t waits[] = {{PARKS, .interruptible = true}, ENDED(BACK, INTERRUPT)};
+    play_name = "a call that finds all on conditions", play_line = "a look";
+    open_taken(2);
+    answer_with(0, 0, waits, 2);
+    play_lines(LOCK, "0 wait_interruptibly 0 ..");
+    seek("lock", 0);
+    for (int i = 0; i < 10; i++) {
+        answer_with(1, 0, waits, 2);
+        play_lines(LOCK, "1 wait_interruptibly 0 ..");
+        for (int look = 0; look < 5; look++) {
+            if (!seeks_on()) FAIL("%d %d: it ends", i, look);
+        }
+        play_lines(LOCK, "3 interrupt 1 = OK; 1 = INTERRUPTED");
+        if (!seeks_on()) FAIL("%d: it ends though one is back", i);
+    }
+    answer_with(1, 0, waits, 2);
+    play_lines(LOCK, "1 wait_interruptibly 0 ..");
+    for (int look = 0; seeks_on(); look++) CHECK(look < 100);
+    play_lines(LOCK, "2 = TOO_MANY_THREADS; 3 interrupt 0 = OK; 3 interrupt 1 = OK; 0 = INTERRUPTED; 1 = INTERRUPTED");
+    close_taken(2);
+}
+
 /* Forks ------------------------------------------------------------------------------------------------ */
 
 /* As many threads as there are places, at first and after the first growth. */
@@ -1064,6 +1167,9 @@ int main(void) {
     done_at_once();
     times_of_conditions();
     long_times();
+    CHECK(sem_init(&may_look, 0, 0) == 0);
+    times_without_a_seat();
+    looks_in_a_row();
     forks_in_turns();
     return good("answers");
 }

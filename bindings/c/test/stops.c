@@ -31,7 +31,7 @@ extern char __executable_start, etext;
 static uint8_t *places[PLACES], *set_at, was;
 static int count_of_places;
 static atomic_bool is_set, traces, is_stopped;
-static atomic_int goes_on;
+static atomic_int goes_on, who_stopped;
 static greg_t return_to, stack_at;
 static _Thread_local bool is_traced, is_main;
 
@@ -43,7 +43,15 @@ static void note_place(uint8_t *at) {
     if (count_of_places < PLACES) places[count_of_places++] = at;
 }
 
+/* The kernel's number of the calling thread, without a function that the library calls too: one may be to stop there. */
+static int own_id(void) {
+    int id;
+    __asm__ volatile("syscall" : "=a"(id) : "a"(SYS_gettid) : "rcx", "r11", "memory");
+    return id;
+}
+
 static void stay(void) {
+    atomic_store(&who_stopped, own_id());
     atomic_store(&is_stopped, true);
     while (!atomic_load(&goes_on)) syscall(SYS_futex, &goes_on, FUTEX_WAIT_PRIVATE, 0, NULL, NULL, 0);
 }
@@ -95,8 +103,8 @@ static void prepare(void) {
 
 /* Calls of two threads --------------------------------------------------------------------------------- */
 
-/* What holds at the end, where that depends on who came first. */
-enum { NOTHING_MORE, INTERRUPT_OR_OK, PERMIT_OR_TIME };
+/* What holds at the end, where that depends on who came first. SEEKS: thread 1 comes first, and seeks a seat. */
+enum { NOTHING_MORE, INTERRUPT_OR_OK, PERMIT_OR_TIME, SEEKS };
 
 typedef struct {
     const char *object, *before, *stopped; /* a call of thread 0 */
@@ -144,6 +152,8 @@ static const stop_t rows[] = {
      {"acquire 1", "close"}, AQS_OK, AQS_OK, 0, NULL},
     {"rw nonfair seats 2 conditions 1 cap 64", "0 rdlock = OK", "rdunlock", (void *)aqs_rwlock_rdunlock,
      {"wrlock", "wrunlock", "close"}, AQS_OK, AQS_OK, 0, NULL},
+    {"lock nonfair seats 1 conditions 1 cap 64", "0 lock = OK", "unlock", (void *)aqs_lock_unlock,
+     {"lock", "unlock", "close"}, AQS_OK, AQS_OK, SEEKS, NULL},
 };
 
 static void ask_line(kind_t kind, player_t *it, const char *line) {
@@ -169,13 +179,37 @@ static bool ends_soon(const player_t *it, const atomic_bool *stops) {
     }
 }
 
+/* How often a thread fell asleep. */
+static long naps_of(const player_t *it) {
+    static const char before[] = "\nvoluntary_ctxt_switches:";
+    char path[64], status[4096] = "";
+    snprintf(path, sizeof path, "/proc/self/task/%d/status", atomic_load(&it->id));
+    int file = open(path, O_RDONLY);
+    CHECK(file >= 0 && read(file, status, sizeof status - 1) > 0);
+    close(file);
+    const char *found = strstr(status, before);
+    CHECK(found);
+    return strtol(found + strlen(before), NULL, 10);
+}
+
+/* A thread that seeks a seat sleeps for a while at a time. Waits until its call has ended, or it has looked in vain, or
+   is the one that stopped. Returns whether it ended. */
+static bool finds_a_seat(const player_t *it) {
+    for (long before = naps_of(it); naps_of(it) < before + 3; usleep(100)) {
+        if (!atomic_load(&it->in_call)) return true;
+        if (atomic_load(&who_stopped) == atomic_load(&it->id)) return false;
+    }
+    return !atomic_load(&it->in_call);
+}
+
 /* Makes the calls of thread 1, until one doesn't end soon, or in the end for good. Returns how many were
  * begun. */
 static int make_others(kind_t kind, const stop_t *row, int begun, bool is_for_good) {
     player_t *other = &players[1];
     for (;; begun++) {
         if (begun > 0) {
-            if (is_for_good ? !ends(other, LIMIT) : !ends_soon(other, NULL)) {
+            bool seeks = row->also == SEEKS && atomic_load(&is_stopped);
+            if (is_for_good ? !ends(other, LIMIT) : seeks ? !finds_a_seat(other) : !ends_soon(other, NULL)) {
                 if (is_for_good) FAIL("%s doesn't end", row->others[begun - 1]);
                 return begun;
             }
@@ -211,6 +245,7 @@ static void run(const stop_t *row, uint8_t *at, bool is_trace, int when) {
     char shown[100];
     kind_t kind = open_part(row->object);
     play_name = row->object;
+    atomic_store(&is_stopped, false);
     play_lines(kind, row->before);
     snprintf(shown, sizeof shown, "%s, stopped at %p", row->stopped, (void *)at);
     play_line = shown;
@@ -244,19 +279,12 @@ static void stop_everywhere(const stop_t *row) {
     CHECK(count_of_places > 5);
     for (int i = 0; i < count_of_places; i++) {
         if (is_own(places[i]) || i % CORE == 0) run(row, places[i], false, AT_THE_STOP);
-        if (is_own(places[i]) && i % 8 == 0) run(row, places[i], false, FIRST);
+        if (is_own(places[i]) && (i % 8 == 0 || row->also == SEEKS)) run(row, places[i], false, FIRST);
         if (is_own(places[i]) && row->also == INTERRUPT_OR_OK) run(row, places[i], false, WHILE_IT_WAITS);
     }
 }
 
 /* Numbers of threads ----------------------------------------------------------------------------------- */
-
-/* Without a function that the library calls too: a thread may be to stop there. */
-static int own_id(void) {
-    int id;
-    __asm__ volatile("syscall" : "=a"(id) : "a"(SYS_gettid) : "rcx", "r11", "memory");
-    return id;
-}
 
 static atomic_int alive, numbers[2];
 static player_t takers[2]; /* of these the id alone is used */

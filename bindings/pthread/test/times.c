@@ -1,11 +1,14 @@
 /* How long threads wait and hold, and who waits for whom: times CASE. A case that hangs says so, and waits until it is
    killed. Without a word the cases are listed. */
+#define _GNU_SOURCE
 #include "check.h"
 
 #include <errno.h>
 #include <pthread.h>
 #include <semaphore.h>
 #include <stdatomic.h>
+#include <stdbool.h>
+#include <stdint.h>
 #include <stdlib.h>
 #include <string.h>
 #include <sys/prctl.h>
@@ -135,6 +138,90 @@ static void three_mutexes(void) {
     CHECK(pthread_mutex_unlock(&second) == 0);
 }
 
+enum { GONE = 30 };
+static pthread_barrier_t all;
+
+static void *use_and_destroy(void *nothing) {
+    pthread_mutex_t own;
+    CHECK(pthread_mutex_init(&own, NULL) == 0);
+    CHECK(pthread_mutex_lock(&own) == 0 && pthread_mutex_unlock(&own) == 0);
+    CHECK(pthread_mutex_destroy(&own) == 0);
+    pthread_barrier_wait(&all);
+    return nothing;
+}
+
+/* Each has a mutex of its own, and all live until the last is destroyed. */
+static void mutexes_of_many_threads_are_gone(void) {
+    pthread_t threads[GONE];
+    CHECK(pthread_barrier_init(&all, NULL, GONE) == 0);
+    for (int i = 0; i < GONE; i++) threads[i] = started(use_and_destroy, NULL);
+    for (int i = 0; i < GONE; i++) join(threads[i]);
+}
+
+/* Short holds -------------------------------------------------------------------------------------------- */
+
+enum { BLOCKS = 200, HOLDS = 1000 };
+
+static uint64_t now(void) {
+    struct timespec time;
+    clock_gettime(CLOCK_MONOTONIC, &time);
+    return (uint64_t)time.tv_sec * 1000000000 + (uint64_t)time.tv_nsec;
+}
+
+static volatile unsigned steps;
+static __attribute__((noinline)) void work(unsigned amount) {
+    for (unsigned i = 0; i < amount; i++) steps++;
+}
+
+/* How long works of an amount take together by the program's own clock, which adds so much to each. */
+static uint64_t time_of(unsigned amount, uint64_t added) {
+    uint64_t sum = 0;
+    for (int i = 0; i < HOLDS; i++) {
+        uint64_t from = now();
+        work(amount);
+        uint64_t took = now() - from;
+        sum += took > added ? took - added : 0;
+    }
+    return sum;
+}
+
+static uint64_t least_time_of(unsigned amount, uint64_t added) {
+    uint64_t least = UINT64_MAX;
+    for (int i = 0; i < 20; i++) {
+        uint64_t time = time_of(amount, added);
+        if (time < least) least = time;
+    }
+    return least / HOLDS;
+}
+
+static int is_longer(const void *a, const void *b) {
+    uint64_t first = *(const uint64_t *)a, second = *(const uint64_t *)b;
+    return (first > second) - (first < second);
+}
+
+/* Each mutex has a block of holds. Before each block the same work is timed without a lock. Says the median. */
+static void short_holds(uint64_t nanoseconds) {
+    static pthread_mutex_t mutexes[BLOCKS];
+    static uint64_t times[BLOCKS];
+    uint64_t added = least_time_of(0, 0);
+    unsigned amount = 1;
+    while (least_time_of(amount, added) < nanoseconds) amount += 1 + amount / 16;
+    for (int block = 0; block < BLOCKS; block++) {
+        CHECK(pthread_mutex_init(&mutexes[block], NULL) == 0);
+        times[block] = time_of(amount, added);
+        for (int i = 0; i < HOLDS; i++) {
+            pthread_mutex_lock(&mutexes[block]);
+            work(amount);
+            pthread_mutex_unlock(&mutexes[block]);
+        }
+    }
+    qsort(times, BLOCKS, sizeof *times, is_longer);
+    printf("%.1f\n", (double)times[BLOCKS / 2] / HOLDS);
+}
+
+static void holds_of_60_nanoseconds(void) { short_holds(60); }
+static void holds_of_a_microsecond(void) { short_holds(1000); }
+
 /* Circles ------------------------------------------------------------------------------------------------ */
 
 static void *lock_second_first(void *nothing) {
@@ -236,6 +323,48 @@ static void an_owner_that_has_ended(void) {
     CHECK(pthread_mutex_lock(&first) == 0);
 }
 
+static _Atomic pid_t waiter;
+static atomic_bool is_waited_for;
+
+static void *lock_and_unlock(void *nothing) {
+    waiter = gettid();
+    CHECK(pthread_mutex_lock(&first) == 0 && pthread_mutex_unlock(&first) == 0);
+    return nothing;
+}
+
+static bool is_asleep(pid_t thread) {
+    char path[60], text[200] = "";
+    snprintf(path, sizeof path, "/proc/self/task/%d/stat", (int)thread);
+    FILE *file = fopen(path, "r");
+    CHECK(file && fread(text, 1, sizeof text - 1, file) > 0 && fclose(file) == 0);
+    return strstr(text, ") S ") != NULL;
+}
+
+static void *hold_until_one_waits(void *nothing) {
+    CHECK(pthread_mutex_lock(&first) == 0);
+    pthread_barrier_wait(&both);
+    while (!is_waited_for) usleep(1000);
+    return nothing;
+}
+
+static void *unlock_for_the_owner(void *nothing) {
+    prctl(PR_SET_NAME, "innocent");
+    CHECK(pthread_mutex_unlock(&first) == 0);
+    return nothing;
+}
+
+/* The owner ends while one waits. The thread that unlocks comes after it, and never held the mutex. */
+static void an_owner_that_ended_is_replaced(void) {
+    pthread_t owner = started(hold_until_one_waits, NULL);
+    pthread_barrier_wait(&both);
+    pthread_t thread = started(lock_and_unlock, NULL);
+    for (int in_a_row = 0; in_a_row < 20; usleep(1000)) in_a_row = waiter && is_asleep(waiter) ? in_a_row + 1 : 0;
+    is_waited_for = true;
+    join(owner);
+    join(started(unlock_for_the_owner, NULL));
+    join(thread);
+}
+
 static void *rest(void *nothing) {
     for (;;) pause();
     return nothing;
@@ -289,6 +418,10 @@ static const struct {
     CASE(a_call_that_is_put_in_line),
     CASE(one_thread_that_rests),
     CASE(two_threads_that_rest),
+    CASE(mutexes_of_many_threads_are_gone),
+    CASE(an_owner_that_ended_is_replaced),
+    CASE(holds_of_60_nanoseconds),
+    CASE(holds_of_a_microsecond),
     CASE(calls_without_end),
     CASE(calls_of_two_threads_without_end),
 };
