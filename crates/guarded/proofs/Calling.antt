@@ -1,10 +1,13 @@
 -- What the calls of a lock leave of a pass's holds.
-use Rattle.std.proofs.Common.{◌≡◌, ◌+◌, true, Result, Ok, Err, IsOk, refl, sym, ap, ◌∙◌, arith, subst}
-use Rattle.guarded.specs.Below.{Entry, Fault, is_lock, Deed, LockId, X, Try, Shown, IsSame, WhenFull, holds}
-use Rattle.monitor_fronts.proofs.Counting.{of_lock}
+use Rattle.std.proofs.Common.{◌≡◌, ℕ, ◌+◌, true, List, Result, Ok, Err, IsOk, refl, sym, ap, ◌∙◌, arith, subst}
+use Rattle.std.specs.List.{All}
+use Rattle.guarded.specs.Below.{Entry, Fault, is_lock, Deed, LockId, X, Try, blank, opening_passes, Shown, IsSame, WhenFull, holds}
+use Rattle.monitor_fronts.proofs.Counting.{none_yet, of_lock}
 use Rattle.monitor_fronts.proofs.MakingRoom.{acquires_gain, awaits_keep, tries_gain}
 use Rattle.guarded.specs.declared.asking.Asked.{Asked}
 use Rattle.guarded.specs.declared.asking.Asked.TheVariants as asked
+use Rattle.guarded.specs.declared.guard.Guard.{Guard}
+use Rattle.guarded.specs.Guarding.{StillOwns}
 use Rattle.guarded.specs.inner.Asking.{call_of, gained_by}
 use Rattle.guarded.specs.Stowed.{IsOfLock, MutexView, mutex_view}
 
@@ -30,3 +33,21 @@ call_gains did w a z old new r is lock same made =
 pub never_fails : (r : Result Entry Fault) (f : Fault) → IsOk r → r ≡ Err f → ⊥
 never_fails (Ok e) f ok q = cc
 never_fails (Err x) f ok q = cc
+
+-- the passes of an opening hold nothing
+pub none_hold : (lock : LockId) (seats : ℕ) (made : List Shown) →
+    made ≡ opening_passes lock (blank lock.header) 0 seats → All (λ (s : Shown). holds s ≡ 0) made
+none_hold lock seats made is =
+    subst (λ (l : List Shown). All (λ (s : Shown). holds s ≡ 0) l) (sym is)
+    (none_yet lock (blank lock.header) 0 seats)
+
+-- what one call of a guard leaves after another
+pub stays_on : {T P R I H : Type 0} {m n : ℕ} {x y z : Guard T P R I H} → StillOwns m x y → StillOwns n y z →
+    StillOwns n x z
+stays_on a b =
+    record {
+      same = record { lock = b.same.lock ∙ a.same.lock; seat = b.same.seat ∙ a.same.seat };
+      same_lock = b.same_lock ∙ a.same_lock;
+      same_parking = b.same_parking ∙ a.same_parking;
+      guards = b.guards;
+    }

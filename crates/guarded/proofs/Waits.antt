@@ -1,12 +1,8 @@
 -- Waits one after another.
-use Rattle.std.proofs.Common.{◌≡◌, ◌-◌, ◌^◌, ◌≤◌, min, ℕ, suc, Bool, true, Result, Ok, Err, refl, subst, arith}
+use Rattle.std.proofs.Common.{◌≡◌, ◌-◌, ◌^◌, ◌≤◌, min, ℕ, suc, Bool, true, Result, Ok, Err, subst, arith}
 use Rattle.std.specs.Result.{IfErr, IfOk}
 use Rattle.guarded.specs.Below.{AreLeft, Deed, Fault, Shown, moment_after, showed}
-use Rattle.guarded.specs.Prelude.{Sees, AWait, HasCome, Owner, TimeWasUp, WaitFailed, Waited, WaitsWhile}
-
--- no wait so far
-pub not_waited : {T I : Type 0} (wait : AWait T I) (at : Owner T I) → Waited wait at at
-not_waited wait at = (0, refl)
+use Rattle.guarded.specs.Prelude.{Sees, HasCome, Owner, TimeWasUp, WaitFailed, Waited, WaitsWhile}
 
 -- one call more, of a guard whose lock and parking are still those of the first
 module _ {T I L P : Type 0} (says : T → Bool → Type 0)

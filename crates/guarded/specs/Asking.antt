@@ -1,11 +1,12 @@
 -- What the calls of a lock ask of its monitor, and what they return.
-use Rattle.std.specs.Prelude.{◌≡◌, ℕ, Bool, true, false, Option, Some, None, Result, Ok, Err}
-use Rattle.guarded.specs.Below.{Entry, X, Fault, Step, Try, IsCallIn, IsEnteredIn, signal_step, Shown, IsEntered, How, Acquire, AwaitOn, WhenFull, done_of, whether_of, Deed}
+use Rattle.std.specs.Prelude.{◌≡◌, ℕ, Bool, true, false, Option, Some, None, Result, Ok, Err, List, All}
+use Rattle.guarded.specs.Below.{Entry, X, Fault, Object, header_of, blank, opening_passes, holds, Step, Try, IsCallIn, IsEnteredIn, signal_step, Shown, IsEntered, How, IsAcquire, InRoom, AwaitOn, WhenFull, done_of, whether_of, Deed}
 use Rattle.guarded.specs.Full.{Call}
+use Rattle.guarded.specs.Stowed.{MutexView}
 
 -- the calls of the monitor
 abbrev pub acquires : (Deed → Type 0) → How → Call
-acquires did how w old reply new = IsCallIn w did old (Acquire X 1) how reply new
+acquires did how w old reply new = InRoom w (λ o a n. IsAcquire did o X 1 how a n) old reply new
 
 abbrev pub tries : (Deed → Type 0) → Call
 tries did w old reply new = IsEnteredIn w did old (Try X 1) reply new
@@ -40,3 +41,12 @@ is_there (Some x) = true
 abbrev pub yes_if_some : {T : Type 0} → Result (Option T) Fault → Result Bool Fault
 yes_if_some (Ok value) = Ok (is_there value)
 yes_if_some (Err f) = Err f
+
+-- What an opening returns: a lock or pool of this kind, and a pass for each seat, in order, none of which holds.
+pub record Opened (object : Object) (w : WhenFull) (seats conditions cap : ℕ) (m : MutexView)
+    (made : List Shown) : Type 0 where
+  pub header : m.lock.header ≡ header_of object seats conditions cap
+  pub when_full : m.when_full ≡ w
+  pub passes : made ≡ opening_passes m.lock (blank m.lock.header) 0 seats
+  pub own : All (λ p. p.lock ≡ m.lock) made
+  pub free : All (λ p. holds p ≡ 0) made

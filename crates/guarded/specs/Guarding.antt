@@ -1,6 +1,6 @@
 -- What is known of a pass that has the lock, or has it not.
 use Rattle.std.specs.Prelude.{◌≡◌, ◌<◌, ◌≤◌, ℕ, Bool, true, false, Result, Ok, Err}
-use Rattle.guarded.specs.Below.{Fault, CanCall, Called, Shown, WhenFull, holds}
+use Rattle.guarded.specs.Below.{Fault, CanCall, Called, Shown, IsSame, WhenFull, holds}
 use Rattle.guarded.specs.declared.try_lock.TryLockFault.{TryLockFault}
 use Rattle.guarded.specs.declared.try_lock.TryLockFault.TheVariants.{Missed, Failed}
 use Rattle.guarded.specs.Asking.{CallReturns, CallReturnsDone}
@@ -25,9 +25,12 @@ pub record Guards {T I : Type 0} (m : MutexView) (seats : ℕ) (p : Shown) (valu
 abbrev pub Owns : {T P R I H : Type 0} → ℕ → Guard T P R I H → Type 0
 Owns seats guard = Guards guard.lock.now seats guard.pass.now guard.slot
 
--- a guard that is still of its lock and its places to park
-abbrev pub IsOfOneLock : {T P R I H : Type 0} → Guard T P R I H → Guard T P R I H → Type 0
-IsOfOneLock old new = (new.lock.now ≡ old.lock.now) × (new.parking.now ≡ old.parking.now)
+-- What each call of a guard leaves: it is of the same seat, lock and places to park, and still has the value.
+pub record StillOwns {T P R I H : Type 0} (seats : ℕ) (old new : Guard T P R I H) : Type 0 where
+  pub same : IsSame old.pass.now new.pass.now
+  pub same_lock : new.lock.now ≡ old.lock.now
+  pub same_parking : new.parking.now ≡ old.parking.now
+  pub guards : Owns seats new
 
 -- a call of a guard, and what it returned
 abbrev pub GuardReturns : {T P R I H : Type 0} → Call → Guard T P R I H → Guard T P R I H → Result Bool Fault → Type 0

@@ -3,7 +3,7 @@
 pub use Rattle.guarded.specs.declared.slot.Slot.{Slot}
 pub use Rattle.guarded.specs.declared.slot.Slot.TheVariants.{Empty, Full, Lent}
 pub use Rattle.guarded.specs.Asking.{awaits, CallReturns, yes_if_some}
-pub use Rattle.guarded.specs.Guarding.{Guards}
+pub use Rattle.guarded.specs.Guarding.{StillOwns}
 pub use Rattle.guarded.specs.Pooling.{gives_back, drains, Answers}
 pub use Rattle.guarded.specs.Reading.{reads, AsksToRead, GainsReads, Saw, Sees}
 pub use Rattle.guarded.specs.Shelved.{Lies, IsOfSemaphore}

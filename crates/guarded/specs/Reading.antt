@@ -1,12 +1,12 @@
 -- What readers of a lock that guards a value ask of its monitor.
-use Rattle.std.specs.Prelude.{◌≡◌, ◌+◌, ◌<◌, ℕ, Bool, true, Result, Ok, List, Some, All}
-use Rattle.guarded.specs.Below.{Entry, S, counts, Fault, Give, Try, Object, header_of, CanCall, Called, start_at, blank, opening_passes, holds_of, IsCallIn, IsEnteredIn, IsLook, IsSame, Shown, IsEntered, How, Acquire, WhenFull, gained, holds, with_yes, done_of, Deed}
+use Rattle.std.specs.Prelude.{◌≡◌, ◌+◌, ◌<◌, ℕ, Bool, true, Result, Ok, Some}
+use Rattle.guarded.specs.Below.{Entry, S, counts, Fault, Give, Try, CanCall, Called, start_at, holds_of, IsCallIn, IsEnteredIn, IsLook, IsSame, Shown, IsEntered, How, Acquire, WhenFull, gained, holds, with_yes, done_of, Deed}
 use Rattle.guarded.specs.declared.read_guard.ReadGuard.{ReadGuard}
 use Rattle.guarded.specs.declared.slot.Slot.{Slot}
 use Rattle.guarded.specs.declared.slot.Slot.TheVariants.{Full}
 use Rattle.guarded.specs.Asking.{CallReturns}
 use Rattle.guarded.specs.Full.{Call}
-use Rattle.guarded.specs.Stowed.{MutexView, Rests}
+use Rattle.guarded.specs.Stowed.{Rests}
 
 -- how many read holds the pass's seat has, by its own entries alone
 abbrev pub reads : Shown → ℕ
@@ -48,7 +48,7 @@ pub record Reads {T P R I S : Type 0} (seats : ℕ) (guard : ReadGuard T P R I S
 abbrev pub Saw : {T : Type 0} → (T → Type 0) → Shown → T → Type 0
 Saw invariant p value = Rests (Some value) (counts (start_at p.seen) p.seen.entries) × invariant value
 
--- A read hold was given back; or the step was refused, as is told, and the pass has it still.
+-- A read hold was given back; or the step was refused, and the pass has it still.
 pub record EndsReading (did : Deed → Type 0) (old new : Shown) : Type 0 where
   pub called : Called old new
   pub reply : Result Entry Fault
@@ -56,15 +56,11 @@ pub record EndsReading (did : Deed → Type 0) (old new : Shown) : Type 0 where
   pub reads : reads new + gained (with_yes (done_of reply)) ≡ reads old
   pub writes : holds new ≡ holds old
 
+-- a read hold was given back, or the step was refused, and this is what is returned for it
+abbrev pub GivesRead : (Deed → Type 0) → Shown → Result (Unit {0}) Fault → Shown → Type 0
+GivesRead did old told new =
+    (reply : Result Entry Fault) × IsEntered did old (Give S 1) reply new × (told ≡ done_of reply)
+
 -- an answer was given at the value of a slot
 abbrev pub Sees : {T I A : Type 0} → (T → A → Type 0) → Slot T I → A → Type 0
 Sees {T} returns slot answer = (value : T) × (slot ≡ Full value) × returns value answer
-
--- What an opening returns: a lock of this kind, and a pass for each seat, in order, none of which holds.
-pub record IsOpened (object : Object) (w : WhenFull) (seats conditions cap : ℕ) (m : MutexView)
-    (made : List Shown) : Type 0 where
-  pub header : m.lock.header ≡ header_of object seats conditions cap
-  pub when_full : m.when_full ≡ w
-  pub passes : made ≡ opening_passes m.lock (blank m.lock.header) 0 seats
-  pub own : All (λ p. p.lock ≡ m.lock) made
-  pub free : All (λ p. holds p ≡ 0) made

@@ -1,18 +1,12 @@
 //! How items are acquired from a pool, and released into it.
 ghost use Rattle.std.specs.Prelude.{◌≡◌, ◌<◌, ◌^◌, ◌∷◌, [], All, IfErr, IfOk, IfSome, length};
-ghost use Rattle.monitor.specs.Calling.{CanCall, Called};
-ghost use Rattle.monitor.specs.declared.how.How.TheVariants.{Interruptible, Plain, Timed};
+ghost use Rattle.guarded.specs.Below.{CanCall, Called, Interruptible, Plain, Timed, LastsUntil, with_yes, DrainsFree};
 ghost use Rattle.guarded.specs.Asking.{CallReturns, yes_if_some};
-ghost use Rattle.monitor_fronts.specs.FrontCalls.{LastsUntil};
-ghost use Rattle.monitor_fronts.specs.Holding.{with_yes};
-ghost use Rattle.monitor_fronts.specs.Permits.{DrainsFree};
 ghost use Rattle.guarded.specs.Pooling.{DrainReturns, IsReleased, drains, fetches, gives_back, how_many};
 ghost use Rattle.guarded.specs.Pooling.{tries_fetch, without_items};
 
 use crate::asking::PoolCall;
-use crate::keeps::Keeps;
-use crate::pool::Pool;
-use crate::shelf::Shelf;
+use crate::{Keeps, Pool, Shelf};
 use history::fault::Fault;
 use history::step::Step;
 use monitor::{How, Pass};
@@ -60,9 +54,8 @@ impl<T: Drop, I: Keeps<T>> Pool<T, I> {
         ensures called { Called pass.old pass.new }
         ensures items { IfOk result (λ items. length items ≡ n) }
         ensures kept { IfOk result (λ items. All I.invariant items) }
-        ensures returned { CallReturns self.now.when_full (fetches (P.did parking.now) n Plain) pass.old
-            pass.new
-            (with_yes result) }
+        ensures returned { CallReturns
+            self.now.when_full (fetches (P.did parking.now) n Plain) pass.old pass.new (with_yes result) }
     {
         self.fetch(rt, parking, pass, n, How::Plain)
     }
@@ -80,9 +73,8 @@ impl<T: Drop, I: Keeps<T>> Pool<T, I> {
         ensures called { Called pass.old pass.new }
         ensures items { IfOk result (λ got. IfSome got (λ items. length items ≡ n)) }
         ensures kept { IfOk result (λ got. IfSome got (λ items. All I.invariant items)) }
-        ensures returned { CallReturns self.now.when_full (tries_fetch (P.did parking.now) n) pass.old
-            pass.new
-            (yes_if_some result) }
+        ensures returned { CallReturns
+            self.now.when_full (tries_fetch (P.did parking.now) n) pass.old pass.new (yes_if_some result) }
     {
         self.take(rt, parking, pass, PoolCall::Try(n))
     }
@@ -102,9 +94,8 @@ impl<T: Drop, I: Keeps<T>> Pool<T, I> {
         ensures called { Called pass.old pass.new }
         ensures items { IfOk result (λ got. IfSome got (λ items. length items ≡ n)) }
         ensures kept { IfOk result (λ got. IfSome got (λ items. All I.invariant items)) }
-        ensures returned { CallReturns self.now.when_full (fetches (P.did parking.now) n (Timed ms)) pass.old
-            pass.new
-            (yes_if_some result) }
+        ensures returned { CallReturns self.now.when_full
+            (fetches (P.did parking.now) n (Timed ms)) pass.old pass.new (yes_if_some result) }
     {
         self.take(rt, parking, pass, PoolCall::Acquire(n, How::Timed(ms)))
     }
@@ -239,9 +230,8 @@ impl<T: Drop, I: Keeps<T>> Pool<T, I> {
         requires can { CanCall self.now.lock (P.seats parking.now) pass.old }
         ensures called { Called pass.old pass.new }
         ensures kept { IfOk result (λ got. IfSome got (λ item. I.invariant item)) }
-        ensures returned { CallReturns self.now.when_full (tries_fetch (P.did parking.now) 1) pass.old
-            pass.new
-            (yes_if_some result) }
+        ensures returned { CallReturns
+            self.now.when_full (tries_fetch (P.did parking.now) 1) pass.old pass.new (yes_if_some result) }
     {
         match self.try_acquire(rt, parking, pass, 1) {
             Ok(Some(items)) => Ok(Some(only(items))),
@@ -261,9 +251,8 @@ impl<T: Drop, I: Keeps<T>> Pool<T, I> {
         requires can { CanCall self.now.lock (P.seats parking.now) pass.old }
         ensures called { Called pass.old pass.new }
         ensures kept { IfOk result (λ got. IfSome got (λ item. I.invariant item)) }
-        ensures returned { CallReturns self.now.when_full (fetches (P.did parking.now) 1 (Timed ms)) pass.old
-            pass.new
-            (yes_if_some result) }
+        ensures returned { CallReturns self.now.when_full
+            (fetches (P.did parking.now) 1 (Timed ms)) pass.old pass.new (yes_if_some result) }
     {
         match self.try_acquire_for(rt, parking, pass, 1, ms) {
             Ok(Some(items)) => Ok(Some(only(items))),

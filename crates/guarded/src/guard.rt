@@ -2,26 +2,15 @@
 ghost use Rattle.std.specs.Prelude.{◌≡◌, ◌≢◌, ◌+◌, ◌<◌, IfErr, IfOk, Ok, true, false, not};
 ghost use Rattle.std.specs.Borrow.{sem};
 ghost use Rattle.std.specs.Fn.{FnReturnsAt};
-ghost use Rattle.history.specs.declared.entry.Mode.TheVariants.{X};
-ghost use Rattle.history.specs.declared.fault.Fault.TheVariants.{Interrupted};
-ghost use Rattle.history.specs.declared.step.Step.TheVariants.{Give};
-ghost use Rattle.monitor.specs.Calling.{Called};
-ghost use Rattle.monitor.specs.Acquire.{moment_after};
-ghost use Rattle.monitor.specs.Stepping.{IsSame};
-ghost use Rattle.monitor.specs.declared.how.How.TheVariants.{Plain, Interruptible, Timed};
-ghost use Rattle.monitor_fronts.specs.FrontCalls.{LastsUntil};
-ghost use Rattle.monitor_fronts.specs.Holding.{gained, holds};
+ghost use Rattle.guarded.specs.Below.{X, Interrupted, Give, Called, moment_after, IsSame, Plain, Interruptible, Timed, LastsUntil, gained, holds, showed};
 ghost use Rattle.guarded.specs.Asking.{IsRecorded, CallReturns, acquires, awaits, signals};
-ghost use Rattle.guarded.specs.Guarding.{GuardReturns, GuardReturnsDone, IsOfOneLock, Owns};
+ghost use Rattle.guarded.specs.Guarding.{GuardReturns, GuardReturnsDone, Owns, StillOwns};
 ghost use Rattle.guarded.specs.Reading.{Sees};
 ghost use Rattle.guarded.specs.Stowed.{IsFull, Kept};
 ghost use Rattle.guarded.specs.Waiting.{AwaitsUntil, HasCome, TimeWasUp, WaitFailed, Waited, WaitsWhile, owner};
-ghost use Rattle.permit.specs.Deed.{showed};
 ghost use Rattle.guarded.specs.declared.slot.Slot.TheVariants.{Full};
 
-use crate::keeps::{Any, Keeps};
-use crate::mutex::Mutex;
-use crate::slot::Slot;
+use crate::{Any, Keeps, Mutex, Slot};
 use frame::hooks::Hooks;
 use history::fault::Fault;
 use monitor::{How, Pass, moment_after};
@@ -88,9 +77,7 @@ impl<T: Drop, P: Parking, R: Wait + Clock, I: Keeps<T>, H: Hooks + Drop> Guard<'
         requires guards { Owns (P.seats self.old.parking.now) self.old }
         requires kept { Kept I.invariant self.old.slot }
         ensures same_reference { self.new.pass.ghost_name ≡ self.old.pass.ghost_name }
-        ensures same { IsSame self.old.pass.now self.new.pass.now }
-        ensures same_lock { IsOfOneLock self.old self.new }
-        ensures guards { Owns (P.seats self.new.parking.now) self.new }
+        ensures stays { StillOwns (P.seats self.new.parking.now) self.old self.new }
         ensures kept { Kept I.invariant self.new.slot }
         ensures keeps { holds self.new.pass.now ≡ holds self.old.pass.now }
         ensures value { IfErr result (λ fault. fault ≢ Interrupted → self.new.slot ≡ self.old.slot) }
@@ -108,9 +95,7 @@ impl<T: Drop, P: Parking, R: Wait + Clock, I: Keeps<T>, H: Hooks + Drop> Guard<'
         requires guards { Owns (P.seats self.old.parking.now) self.old }
         requires kept { Kept I.invariant self.old.slot }
         ensures same_reference { self.new.pass.ghost_name ≡ self.old.pass.ghost_name }
-        ensures same { IsSame self.old.pass.now self.new.pass.now }
-        ensures same_lock { IsOfOneLock self.old self.new }
-        ensures guards { Owns (P.seats self.new.parking.now) self.new }
+        ensures stays { StillOwns (P.seats self.new.parking.now) self.old self.new }
         ensures kept { Kept I.invariant self.new.slot }
         ensures keeps { holds self.new.pass.now ≡ holds self.old.pass.now }
         ensures value { IfErr result (λ fault. fault ≢ Interrupted → self.new.slot ≡ self.old.slot) }
@@ -128,9 +113,7 @@ impl<T: Drop, P: Parking, R: Wait + Clock, I: Keeps<T>, H: Hooks + Drop> Guard<'
         requires guards { Owns (P.seats self.old.parking.now) self.old }
         requires kept { Kept I.invariant self.old.slot }
         ensures same_reference { self.new.pass.ghost_name ≡ self.old.pass.ghost_name }
-        ensures same { IsSame self.old.pass.now self.new.pass.now }
-        ensures same_lock { IsOfOneLock self.old self.new }
-        ensures guards { Owns (P.seats self.new.parking.now) self.new }
+        ensures stays { StillOwns (P.seats self.new.parking.now) self.old self.new }
         ensures kept { Kept I.invariant self.new.slot }
         ensures keeps { holds self.new.pass.now ≡ holds self.old.pass.now }
         ensures value { IfErr result (λ fault. fault ≢ Interrupted → self.new.slot ≡ self.old.slot) }
@@ -148,9 +131,7 @@ impl<T: Drop, P: Parking, R: Wait + Clock, I: Keeps<T>, H: Hooks + Drop> Guard<'
         requires guards { Owns (P.seats self.old.parking.now) self.old }
         requires kept { Kept I.invariant self.old.slot }
         ensures same_reference { self.new.pass.ghost_name ≡ self.old.pass.ghost_name }
-        ensures same { IsSame self.old.pass.now self.new.pass.now }
-        ensures same_lock { IsOfOneLock self.old self.new }
-        ensures guards { Owns (P.seats self.new.parking.now) self.new }
+        ensures stays { StillOwns (P.seats self.new.parking.now) self.old self.new }
         ensures kept { Kept I.invariant self.new.slot }
         ensures keeps { holds self.new.pass.now ≡ holds self.old.pass.now }
         ensures value { IfErr result (λ fault. fault ≢ Interrupted → self.new.slot ≡ self.old.slot) }
@@ -173,15 +154,12 @@ impl<T: Drop, P: Parking, R: Wait + Clock, I: Keeps<T>, H: Hooks + Drop> Guard<'
         requires kept { Kept I.invariant self.old.slot }
         requires callable { F.IsAlwaysCallable predicate }
         ensures same_reference { self.new.pass.ghost_name ≡ self.old.pass.ghost_name }
-        ensures same { IsSame self.old.pass.now self.new.pass.now }
-        ensures same_lock { IsOfOneLock self.old self.new }
-        ensures guards { Owns (P.seats self.new.parking.now) self.new }
+        ensures stays { StillOwns (P.seats self.new.parking.now) self.old self.new }
         ensures kept { Kept I.invariant self.new.slot }
         ensures keeps { holds self.new.pass.now ≡ holds self.old.pass.now }
         ensures over { IfOk result (λ _. Sees (FnReturnsAt F.Fn predicate) self.new.slot false) }
-        ensures waited { IfOk result (λ _. Waited
-            (WaitsWhile (FnReturnsAt F.Fn predicate) (CallReturns self.old.lock.now.when_full
-            (awaits (P.did self.old.parking.now) condition Interruptible)))
+        ensures waited { IfOk result (λ _. Waited (WaitsWhile (FnReturnsAt F.Fn predicate) (CallReturns
+            self.old.lock.now.when_full (awaits (P.did self.old.parking.now) condition Interruptible)))
             (owner self.old.pass.now self.old.slot) (owner self.new.pass.now self.new.slot)) }
         ensures failed { IfErr result (λ fault. WaitFailed
             (WaitsWhile (FnReturnsAt F.Fn predicate) (CallReturns self.old.lock.now.when_full
@@ -209,9 +187,7 @@ impl<T: Drop, P: Parking, R: Wait + Clock, I: Keeps<T>, H: Hooks + Drop> Guard<'
         requires kept { Kept I.invariant self.old.slot }
         requires callable { F.IsAlwaysCallable predicate }
         ensures same_reference { self.new.pass.ghost_name ≡ self.old.pass.ghost_name }
-        ensures same { IsSame self.old.pass.now self.new.pass.now }
-        ensures same_lock { IsOfOneLock self.old self.new }
-        ensures guards { Owns (P.seats self.new.parking.now) self.new }
+        ensures stays { StillOwns (P.seats self.new.parking.now) self.old self.new }
         ensures kept { Kept I.invariant self.new.slot }
         ensures keeps { holds self.new.pass.now ≡ holds self.old.pass.now }
         ensures over { IfOk result (λ is_over. Sees (FnReturnsAt F.Fn predicate) self.new.slot (not is_over)) }
@@ -220,10 +196,9 @@ impl<T: Drop, P: Parking, R: Wait + Clock, I: Keeps<T>, H: Hooks + Drop> Guard<'
             (WaitsWhile (FnReturnsAt F.Fn predicate) (AwaitsUntil (P.did self.old.parking.now)
             self.old.lock.now.when_full condition (moment_after begun ms)))
             (owner self.old.pass.now self.old.slot) (owner self.new.pass.now self.new.slot)) }
-        ensures failed { IfErr result
-            (λ fault. (begun : _) × P.did self.old.parking.now (showed begun) × WaitFailed
-            (WaitsWhile (FnReturnsAt F.Fn predicate) (AwaitsUntil (P.did self.old.parking.now)
-            self.old.lock.now.when_full condition (moment_after begun ms)))
+        ensures failed { IfErr result (λ fault. (begun : _) × P.did self.old.parking.now
+            (showed begun) × WaitFailed (WaitsWhile (FnReturnsAt F.Fn predicate) (AwaitsUntil
+            (P.did self.old.parking.now) self.old.lock.now.when_full condition (moment_after begun ms)))
             (owner self.old.pass.now self.old.slot) (owner self.new.pass.now self.new.slot) fault) }
     {
         let begun = self.parking.now(self.rt);
@@ -242,20 +217,16 @@ impl<T: Drop, P: Parking, R: Wait + Clock, I: Keeps<T>, H: Hooks + Drop> Guard<'
         requires kept { Kept I.invariant self.old.slot }
         requires callable { F.IsAlwaysCallable predicate }
         ensures same_reference { self.new.pass.ghost_name ≡ self.old.pass.ghost_name }
-        ensures same { IsSame self.old.pass.now self.new.pass.now }
-        ensures same_lock { IsOfOneLock self.old self.new }
-        ensures guards { Owns (P.seats self.new.parking.now) self.new }
+        ensures stays { StillOwns (P.seats self.new.parking.now) self.old self.new }
         ensures kept { Kept I.invariant self.new.slot }
         ensures keeps { holds self.new.pass.now ≡ holds self.old.pass.now }
         ensures over { IfOk result (λ is_over. Sees (FnReturnsAt F.Fn predicate) self.new.slot (not is_over)) }
         ensures in_time { result ≡ Ok false → HasCome (P.did self.old.parking.now) moment }
-        ensures waited { IfOk result (λ _. Waited
-            (WaitsWhile (FnReturnsAt F.Fn predicate) (AwaitsUntil (P.did self.old.parking.now)
-            self.old.lock.now.when_full condition moment))
+        ensures waited { IfOk result (λ _. Waited (WaitsWhile (FnReturnsAt F.Fn predicate)
+            (AwaitsUntil (P.did self.old.parking.now) self.old.lock.now.when_full condition moment))
             (owner self.old.pass.now self.old.slot) (owner self.new.pass.now self.new.slot)) }
-        ensures failed { IfErr result (λ fault. WaitFailed
-            (WaitsWhile (FnReturnsAt F.Fn predicate) (AwaitsUntil (P.did self.old.parking.now)
-            self.old.lock.now.when_full condition moment))
+        ensures failed { IfErr result (λ fault. WaitFailed (WaitsWhile (FnReturnsAt F.Fn predicate)
+            (AwaitsUntil (P.did self.old.parking.now) self.old.lock.now.when_full condition moment))
             (owner self.old.pass.now self.old.slot) (owner self.new.pass.now self.new.slot) fault) }
     {
         for _ in self.rt.forever() {
@@ -276,19 +247,15 @@ impl<T: Drop, P: Parking, R: Wait + Clock, I: Keeps<T>, H: Hooks + Drop> Guard<'
     pub fn signal(&mut self, condition: u8) -> Result<(), Fault>
         requires guards { Owns (P.seats self.old.parking.now) self.old }
         ensures same_reference { self.new.pass.ghost_name ≡ self.old.pass.ghost_name }
-        ensures same { IsSame self.old.pass.now self.new.pass.now }
-        ensures same_lock { IsOfOneLock self.old self.new }
-        ensures guards { Owns (P.seats self.new.parking.now) self.new }
+        ensures stays { StillOwns (P.seats self.new.parking.now) self.old self.new }
         ensures keeps { holds self.new.pass.now ≡ holds self.old.pass.now }
         ensures signalled { GuardReturnsDone (signals (P.did self.old.parking.now) false condition) self.old
             self.new result }
         ensures value { self.new.slot ≡ self.old.slot }
     {
         let pass = &mut *self.pass;
-        done(
-            self.lock
-                .tell(self.rt, self.parking, pass, condition, false),
-        )
+        let lock = self.lock;
+        done(lock.tell(self.rt, self.parking, pass, condition, false))
     }
 
     /// Moves all waiters of the condition into the wait queue of the lock, in order. The guard keeps the value. This
@@ -296,9 +263,7 @@ impl<T: Drop, P: Parking, R: Wait + Clock, I: Keeps<T>, H: Hooks + Drop> Guard<'
     pub fn signal_all(&mut self, condition: u8) -> Result<(), Fault>
         requires guards { Owns (P.seats self.old.parking.now) self.old }
         ensures same_reference { self.new.pass.ghost_name ≡ self.old.pass.ghost_name }
-        ensures same { IsSame self.old.pass.now self.new.pass.now }
-        ensures same_lock { IsOfOneLock self.old self.new }
-        ensures guards { Owns (P.seats self.new.parking.now) self.new }
+        ensures stays { StillOwns (P.seats self.new.parking.now) self.old self.new }
         ensures keeps { holds self.new.pass.now ≡ holds self.old.pass.now }
         ensures signalled { GuardReturnsDone (signals (P.did self.old.parking.now) true condition) self.old
             self.new result }
@@ -313,9 +278,7 @@ impl<T: Drop, P: Parking, R: Wait + Clock, I: Keeps<T>, H: Hooks + Drop> Guard<'
     pub fn again(&mut self) -> Result<bool, Fault>
         requires guards { Owns (P.seats self.old.parking.now) self.old }
         ensures same_reference { self.new.pass.ghost_name ≡ self.old.pass.ghost_name }
-        ensures same { IsSame self.old.pass.now self.new.pass.now }
-        ensures same_lock { IsOfOneLock self.old self.new }
-        ensures guards { Owns (P.seats self.new.parking.now) self.new }
+        ensures stays { StillOwns (P.seats self.new.parking.now) self.old self.new }
         ensures gains { holds self.new.pass.now ≡ holds self.old.pass.now + gained result }
         ensures acquired { GuardReturns (acquires (P.did self.old.parking.now) Plain) self.old self.new
             result }
@@ -330,9 +293,7 @@ impl<T: Drop, P: Parking, R: Wait + Clock, I: Keeps<T>, H: Hooks + Drop> Guard<'
         requires guards { Owns (P.seats self.old.parking.now) self.old }
         requires several { 1 < holds self.old.pass.now }
         ensures same_reference { self.new.pass.ghost_name ≡ self.old.pass.ghost_name }
-        ensures same { IsSame self.old.pass.now self.new.pass.now }
-        ensures same_lock { IsOfOneLock self.old self.new }
-        ensures guards { Owns (P.seats self.new.parking.now) self.new }
+        ensures stays { StillOwns (P.seats self.new.parking.now) self.old self.new }
         ensures loses { holds self.new.pass.now + 1 ≡ holds self.old.pass.now }
         ensures recorded { IsRecorded (P.did self.old.parking.now) self.old.pass.now (Give X 1)
             self.new.pass.now }

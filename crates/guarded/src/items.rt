@@ -3,8 +3,7 @@ ghost use Rattle.std.specs.Fn.{FnOnceReturnsAtMut};
 ghost use Rattle.monitor.specs.Calling.{CanCall, Called};
 ghost use Rattle.guarded.specs.LentItems.{IsLent};
 
-use crate::keeps::Keeps;
-use crate::pool::Pool;
+use crate::{Keeps, Pool};
 use history::fault::Fault;
 use monitor::Pass;
 use permit::Parking;
@@ -24,7 +23,7 @@ impl<T: Drop, I: Keeps<T>> Pool<T, I> {
     /// Acquires an item as [`acquire_one`](Pool::acquire_one) does, lends it to `work`, and releases it as
     /// [`release_one`](Pool::release_one) does. Returns what `work` returned.
     ///
-    /// `work` must leave an item that meets the pool's invariant, if the item that it got does.
+    /// `work` gets an item that meets the pool's invariant, and must leave one that does.
     ///
     /// The release may lack room or memory. Then [`ItemFault::NotReleased`] has the item, which isn't in the pool.
     pub fn with_item<P: Parking, R: Wait + Clock, A, F: FnOnce(&mut T) -> A>(
@@ -40,8 +39,8 @@ impl<T: Drop, I: Keeps<T>> Pool<T, I> {
             → FnOnceReturnsAtMut F.FnOnce work before answer after → I.invariant after }
         ensures called { Called pass.old pass.new }
         ensures lent { IsLent self.now.when_full (P.did parking.now)
-            (λ before answer after. FnOnceReturnsAtMut F.FnOnce work before answer after) pass.old pass.new
-            result }
+            (λ before answer after. I.invariant before × FnOnceReturnsAtMut F.FnOnce work before answer after)
+            pass.old pass.new result }
     {
         let mut item = match self.acquire_one(rt, parking, pass) {
             Ok(item) => item,

@@ -1,19 +1,13 @@
 //! How a pass comes to hold a lock that guards a value.
 ghost use Rattle.std.specs.Prelude.{◌≡◌, IfOk};
 ghost use Rattle.std.specs.Borrow.{sem, RestsIfErr};
-ghost use Rattle.monitor.specs.contracts.pass.Pass.{the_row};
-ghost use Rattle.monitor.specs.declared.how.How.TheVariants.{Plain, Interruptible, Timed};
-ghost use Rattle.monitor_fronts.specs.FrontCalls.{LastsUntil};
-ghost use Rattle.monitor_fronts.specs.Holding.{holds, with_yes};
+ghost use Rattle.guarded.specs.Below.{the_row, Plain, Interruptible, Timed, LastsUntil, holds, with_yes};
 ghost use Rattle.guarded.specs.Asking.{acquires, tries};
 ghost use Rattle.guarded.specs.Guarding.{CanLock, HasLocked, NotLocked, Owns, yes_unless_missed};
 ghost use Rattle.guarded.specs.Stowed.{Kept};
 
 use crate::asking::Asked;
-use crate::guard::Guard;
-use crate::keeps::Keeps;
-use crate::mutex::Mutex;
-use crate::try_lock::TryLockFault;
+use crate::{Guard, Keeps, Mutex, TryLockFault};
 use frame::hooks::Hooks;
 use history::fault::Fault;
 use monitor::{How, Pass};
@@ -38,8 +32,7 @@ impl<T: Drop, I: Keeps<T>, H: Hooks + Drop> Mutex<T, I, H> {
     ) -> Result<Guard<'a, T, P, R, I, H>, Fault>
         requires can { CanLock lock.now (P.seats parking.now) pass.old }
         ensures* not_locked { sem 𝓛 (RestsIfErr the_row pass.entry (λ guard. guard.pass.ghost_name) result
-            (λ last. NotLocked lock.now.when_full (acquires (P.did parking.now) Plain)
-            pass.old (with_yes result) last)) }
+            (NotLocked lock.now.when_full (acquires (P.did parking.now) Plain) pass.old (with_yes result))) }
         ensures same_reference { IfOk result (λ guard. guard.pass.ghost_name ≡ pass.entry.ghost_name) }
         ensures guards { IfOk result (λ guard. Owns (P.seats guard.parking.now) guard) }
         ensures locked { IfOk result
@@ -66,8 +59,8 @@ impl<T: Drop, I: Keeps<T>, H: Hooks + Drop> Mutex<T, I, H> {
     ) -> Result<Guard<'a, T, P, R, I, H>, Fault>
         requires can { CanLock lock.now (P.seats parking.now) pass.old }
         ensures* not_locked { sem 𝓛 (RestsIfErr the_row pass.entry (λ guard. guard.pass.ghost_name) result
-            (λ last. NotLocked lock.now.when_full (acquires (P.did parking.now) Interruptible)
-            pass.old (with_yes result) last)) }
+            (NotLocked lock.now.when_full (acquires (P.did parking.now) Interruptible)
+            pass.old (with_yes result))) }
         ensures same_reference { IfOk result (λ guard. guard.pass.ghost_name ≡ pass.entry.ghost_name) }
         ensures guards { IfOk result (λ guard. Owns (P.seats guard.parking.now) guard) }
         ensures locked { IfOk result
@@ -94,12 +87,10 @@ impl<T: Drop, I: Keeps<T>, H: Hooks + Drop> Mutex<T, I, H> {
     ) -> Result<Guard<'a, T, P, R, I, H>, TryLockFault>
         requires can { CanLock lock.now (P.seats parking.now) pass.old }
         ensures* not_locked { sem 𝓛 (RestsIfErr the_row pass.entry (λ guard. guard.pass.ghost_name) result
-            (λ last. NotLocked lock.now.when_full (tries (P.did parking.now))
-            pass.old (yes_unless_missed result) last)) }
+            (NotLocked lock.now.when_full (tries (P.did parking.now)) pass.old (yes_unless_missed result))) }
         ensures same_reference { IfOk result (λ guard. guard.pass.ghost_name ≡ pass.entry.ghost_name) }
         ensures guards { IfOk result (λ guard. Owns (P.seats guard.parking.now) guard) }
-        ensures locked { IfOk result
-            (HasLocked lock.now.when_full (tries (P.did parking.now)) pass.old) }
+        ensures locked { IfOk result (HasLocked lock.now.when_full (tries (P.did parking.now)) pass.old) }
         ensures kept { IfOk result (λ guard. Kept I.invariant guard.slot) }
     {
         let slot = lock.try_take(rt, parking, pass, Asked::Try)?;
@@ -124,8 +115,8 @@ impl<T: Drop, I: Keeps<T>, H: Hooks + Drop> Mutex<T, I, H> {
     ) -> Result<Guard<'a, T, P, R, I, H>, TryLockFault>
         requires can { CanLock lock.now (P.seats parking.now) pass.old }
         ensures* not_locked { sem 𝓛 (RestsIfErr the_row pass.entry (λ guard. guard.pass.ghost_name) result
-            (λ last. NotLocked lock.now.when_full (acquires (P.did parking.now) (Timed ms))
-            pass.old (yes_unless_missed result) last)) }
+            (NotLocked lock.now.when_full (acquires (P.did parking.now) (Timed ms))
+            pass.old (yes_unless_missed result))) }
         ensures same_reference { IfOk result (λ guard. guard.pass.ghost_name ≡ pass.entry.ghost_name) }
         ensures guards { IfOk result (λ guard. Owns (P.seats guard.parking.now) guard) }
         ensures locked { IfOk result
@@ -152,10 +143,9 @@ impl<T: Drop, I: Keeps<T>, H: Hooks + Drop> Mutex<T, I, H> {
         moment: u64,
     ) -> Result<Guard<'a, T, P, R, I, H>, TryLockFault>
         requires can { CanLock lock.now (P.seats parking.now) pass.old }
-        ensures* not_locked { sem 𝓛 (RestsIfErr the_row pass.entry (λ guard. guard.pass.ghost_name) result
-            (λ last. LastsUntil (P.did parking.now) moment
-            (λ how. NotLocked lock.now.when_full (acquires (P.did parking.now) how)
-            pass.old (yes_unless_missed result) last))) }
+        ensures* not_locked { sem 𝓛 (RestsIfErr the_row pass.entry (λ guard. guard.pass.ghost_name)
+            result (λ last. LastsUntil (P.did parking.now) moment (λ how. NotLocked lock.now.when_full
+            (acquires (P.did parking.now) how) pass.old (yes_unless_missed result) last))) }
         ensures same_reference { IfOk result (λ guard. guard.pass.ghost_name ≡ pass.entry.ghost_name) }
         ensures guards { IfOk result (λ guard. Owns (P.seats guard.parking.now) guard) }
         ensures locked { IfOk result (λ guard. LastsUntil (P.did parking.now) moment

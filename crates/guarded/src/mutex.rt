@@ -1,37 +1,15 @@
 //! A reentrant lock that guards a value.
 ghost use Rattle.std.specs.Prelude.{◌≡◌, ◌≢◌, ◌<◌, ◌≤◌, ◌+◌, All, IfOk, IfErr, IfSome, Err, true};
-ghost use Rattle.frame.specs.Core.{header_of};
-ghost use Rattle.history.specs.Counts.{counts};
-ghost use Rattle.history.specs.Entries.{start_on};
-ghost use Rattle.history.specs.Header.{IsInRange};
-ghost use Rattle.history.specs.declared.entry.Mode.TheVariants.{X};
-ghost use Rattle.history.specs.declared.fault.Fault.TheVariants.{Interrupted, OutOfMemory};
-ghost use Rattle.history.specs.declared.header.Object.TheVariants.{Lock};
-ghost use Rattle.history.specs.declared.header.Policy.TheVariants.{NonFair};
-ghost use Rattle.history.specs.declared.step.Step.TheVariants.{Give};
-ghost use Rattle.monitor.specs.Calling.{CanCall, Called};
-ghost use Rattle.monitor.specs.Acquire.{is_timed};
-ghost use Rattle.monitor.specs.declared.how.How.TheVariants.{Plain};
-ghost use Rattle.monitor.specs.Closing.{Closes, IsMissing};
-ghost use Rattle.monitor.specs.declared.closing.CloseFault.TheVariants.{MissingPass};
-ghost use Rattle.monitor.specs.Lawful.{blank};
-ghost use Rattle.monitor.specs.Load.{was_refused};
-ghost use Rattle.monitor.specs.Shown.{opening_passes};
-ghost use Rattle.monitor.specs.Stepping.{IsSame};
-ghost use Rattle.monitor_fronts.specs.declared.room.WhenFull.TheVariants.{Trim};
-ghost use Rattle.monitor_fronts.specs.Holding.{gained, holds};
-ghost use Rattle.guarded.specs.Asking.{IsRecorded, CallReturns, acquires, awaits};
+ghost use Rattle.guarded.specs.Below.{header_of, counts, start_on, IsInRange, X, Interrupted, OutOfMemory, Lock, NonFair, Give, CanCall, Called, is_timed, Plain, Closes, IsMissing, MissingPass, was_refused, IsSame, Trim, gained, holds};
+ghost use Rattle.guarded.specs.Asking.{IsRecorded, CallReturns, Opened, acquires, awaits};
 ghost use Rattle.guarded.specs.inner.Asking.{IsTake, LetsAllGo, call_of, gained_by};
 ghost use Rattle.guarded.specs.inner.Stowed.{Carries, MayLie};
 ghost use Rattle.guarded.specs.Guarding.{CanLock, Guards, Locked, NotLocked, missed_as_no};
 ghost use Rattle.guarded.specs.Stowed.{Kept, Rests};
 
 use crate::asking::Asked;
-use crate::keeps::{Any, Keeps};
-use crate::options::{CAP, CONDITIONS, Options};
-use crate::slot::Slot;
-use crate::try_lock::TryLockFault;
-use crate::view::View;
+use crate::options::{CAP, CONDITIONS};
+use crate::{Any, Keeps, Options, Slot, TryLockFault, View};
 use frame::hooks::Hooks;
 use history::entry::{Entry, Mode};
 use history::fault::Fault;
@@ -77,12 +55,7 @@ impl<T: Drop> Mutex<T> {
     pub fn new(alloc: Global, value: T, seats: u16) -> Result<(Mutex<T>, Vec<Pass>), Fault>
         requires some { 1 ≤ seats }
         requires few { seats ≤ 256 }
-        ensures header { IfOk result (λ r. r.0.lock.header ≡ header_of (Lock NonFair) seats 16 4096) }
-        ensures when_full { IfOk result (λ r. r.0.when_full ≡ Trim) }
-        ensures passes { IfOk result (λ r.
-            r.1.items ≡ opening_passes r.0.lock (blank r.0.lock.header) 0 seats) }
-        ensures own { IfOk result (λ r. All (λ p. p.lock ≡ r.0.lock) r.1.items) }
-        ensures free { IfOk result (λ r. All (λ p. holds p ≡ 0) r.1.items) }
+        ensures opened { IfOk result (λ r. Opened (Lock NonFair) Trim seats 16 4096 r.0 r.1.items) }
         ensures err { IfErr result (λ fault. fault ≡ OutOfMemory) }
     {
         Mutex::open_for(alloc, value, seats, Options::new())
@@ -97,13 +70,8 @@ impl<T: Drop> Mutex<T> {
         options: Options,
     ) -> Result<(Mutex<T>, Vec<Pass>), Fault>
         requires { IsInRange (header_of (Lock options.policy) seats options.conditions options.cap) }
-        ensures header { IfOk result (λ r.
-            r.0.lock.header ≡ header_of (Lock options.policy) seats options.conditions options.cap) }
-        ensures when_full { IfOk result (λ r. r.0.when_full ≡ options.when_full) }
-        ensures passes { IfOk result (λ r.
-            r.1.items ≡ opening_passes r.0.lock (blank r.0.lock.header) 0 seats) }
-        ensures own { IfOk result (λ r. All (λ p. p.lock ≡ r.0.lock) r.1.items) }
-        ensures free { IfOk result (λ r. All (λ p. holds p ≡ 0) r.1.items) }
+        ensures opened { IfOk result (λ r. Opened (Lock options.policy) options.when_full seats
+            options.conditions options.cap r.0 r.1.items) }
         ensures err { IfErr result (λ fault. fault ≡ OutOfMemory) }
     {
         let Options {
@@ -131,12 +99,8 @@ impl<T: Drop> Mutex<T> {
         cap: u32,
     ) -> Result<(Mutex<T>, Vec<Pass>), (T, Fault)>
         requires { IsInRange (header_of (Lock policy) seats conditions cap) }
-        ensures header { IfOk result (λ r. r.0.lock.header ≡ header_of (Lock policy) seats conditions cap) }
-        ensures when_full { IfOk result (λ r. r.0.when_full ≡ when_full) }
-        ensures passes { IfOk result (λ r.
-            r.1.items ≡ opening_passes r.0.lock (blank r.0.lock.header) 0 seats) }
-        ensures own { IfOk result (λ r. All (λ p. p.lock ≡ r.0.lock) r.1.items) }
-        ensures free { IfOk result (λ r. All (λ p. holds p ≡ 0) r.1.items) }
+        ensures opened { IfOk result (λ r. Opened (Lock policy) when_full seats
+            conditions cap r.0 r.1.items) }
         ensures back { IfErr result (λ e. (e.0 ≡ value) × (e.1 ≡ OutOfMemory)) }
     {
         Mutex::open_keeping(alloc, value, policy, when_full, seats, conditions, cap)
@@ -155,24 +119,11 @@ impl<T: Drop, I: Keeps<T>> Mutex<T, I> {
         requires some { 1 ≤ seats }
         requires few { seats ≤ 256 }
         requires kept { I.invariant value }
-        ensures header { IfOk result (λ r. r.0.lock.header ≡ header_of (Lock NonFair) seats 16 4096) }
-        ensures when_full { IfOk result (λ r. r.0.when_full ≡ Trim) }
-        ensures passes { IfOk result (λ r.
-            r.1.items ≡ opening_passes r.0.lock (blank r.0.lock.header) 0 seats) }
-        ensures own { IfOk result (λ r. All (λ p. p.lock ≡ r.0.lock) r.1.items) }
-        ensures free { IfOk result (λ r. All (λ p. holds p ≡ 0) r.1.items) }
+        ensures opened { IfOk result (λ r. Opened (Lock NonFair) Trim seats 16 4096 r.0 r.1.items) }
         ensures err { IfErr result (λ fault. fault ≡ OutOfMemory) }
     {
-        let when_full = WhenFull::Trim;
-        match Mutex::open_keeping(
-            alloc,
-            value,
-            Policy::NonFair,
-            when_full,
-            seats,
-            CONDITIONS,
-            CAP,
-        ) {
+        let (policy, when_full) = (Policy::NonFair, WhenFull::Trim);
+        match Mutex::open_keeping(alloc, value, policy, when_full, seats, CONDITIONS, CAP) {
             Ok((lock, passes)) => Ok((lock, passes)),
             Err((_value, fault)) => Err(fault),
         }
@@ -190,12 +141,8 @@ impl<T: Drop, I: Keeps<T>> Mutex<T, I> {
     ) -> Result<(Mutex<T, I>, Vec<Pass>), (T, Fault)>
         requires range { IsInRange (header_of (Lock policy) seats conditions cap) }
         requires kept { I.invariant value }
-        ensures header { IfOk result (λ r. r.0.lock.header ≡ header_of (Lock policy) seats conditions cap) }
-        ensures when_full { IfOk result (λ r. r.0.when_full ≡ when_full) }
-        ensures passes { IfOk result (λ r.
-            r.1.items ≡ opening_passes r.0.lock (blank r.0.lock.header) 0 seats) }
-        ensures own { IfOk result (λ r. All (λ p. p.lock ≡ r.0.lock) r.1.items) }
-        ensures free { IfOk result (λ r. All (λ p. holds p ≡ 0) r.1.items) }
+        ensures opened { IfOk result (λ r. Opened (Lock policy) when_full seats
+            conditions cap r.0 r.1.items) }
         ensures back { IfErr result (λ e. (e.0 ≡ value) × (e.1 ≡ OutOfMemory)) }
     {
         let hooks = LockHooks::open(policy);
@@ -298,9 +245,8 @@ impl<T: Drop, I: Keeps<T>, H: Hooks + Drop> Mutex<T, I, H> {
         ensures locked { IfOk result (λ slot.
             Locked self.now.when_full (call_of (P.did parking.now) asked) pass.old slot pass.new) }
         ensures kept { IfOk result (λ slot. Kept I.invariant slot) }
-        ensures not_locked { IfErr result (λ fault.
-            NotLocked self.now.when_full (call_of (P.did parking.now) asked) pass.old (missed_as_no fault)
-            pass.new) }
+        ensures not_locked { IfErr result (λ fault. NotLocked
+            self.now.when_full (call_of (P.did parking.now) asked) pass.old (missed_as_no fault) pass.new) }
     {
         let mut slot = Slot::Empty;
         let reply = self.call(rt, parking, pass, &mut slot, asked);

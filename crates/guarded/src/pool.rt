@@ -1,32 +1,14 @@
 //! A semaphore that has an item for each free permit.
 ghost use Rattle.std.specs.Prelude.{◌≡◌, ◌<◌, ◌≤◌, ◌^◌, All, IfErr, IfOk, IfSome, ℕ, length, pos};
-ghost use Rattle.counting.specs.Semaphore.{IsOpened, semaphore_of};
-ghost use Rattle.frame.specs.Core.{header_of};
-ghost use Rattle.history.specs.Counts.{counts};
-ghost use Rattle.history.specs.Entries.{start_on};
-ghost use Rattle.history.specs.Header.{IsInRange};
-ghost use Rattle.history.specs.declared.fault.Fault.TheVariants.{OutOfMemory};
-ghost use Rattle.history.specs.declared.header.Object.TheVariants.{Semaphore};
-ghost use Rattle.history.specs.declared.header.Policy.TheVariants.{NonFair};
-ghost use Rattle.monitor.specs.Calling.{CanCall, Called};
-ghost use Rattle.monitor.specs.Acquire.{is_timed};
-ghost use Rattle.monitor.specs.Closing.{Closes, IsMissing};
-ghost use Rattle.monitor.specs.declared.closing.CloseFault.TheVariants.{MissingPass};
-ghost use Rattle.monitor.specs.Lawful.{blank};
-ghost use Rattle.monitor.specs.Shown.{opening_passes};
-ghost use Rattle.monitor_fronts.specs.declared.room.WhenFull.TheVariants.{Trim};
-ghost use Rattle.monitor_fronts.specs.Returned.{whether_of};
-ghost use Rattle.guarded.specs.Asking.{CallReturns, yes_if_some};
-ghost use Rattle.monitor_fronts.specs.Holding.{with_yes};
+ghost use Rattle.guarded.specs.Below.{IsOpened, semaphore_of, header_of, counts, start_on, IsInRange, OutOfMemory, Semaphore, NonFair, CanCall, Called, is_timed, Closes, IsMissing, MissingPass, Trim, whether_of, with_yes};
+ghost use Rattle.guarded.specs.Asking.{CallReturns, Opened, yes_if_some};
 ghost use Rattle.guarded.specs.Pooling.{Answers, fetches};
 ghost use Rattle.guarded.specs.inner.Pooling.{Ends, asked_by, brought_by, pool_call};
 ghost use Rattle.guarded.specs.Shelved.{Lies};
 
 use crate::asking::PoolCall;
-use crate::keeps::{Any, Keeps};
 use crate::options::CAP;
-use crate::shelf::Shelf;
-use crate::view::View;
+use crate::{Any, Keeps, Shelf, View};
 use counting::semaphore::SemaphoreHooks;
 use history::entry::{Entry, Mode};
 use history::fault::Fault;
@@ -84,12 +66,8 @@ impl<T: Drop> Pool<T> {
         requires some { 1 ≤ seats }
         requires few { seats ≤ 256 }
         requires items { length items < 2 ^ 31 }
-        ensures header { IfOk result (λ r.
-            r.0.lock.header ≡ header_of (Semaphore NonFair (pos (length items))) seats 0 4096) }
-        ensures when_full { IfOk result (λ r. r.0.when_full ≡ Trim) }
-        ensures passes { IfOk result (λ r.
-            r.1.items ≡ opening_passes r.0.lock (blank r.0.lock.header) 0 seats) }
-        ensures own { IfOk result (λ r. All (λ p. p.lock ≡ r.0.lock) r.1.items) }
+        ensures opened { IfOk result (λ r. Opened (Semaphore NonFair (pos (length items))) Trim seats
+            0 4096 r.0 r.1.items) }
         ensures err { IfErr result (λ fault. fault ≡ OutOfMemory) }
     {
         match Pool::open(alloc, items, Policy::NonFair, WhenFull::Trim, seats, CAP) {
@@ -109,12 +87,8 @@ impl<T: Drop> Pool<T> {
         cap: u32,
     ) -> Result<(Pool<T>, Vec<Pass>), (LinkedList<T>, Fault)>
         requires { IsInRange (header_of (Semaphore policy (pos (length items))) seats 0 cap) }
-        ensures header { IfOk result (λ r.
-            r.0.lock.header ≡ header_of (Semaphore policy (pos (length items))) seats 0 cap) }
-        ensures when_full { IfOk result (λ r. r.0.when_full ≡ when_full) }
-        ensures passes { IfOk result (λ r.
-            r.1.items ≡ opening_passes r.0.lock (blank r.0.lock.header) 0 seats) }
-        ensures own { IfOk result (λ r. All (λ p. p.lock ≡ r.0.lock) r.1.items) }
+        ensures opened { IfOk result (λ r. Opened (Semaphore policy (pos (length items))) when_full seats
+            0 cap r.0 r.1.items) }
         ensures back { IfErr result (λ e. (e.0 ≡ items) × (e.1 ≡ OutOfMemory)) }
     {
         Pool::open_keeping(alloc, items, policy, when_full, seats, cap)
@@ -133,12 +107,8 @@ impl<T: Drop, I: Keeps<T>> Pool<T, I> {
         requires few { seats ≤ 256 }
         requires items { length items < 2 ^ 31 }
         requires kept { All I.invariant items }
-        ensures header { IfOk result (λ r.
-            r.0.lock.header ≡ header_of (Semaphore NonFair (pos (length items))) seats 0 4096) }
-        ensures when_full { IfOk result (λ r. r.0.when_full ≡ Trim) }
-        ensures passes { IfOk result (λ r.
-            r.1.items ≡ opening_passes r.0.lock (blank r.0.lock.header) 0 seats) }
-        ensures own { IfOk result (λ r. All (λ p. p.lock ≡ r.0.lock) r.1.items) }
+        ensures opened { IfOk result (λ r. Opened (Semaphore NonFair (pos (length items))) Trim seats
+            0 4096 r.0 r.1.items) }
         ensures err { IfErr result (λ fault. fault ≡ OutOfMemory) }
     {
         match Pool::open_keeping(alloc, items, Policy::NonFair, WhenFull::Trim, seats, CAP) {
@@ -158,12 +128,8 @@ impl<T: Drop, I: Keeps<T>> Pool<T, I> {
     ) -> Result<(Pool<T, I>, Vec<Pass>), (LinkedList<T>, Fault)>
         requires range { IsInRange (header_of (Semaphore policy (pos (length items))) seats 0 cap) }
         requires kept { All I.invariant items }
-        ensures header { IfOk result (λ r.
-            r.0.lock.header ≡ header_of (Semaphore policy (pos (length items))) seats 0 cap) }
-        ensures when_full { IfOk result (λ r. r.0.when_full ≡ when_full) }
-        ensures passes { IfOk result (λ r.
-            r.1.items ≡ opening_passes r.0.lock (blank r.0.lock.header) 0 seats) }
-        ensures own { IfOk result (λ r. All (λ p. p.lock ≡ r.0.lock) r.1.items) }
+        ensures opened { IfOk result (λ r. Opened (Semaphore policy (pos (length items))) when_full seats
+            0 cap r.0 r.1.items) }
         ensures back { IfErr result (λ e. (e.0 ≡ items) × (e.1 ≡ OutOfMemory)) }
     {
         let hooks = hooks_for(policy, &items);
@@ -289,9 +255,8 @@ impl<T: Drop, I: Keeps<T>> Pool<T, I> {
         ensures called { Called pass.old pass.new }
         ensures items { IfOk result (λ got. IfSome got (λ items. length items ≡ asked_by asked)) }
         ensures kept { IfOk result (λ got. IfSome got (λ items. All I.invariant items)) }
-        ensures returned { CallReturns self.now.when_full (pool_call (P.did parking.now) asked) pass.old
-            pass.new
-            (yes_if_some result) }
+        ensures returned { CallReturns
+            self.now.when_full (pool_call (P.did parking.now) asked) pass.old pass.new (yes_if_some result) }
         ensures answers { Answers asked (yes_if_some result) }
     {
         let mut shelf = Shelf {
@@ -329,9 +294,8 @@ impl<T: Drop, I: Keeps<T>> Pool<T, I> {
         ensures called { Called pass.old pass.new }
         ensures items { IfOk result (λ items. length items ≡ n) }
         ensures kept { IfOk result (λ items. All I.invariant items) }
-        ensures returned { CallReturns self.now.when_full (fetches (P.did parking.now) n how) pass.old
-            pass.new
-            (with_yes result) }
+        ensures returned { CallReturns
+            self.now.when_full (fetches (P.did parking.now) n how) pass.old pass.new (with_yes result) }
     {
         match self.take(rt, parking, pass, PoolCall::Acquire(n, how)) {
             Ok(Some(items)) => Ok(items),

@@ -1,18 +1,11 @@
 //! How a pass comes to read a value that a read-write lock guards, and a reader's side of it.
-ghost use Rattle.std.specs.Prelude.{◌≡◌, ◌<◌, IfOk};
+ghost use Rattle.std.specs.Prelude.{◌≡◌, ◌<◌, ◌+◌, IfOk};
 ghost use Rattle.std.specs.Borrow.{sem, RestsIfErr};
-ghost use Rattle.monitor.specs.contracts.pass.Pass.{the_row};
-ghost use Rattle.monitor.specs.declared.how.How.TheVariants.{Plain, Interruptible, Timed};
-ghost use Rattle.monitor.specs.Observing.{IsLook};
-ghost use Rattle.monitor_fronts.specs.FrontCalls.{LastsUntil};
-ghost use Rattle.monitor_fronts.specs.Holding.{with_yes};
+ghost use Rattle.guarded.specs.Below.{the_row, Plain, Interruptible, Timed, IsLook, LastsUntil, gained, with_yes};
 ghost use Rattle.guarded.specs.Guarding.{CanLock, yes_unless_missed};
-ghost use Rattle.guarded.specs.Reading.{AsksToRead, EndsReading, Reads, ReadsBy, Saw, reads, reads_by, tries_read};
+ghost use Rattle.guarded.specs.Reading.{AsksToRead, EndsReading, GivesRead, Reads, ReadsBy, Saw, reads, reads_by, tries_read};
 
-use crate::keeps::{Any, Keeps};
-use crate::rw_mutex::RwMutex;
-use crate::shared::Shared;
-use crate::try_lock::TryLockFault;
+use crate::{Any, Keeps, RwMutex, Shared, TryLockFault};
 use history::fault::Fault;
 use monitor::{How, Pass};
 use monitor_fronts::milliseconds_left;
@@ -22,10 +15,12 @@ use std::sync::Wait;
 use std::time::Clock;
 
 /// The value of a read-write lock, with one of its readers. Others may read at the same time, and nobody writes.
-/// Dropping it gives the read hold back. `&*guard` may be lent to other threads.
+/// `&*guard` may be lent to other threads.
 ///
-/// It borrows its pass, so the pass makes no other call while the guard lives. `S` is the share of the value, which is
-/// dropped before the hold is given back.
+/// Dropping it gives a read hold back. If that is refused, a drop doesn't tell it: [`unread`](ReadGuard::unread) does.
+///
+/// It borrows its pass, so the pass makes no other call while the guard lives, but [`again`](ReadGuard::again) and
+/// [`leave`](ReadGuard::leave). `S` is the share of the value, which is dropped before the hold is given back.
 pub struct ReadGuard<
     'a,
     T: Drop,
@@ -73,11 +68,58 @@ impl<'a, T: Drop, P: Parking, R: Wait + Clock, I: Keeps<T>> ReadGuard<'a, T, P, 
         self.share.value()
     }
 
-    /// Gives the read hold back now. This is `ReadLock.unlock()`.
-    pub fn unread(self)
+    /// Reads once more: the pass has one more read hold. This is `ReadLock.lock()` by a reader.
+    pub fn again(&mut self) -> Result<(), Fault>
+        requires reads { Reads (P.seats self.old.parking.now) self.old }
+        ensures same_reference { self.new.pass.ghost_name ≡ self.old.pass.ghost_name }
+        ensures same_lock { (self.new.lock.now ≡ self.old.lock.now)
+            × (self.new.parking.now ≡ self.old.parking.now) }
+        ensures reads { Reads (P.seats self.new.parking.now) self.new }
+        ensures asked { AsksToRead self.old.lock.now.when_full (reads_by (P.did self.old.parking.now) Plain)
+            self.old.pass.now (with_yes result) self.new.pass.now }
+        ensures value { self.new.share ≡ self.old.share }
+    {
+        let lock = self.lock;
+        let pass = &mut *self.pass;
+        lock.mutex.read_by(self.rt, self.parking, pass, How::Plain)
+    }
+
+    /// Gives one of several read holds back, or returns why not.
+    pub fn leave(&mut self) -> Result<(), Fault>
+        requires reads { Reads (P.seats self.old.parking.now) self.old }
+        requires several { 1 < reads self.old.pass.now }
+        ensures same_reference { self.new.pass.ghost_name ≡ self.old.pass.ghost_name }
+        ensures same_lock { (self.new.lock.now ≡ self.old.lock.now)
+            × (self.new.parking.now ≡ self.old.parking.now) }
+        ensures reads { Reads (P.seats self.new.parking.now) self.new }
+        ensures ends { EndsReading (P.did self.old.parking.now) self.old.pass.now self.new.pass.now }
+        ensures given { GivesRead (P.did self.old.parking.now) self.old.pass.now result self.new.pass.now }
+        ensures loses { reads self.new.pass.now + gained (with_yes result) ≡ reads self.old.pass.now }
+        ensures value { self.new.share ≡ self.old.share }
+    {
+        let lock = self.lock;
+        let pass = &mut *self.pass;
+        lock.mutex.end_reading(self.rt, self.parking, pass)
+    }
+
+    /// Gives a read hold back now. It never lacks room or memory. `Err(OutOfPhase)` if the pass is in the middle of
+    /// another call. No call of this crate leaves it there, but no contract says so. This is `ReadLock.unlock()`.
+    pub fn unread(self) -> Result<(), Fault>
         requires reads { Reads (P.seats self.parking.now) self }
         ensures ends { EndsReading (P.did self.entry.parking.now) self.entry.pass.now self.exit.0.now }
-    {}
+        ensures given { GivesRead (P.did self.entry.parking.now) self.entry.pass.now result self.exit.0.now }
+        ensures loses { reads self.exit.0.now + gained (with_yes result) ≡ reads self.entry.pass.now }
+    {
+        let ReadGuard {
+            pass,
+            share: seen,
+            lock,
+            rt,
+            parking,
+        } = self;
+        drop(seen);
+        lock.mutex.end_reading(rt, parking, pass)
+    }
 }
 
 impl<'a, T: Drop, P: Parking, R: Wait + Clock, I: Keeps<T>> Deref for ReadGuard<'a, T, P, R, I> {
@@ -104,7 +146,7 @@ impl<T: Drop, P: Parking, R: Wait + Clock, I: Keeps<T>, S: Drop> Drop
             parking,
         } = self;
         drop(share);
-        lock.mutex.end_reading(rt, parking, pass);
+        let _told = lock.mutex.end_reading(rt, parking, pass);
     }
 }
 

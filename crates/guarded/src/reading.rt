@@ -1,24 +1,15 @@
 //! How a pass comes to read a value that a lock guards.
-ghost use Rattle.std.specs.Prelude.{◌≡◌, ◌<◌, IfSome};
-ghost use Rattle.monitor.specs.Calling.{CanCall, Called};
-ghost use Rattle.monitor.specs.Acquire.{is_timed};
-ghost use Rattle.monitor.specs.declared.how.How.TheVariants.{Plain};
-ghost use Rattle.monitor.specs.Observing.{IsLook};
-ghost use Rattle.monitor.specs.Stepping.{IsSame};
-ghost use Rattle.monitor_fronts.specs.Holding.{holds, with_yes};
-ghost use Rattle.monitor_fronts.specs.Returned.{whether_of};
+ghost use Rattle.std.specs.Prelude.{◌≡◌, ◌<◌, ◌+◌, IfSome, None};
+ghost use Rattle.guarded.specs.Below.{CanCall, Called, is_timed, Plain, IsLook, IsSame, gained, holds, with_yes, whether_of};
 ghost use Rattle.guarded.specs.Asking.{CallReturns};
 ghost use Rattle.guarded.specs.Guarding.{CanLock, yes_unless_missed};
-ghost use Rattle.guarded.specs.Reading.{EndsReading, GainsReads, Saw, reads, reads_by};
+ghost use Rattle.guarded.specs.Reading.{EndsReading, GainsReads, GivesRead, Saw, reads, reads_by};
 ghost use Rattle.guarded.specs.inner.Reading.{reading_of};
+ghost use Rattle.guarded.specs.Stowed.{IsFull};
 ghost use Rattle.guarded.specs.declared.slot.Slot.TheVariants.{Full};
 ghost use Rattle.guarded.specs.inner.Stowed.{Carries};
 
-use crate::keeps::Keeps;
-use crate::mutex::Mutex;
-use crate::shared::{Shared, Sharing, never};
-use crate::slot::Slot;
-use crate::try_lock::TryLockFault;
+use crate::{Keeps, Mutex, Shared, Sharing, Slot, TryLockFault};
 use frame::hooks::Hooks;
 use history::entry::{Entry, Mode};
 use history::fault::Fault;
@@ -72,9 +63,8 @@ impl<T: Drop, I: Keeps<T>, H: Hooks + Drop> Mutex<T, I, H> {
     ) -> Result<(), TryLockFault>
         requires can { CanLock self.now (P.seats parking.now) pass.old }
         ensures called { Called pass.old pass.new }
-        ensures returned { CallReturns self.now.when_full (reading_of (P.did parking.now) how) pass.old
-            pass.new
-            (yes_unless_missed result) }
+        ensures returned { CallReturns self.now.when_full
+            (reading_of (P.did parking.now) how) pass.old pass.new (yes_unless_missed result) }
         ensures gains { GainsReads pass.old (yes_unless_missed result) pass.new }
     {
         let mut slot = Slot::Empty;
@@ -126,21 +116,22 @@ impl<T: Drop, I: Keeps<T>, H: Hooks + Drop> Mutex<T, I, H> {
         whether(self.start_reading(rt, parking, pass, &mut lent, Some(How::Plain)))
     }
 
-    // Releases a read hold of a pass that doesn't write. A pass that is in the middle of another call would be refused;
-    // no call of this crate leaves it there, but no contract says so.
+    // Releases a read hold of a pass that doesn't write.
     pub(crate) fn end_reading<P: Parking, R: Wait + Clock>(
         &self,
         rt: &R,
         parking: &P,
         pass: &mut Pass,
-    )
+    ) -> Result<(), Fault>
         requires can { CanLock self.now (P.seats parking.now) pass.old }
         requires has { 0 < reads pass.old }
-        ensures { EndsReading (P.did parking.now) pass.old pass.new }
+        ensures ends { EndsReading (P.did parking.now) pass.old pass.new }
+        ensures given { GivesRead (P.did parking.now) pass.old result pass.new }
+        ensures loses { reads pass.new + gained (with_yes result) ≡ reads pass.old }
     {
         let step = Step::Give(Mode::S, 1);
         let slot = &mut Slot::Empty;
-        let _told = done(self.monitor.enter(rt, parking, pass, slot, step));
+        done(self.monitor.enter(rt, parking, pass, slot, step))
     }
 }
 
@@ -148,6 +139,8 @@ impl<T: Drop, I: Keeps<T>> Mutex<Shared<T>, Sharing<I>, RwHooks> {
     // A share of the value, for a pass that reads and doesn't write.
     pub(crate) fn look<R: Wait>(&self, rt: &R, pass: &mut Pass) -> Shared<T>
         requires is_of { pass.old.lock ≡ self.now.lock }
+        requires reads { 0 < reads pass.old }
+        requires writes_not { holds pass.old ≡ 0 }
         ensures looked { IsLook pass.old pass.new }
         ensures saw { Saw I.invariant pass.new result }
     {
@@ -155,25 +148,24 @@ impl<T: Drop, I: Keeps<T>> Mutex<Shared<T>, Sharing<I>, RwHooks> {
             rt,
             pass,
             |slot: &Slot<Shared<T>, Sharing<I>>| -> Option<Shared<T>>
-                ensures { IfSome result (λ shared. slot.now ≡ Full shared) }
-            { share_of(slot) },
+                ensures some { IfSome result (λ shared. slot.now ≡ Full shared) }
+                ensures elsewhere { result ≡ None → IsFull slot.now → ⊥ }
+            { share_of(rt, slot) },
         );
         match seen {
             Some(shared) => shared,
-            None => {
-                never(rt);
-                unreachable!()
-            }
+            None => unreachable!(),
         }
     }
 }
 
-// Another share of the value of a slot, if it is there and the count isn't full.
-fn share_of<T, I>(slot: &Slot<Shared<T>, I>) -> Option<Shared<T>>
-    ensures { IfSome result (λ shared. slot.now ≡ Full shared) }
+// Another share of the value of a slot, if it is there.
+fn share_of<T, I, R: Wait>(rt: &R, slot: &Slot<Shared<T>, I>) -> Option<Shared<T>>
+    ensures some { IfSome result (λ shared. slot.now ≡ Full shared) }
+    ensures elsewhere { result ≡ None → IsFull slot.now → ⊥ }
 {
     match slot {
-        Slot::Full(value) => value.another(),
+        Slot::Full(value) => Some(value.another(rt)),
         Slot::Empty => None,
         Slot::Lent(_) => None,
     }

@@ -1,38 +1,15 @@
 //! A reentrant read-write lock that guards a value.
 ghost use Rattle.std.specs.Prelude.{◌≡◌, ◌≤◌, All, IfOk, IfErr, IfSome};
 ghost use Rattle.std.specs.Borrow.{sem, RestsIfErr};
-ghost use Rattle.frame.specs.Core.{header_of};
-ghost use Rattle.history.specs.Counts.{counts};
-ghost use Rattle.history.specs.Entries.{start_on};
-ghost use Rattle.history.specs.Header.{IsInRange};
-ghost use Rattle.history.specs.declared.fault.Fault.TheVariants.{OutOfMemory};
-ghost use Rattle.history.specs.declared.entry.Mode.TheVariants.{X};
-ghost use Rattle.history.specs.declared.step.Step.TheVariants.{Give};
-ghost use Rattle.history.specs.declared.header.Object.TheVariants.{ReadWrite};
-ghost use Rattle.history.specs.declared.header.Policy.TheVariants.{NonFair};
-ghost use Rattle.monitor.specs.Calling.{Called};
-ghost use Rattle.monitor.specs.contracts.pass.Pass.{the_row};
-ghost use Rattle.monitor.specs.declared.how.How.TheVariants.{Plain, Interruptible, Timed};
-ghost use Rattle.monitor.specs.Closing.{Closes, IsMissing};
-ghost use Rattle.monitor.specs.declared.closing.CloseFault.TheVariants.{MissingPass};
-ghost use Rattle.monitor.specs.Stepping.{IsSame};
-ghost use Rattle.monitor_fronts.specs.declared.room.WhenFull.TheVariants.{Trim};
-ghost use Rattle.monitor_fronts.specs.FrontCalls.{LastsUntil};
-ghost use Rattle.monitor_fronts.specs.Holding.{holds, with_yes};
-ghost use Rattle.guarded.specs.Asking.{IsRecorded, acquires, tries};
-ghost use Rattle.guarded.specs.Guarding.{CanLock, GuardReturns, HasLocked, IsOfOneLock, NotLocked, Owns, yes_unless_missed};
-ghost use Rattle.guarded.specs.Reading.{GainsReads, IsOpened, reads, reads_by};
+ghost use Rattle.guarded.specs.Below.{header_of, counts, start_on, IsInRange, OutOfMemory, X, Give, ReadWrite, NonFair, Called, the_row, Plain, Interruptible, Timed, Closes, IsMissing, MissingPass, Trim, LastsUntil, holds, with_yes};
+ghost use Rattle.guarded.specs.Asking.{IsRecorded, Opened, acquires, tries};
+ghost use Rattle.guarded.specs.Guarding.{CanLock, GuardReturns, HasLocked, NotLocked, Owns, StillOwns, yes_unless_missed};
+ghost use Rattle.guarded.specs.Reading.{GainsReads, reads, reads_by};
 ghost use Rattle.guarded.specs.Stowed.{IsFull, Kept, Rests};
 ghost use Rattle.guarded.specs.declared.slot.Slot.TheVariants.{Full};
 
-use crate::guard::Guard;
-use crate::keeps::{Any, Keeps};
-use crate::mutex::Mutex;
-use crate::options::Options;
-use crate::shared::{Shared, Sharing, unshared};
-use crate::slot::Slot;
-use crate::try_lock::TryLockFault;
-use crate::view::View;
+use crate::shared::unshared;
+use crate::{Any, Guard, Keeps, Mutex, Options, Shared, Sharing, Slot, TryLockFault, View};
 use history::fault::Fault;
 use history::header::Policy;
 use monitor::{CloseFault, Closed, Monitor, Pass};
@@ -76,7 +53,7 @@ impl<T: Drop> RwMutex<T> {
     pub fn new(alloc: Global, value: T, seats: u16) -> Result<(RwMutex<T>, Vec<Pass>), Fault>
         requires some { 1 ≤ seats }
         requires few { seats ≤ 256 }
-        ensures opened { IfOk result (λ r. IsOpened (ReadWrite NonFair) Trim seats 16 4096 r.0 r.1.items) }
+        ensures opened { IfOk result (λ r. Opened (ReadWrite NonFair) Trim seats 16 4096 r.0 r.1.items) }
         ensures err { IfErr result (λ fault. fault ≡ OutOfMemory) }
     {
         RwMutex::new_keeping(alloc, value, seats)
@@ -90,7 +67,7 @@ impl<T: Drop> RwMutex<T> {
         options: Options,
     ) -> Result<(RwMutex<T>, Vec<Pass>), Fault>
         requires { IsInRange (header_of (ReadWrite options.policy) seats options.conditions options.cap) }
-        ensures opened { IfOk result (λ r. IsOpened (ReadWrite options.policy) options.when_full seats
+        ensures opened { IfOk result (λ r. Opened (ReadWrite options.policy) options.when_full seats
             options.conditions options.cap r.0 r.1.items) }
         ensures err { IfErr result (λ fault. fault ≡ OutOfMemory) }
     {
@@ -99,23 +76,23 @@ impl<T: Drop> RwMutex<T> {
 
     /// Opens a lock that guards the value, and whose write lock has conditions 0 to `conditions - 1`. Returns a
     /// pass for each seat too, in order. `cap` is the greatest number of entries of its history, owed ones
-    /// included. If memory is refused, it returns the value.
-    pub fn open<R: Wait>(
-        rt: &R,
+    /// included. [`Shared::new`] takes memory for the value first. If memory is refused, it returns the share, of which
+    /// [`Shared::into_value`] is the value.
+    pub fn open(
         alloc: Global,
-        value: T,
+        shared: Shared<T>,
         policy: Policy,
         when_full: WhenFull,
         seats: u16,
         conditions: u8,
         cap: u32,
-    ) -> Result<(RwMutex<T>, Vec<Pass>), (T, Fault)>
+    ) -> Result<(RwMutex<T>, Vec<Pass>), (Shared<T>, Fault)>
         requires { IsInRange (header_of (ReadWrite policy) seats conditions cap) }
         ensures opened { IfOk result
-            (λ r. IsOpened (ReadWrite policy) when_full seats conditions cap r.0 r.1.items) }
-        ensures back { IfErr result (λ e. (e.0 ≡ value) × (e.1 ≡ OutOfMemory)) }
+            (λ r. Opened (ReadWrite policy) when_full seats conditions cap r.0 r.1.items) }
+        ensures back { IfErr result (λ e. (e.0 ≡ shared) × (e.1 ≡ OutOfMemory)) }
     {
-        RwMutex::open_keeping(rt, alloc, value, policy, when_full, seats, conditions, cap)
+        RwMutex::open_keeping(alloc, shared, policy, when_full, seats, conditions, cap)
     }
 }
 
@@ -130,41 +107,42 @@ impl<T: Drop, I: Keeps<T>> RwMutex<T, I> {
         requires some { 1 ≤ seats }
         requires few { seats ≤ 256 }
         requires kept { I.invariant value }
-        ensures opened { IfOk result (λ r. IsOpened (ReadWrite NonFair) Trim seats 16 4096 r.0 r.1.items) }
+        ensures opened { IfOk result (λ r. Opened (ReadWrite NonFair) Trim seats 16 4096 r.0 r.1.items) }
         ensures err { IfErr result (λ fault. fault ≡ OutOfMemory) }
     {
         RwMutex::open_or_drop(alloc, value, seats, Options::new())
     }
 
     /// [`open`](RwMutex::open) of a lock that keeps an invariant, which the value meets.
-    pub fn open_keeping<R: Wait>(
-        rt: &R,
+    pub fn open_keeping(
         alloc: Global,
-        value: T,
+        shared: Shared<T>,
         policy: Policy,
         when_full: WhenFull,
         seats: u16,
         conditions: u8,
         cap: u32,
-    ) -> Result<(RwMutex<T, I>, Vec<Pass>), (T, Fault)>
+    ) -> Result<(RwMutex<T, I>, Vec<Pass>), (Shared<T>, Fault)>
         requires range { IsInRange (header_of (ReadWrite policy) seats conditions cap) }
-        requires kept { I.invariant value }
+        requires kept { I.invariant shared }
         ensures opened { IfOk result
-            (λ r. IsOpened (ReadWrite policy) when_full seats conditions cap r.0 r.1.items) }
-        ensures back { IfErr result (λ e. (e.0 ≡ value) × (e.1 ≡ OutOfMemory)) }
+            (λ r. Opened (ReadWrite policy) when_full seats conditions cap r.0 r.1.items) }
+        ensures back { IfErr result (λ e. (e.0 ≡ shared) × (e.1 ≡ OutOfMemory)) }
     {
-        let options = Options {
-            policy,
-            when_full,
-            conditions,
-            cap,
+        let Ok(hooks) = RwHooks::open(alloc, policy, seats) else {
+            return Err((shared, Fault::OutOfMemory));
         };
-        match Shared::new(alloc, value) {
-            Ok(shared) => match RwMutex::open_shared(alloc, shared, seats, options) {
-                Ok(opened) => Ok(opened),
-                Err((shared, fault)) => Err((shared.into_value(rt), fault)),
+        let slot = Slot::Full(shared);
+        match Monitor::open_with(alloc, hooks, slot, seats, conditions, cap) {
+            Ok((monitor, passes)) => {
+                let mutex = Mutex { monitor, when_full };
+                Ok((RwMutex { mutex }, passes))
+            }
+            Err((slot, fault)) => match slot {
+                Slot::Full(shared) => Err((shared, fault)),
+                Slot::Empty => unreachable!(),
+                Slot::Lent(_) => unreachable!(),
             },
-            Err(value) => Err((value, Fault::OutOfMemory)),
         }
     }
 
@@ -177,52 +155,22 @@ impl<T: Drop, I: Keeps<T>> RwMutex<T, I> {
     ) -> Result<(RwMutex<T, I>, Vec<Pass>), Fault>
         requires fit { IsInRange (header_of (ReadWrite options.policy) seats options.conditions options.cap) }
         requires kept { I.invariant value }
-        ensures opened { IfOk result (λ r. IsOpened (ReadWrite options.policy) options.when_full seats
+        ensures opened { IfOk result (λ r. Opened (ReadWrite options.policy) options.when_full seats
             options.conditions options.cap r.0 r.1.items) }
         ensures err { IfErr result (λ fault. fault ≡ OutOfMemory) }
     {
         let Ok(shared) = Shared::new(alloc, value) else {
             return Err(Fault::OutOfMemory);
         };
-        match RwMutex::open_shared(alloc, shared, seats, options) {
-            Ok(opened) => Ok(opened),
+        let Options {
+            policy,
+            when_full,
+            conditions,
+            cap,
+        } = options;
+        match RwMutex::open_keeping(alloc, shared, policy, when_full, seats, conditions, cap) {
+            Ok((lock, passes)) => Ok((lock, passes)),
             Err((_shared, fault)) => Err(fault),
-        }
-    }
-
-    fn open_shared(
-        alloc: Global,
-        shared: Shared<T>,
-        seats: u16,
-        options: Options,
-    ) -> Result<(RwMutex<T, I>, Vec<Pass>), (Shared<T>, Fault)>
-        requires fit { IsInRange (header_of (ReadWrite options.policy) seats options.conditions options.cap) }
-        requires kept { I.invariant shared }
-        ensures opened { IfOk result (λ r. IsOpened (ReadWrite options.policy) options.when_full seats
-            options.conditions options.cap r.0 r.1.items) }
-        ensures back { IfErr result (λ e. (e.0 ≡ shared) × (e.1 ≡ OutOfMemory)) }
-    {
-        let Ok(hooks) = RwHooks::open(alloc, options.policy, seats) else {
-            return Err((shared, Fault::OutOfMemory));
-        };
-        let when_full = options.when_full;
-        match Monitor::open_with(
-            alloc,
-            hooks,
-            Slot::Full(shared),
-            seats,
-            options.conditions,
-            options.cap,
-        ) {
-            Ok((monitor, passes)) => {
-                let mutex = Mutex { monitor, when_full };
-                Ok((RwMutex { mutex }, passes))
-            }
-            Err((slot, fault)) => match slot {
-                Slot::Full(shared) => Err((shared, fault)),
-                Slot::Empty => unreachable!(),
-                Slot::Lent(_) => unreachable!(),
-            },
         }
     }
 }
@@ -278,8 +226,7 @@ impl<T: Drop, I: Keeps<T>> RwMutex<T, I> {
     ) -> Result<Guard<'a, Shared<T>, P, R, Sharing<I>, RwHooks>, Fault>
         requires can { CanLock lock.now (P.seats parking.now) pass.old }
         ensures* not_locked { sem 𝓛 (RestsIfErr the_row pass.entry (λ guard. guard.pass.ghost_name) result
-            (λ last. NotLocked lock.now.when_full (acquires (P.did parking.now) Plain)
-            pass.old (with_yes result) last)) }
+            (NotLocked lock.now.when_full (acquires (P.did parking.now) Plain) pass.old (with_yes result))) }
         ensures same_reference { IfOk result (λ guard. guard.pass.ghost_name ≡ pass.entry.ghost_name) }
         ensures guards { IfOk result (λ guard. Owns (P.seats guard.parking.now) guard) }
         ensures locked { IfOk result
@@ -299,8 +246,8 @@ impl<T: Drop, I: Keeps<T>> RwMutex<T, I> {
     ) -> Result<Guard<'a, Shared<T>, P, R, Sharing<I>, RwHooks>, Fault>
         requires can { CanLock lock.now (P.seats parking.now) pass.old }
         ensures* not_locked { sem 𝓛 (RestsIfErr the_row pass.entry (λ guard. guard.pass.ghost_name) result
-            (λ last. NotLocked lock.now.when_full (acquires (P.did parking.now) Interruptible)
-            pass.old (with_yes result) last)) }
+            (NotLocked lock.now.when_full (acquires (P.did parking.now) Interruptible)
+            pass.old (with_yes result))) }
         ensures same_reference { IfOk result (λ guard. guard.pass.ghost_name ≡ pass.entry.ghost_name) }
         ensures guards { IfOk result (λ guard. Owns (P.seats guard.parking.now) guard) }
         ensures locked { IfOk result
@@ -320,12 +267,10 @@ impl<T: Drop, I: Keeps<T>> RwMutex<T, I> {
     ) -> Result<Guard<'a, Shared<T>, P, R, Sharing<I>, RwHooks>, TryLockFault>
         requires can { CanLock lock.now (P.seats parking.now) pass.old }
         ensures* not_locked { sem 𝓛 (RestsIfErr the_row pass.entry (λ guard. guard.pass.ghost_name) result
-            (λ last. NotLocked lock.now.when_full (tries (P.did parking.now))
-            pass.old (yes_unless_missed result) last)) }
+            (NotLocked lock.now.when_full (tries (P.did parking.now)) pass.old (yes_unless_missed result))) }
         ensures same_reference { IfOk result (λ guard. guard.pass.ghost_name ≡ pass.entry.ghost_name) }
         ensures guards { IfOk result (λ guard. Owns (P.seats guard.parking.now) guard) }
-        ensures locked { IfOk result
-            (HasLocked lock.now.when_full (tries (P.did parking.now)) pass.old) }
+        ensures locked { IfOk result (HasLocked lock.now.when_full (tries (P.did parking.now)) pass.old) }
         ensures kept { IfOk result (λ guard. Kept I.invariant guard.slot) }
     {
         Mutex::try_lock(pass, &lock.mutex, rt, parking)
@@ -343,8 +288,8 @@ impl<T: Drop, I: Keeps<T>> RwMutex<T, I> {
     ) -> Result<Guard<'a, Shared<T>, P, R, Sharing<I>, RwHooks>, TryLockFault>
         requires can { CanLock lock.now (P.seats parking.now) pass.old }
         ensures* not_locked { sem 𝓛 (RestsIfErr the_row pass.entry (λ guard. guard.pass.ghost_name) result
-            (λ last. NotLocked lock.now.when_full (acquires (P.did parking.now) (Timed ms))
-            pass.old (yes_unless_missed result) last)) }
+            (NotLocked lock.now.when_full (acquires (P.did parking.now) (Timed ms))
+            pass.old (yes_unless_missed result))) }
         ensures same_reference { IfOk result (λ guard. guard.pass.ghost_name ≡ pass.entry.ghost_name) }
         ensures guards { IfOk result (λ guard. Owns (P.seats guard.parking.now) guard) }
         ensures locked { IfOk result
@@ -364,10 +309,9 @@ impl<T: Drop, I: Keeps<T>> RwMutex<T, I> {
         moment: u64,
     ) -> Result<Guard<'a, Shared<T>, P, R, Sharing<I>, RwHooks>, TryLockFault>
         requires can { CanLock lock.now (P.seats parking.now) pass.old }
-        ensures* not_locked { sem 𝓛 (RestsIfErr the_row pass.entry (λ guard. guard.pass.ghost_name) result
-            (λ last. LastsUntil (P.did parking.now) moment
-            (λ how. NotLocked lock.now.when_full (acquires (P.did parking.now) how)
-            pass.old (yes_unless_missed result) last))) }
+        ensures* not_locked { sem 𝓛 (RestsIfErr the_row pass.entry (λ guard. guard.pass.ghost_name)
+            result (λ last. LastsUntil (P.did parking.now) moment (λ how. NotLocked lock.now.when_full
+            (acquires (P.did parking.now) how) pass.old (yes_unless_missed result) last))) }
         ensures same_reference { IfOk result (λ guard. guard.pass.ghost_name ≡ pass.entry.ghost_name) }
         ensures guards { IfOk result (λ guard. Owns (P.seats guard.parking.now) guard) }
         ensures locked { IfOk result (λ guard. LastsUntil (P.did parking.now) moment
@@ -413,9 +357,7 @@ impl<'a, T: Drop, P: Parking, R: Wait + Clock, I: Keeps<T>> Guard<
     pub fn read(&mut self) -> Result<bool, Fault>
         requires guards { Owns (P.seats self.old.parking.now) self.old }
         ensures same_reference { self.new.pass.ghost_name ≡ self.old.pass.ghost_name }
-        ensures same { IsSame self.old.pass.now self.new.pass.now }
-        ensures same_lock { IsOfOneLock self.old self.new }
-        ensures guards { Owns (P.seats self.new.parking.now) self.new }
+        ensures stays { StillOwns (P.seats self.new.parking.now) self.old self.new }
         ensures returned { GuardReturns (reads_by (P.did self.old.parking.now) Plain)
             self.old self.new result }
         ensures gains { GainsReads self.old.pass.now result self.new.pass.now }

@@ -1,5 +1,5 @@
 //! A value that one writer has, or that many readers look at.
-ghost use Rattle.std.specs.Prelude.{◌≡◌, IfErr, IfOk, IfSome};
+ghost use Rattle.std.specs.Prelude.{◌≡◌, IfErr, IfOk};
 ghost use Rattle.std.specs.Borrow.{sem};
 
 use crate::keeps::Keeps;
@@ -18,7 +18,8 @@ use std::sync::{Arc, Wait};
 ///
 /// - `value_mut` is called by a writer. While it has the write hold, no thread reads. Each reader dropped its share
 ///   before it gave its hold back. So this share is the only one.
-/// - `into_value` is called as a lock is opened or closed. A share is part of a guard, which borrows its lock.
+/// - `into_value` is called with the share of `new`, of a refused opening or of a closed lock. A reader's share is part
+///   of a guard, which borrows the lock. So this share is the only one.
 /// - `another` is called with a read hold. All passes together have 65535 at most, so the count isn't full.
 ///
 /// So the order matters in which a reader's guard ends: the share first, the hold after it.
@@ -38,8 +39,8 @@ impl<T> Model for Shared<T> {
 impl<T> Shared<T> {
     ghost use Rattle.guarded.specs.inner.Lending.{LendsShared};
 
-    // The first share. If memory for its place is refused, it returns the value.
-    pub(crate) fn new(alloc: Global, value: T) -> Result<Shared<T>, T>
+    /// The first share. If memory for its place is refused, it returns the value.
+    pub fn new(alloc: Global, value: T) -> Result<Shared<T>, T>
         ensures ok { IfOk result (λ shared. shared ≡ value) }
         ensures back { IfErr result (λ back. back ≡ value) }
     {
@@ -49,14 +50,16 @@ impl<T> Shared<T> {
         }
     }
 
-    // Another share, unless the count of the shares is full.
-    pub(crate) fn another(&self) -> Option<Shared<T>>
-        ensures { IfSome result (λ shared. shared ≡ self.now) }
+    // Another share.
+    pub(crate) fn another<R: Wait>(&self, rt: &R) -> Shared<T>
+        ensures { result ≡ self.now }
     {
-        match Arc::try_clone(&self.value) {
-            Ok(value) => Some(Shared { value }),
-            Err(_) => None,
+        for _ in rt.forever() {
+            if let Ok(value) = Arc::try_clone(&self.value) {
+                return Shared { value };
+            }
         }
+        unreachable!()
     }
 
     /// Returns the value.
@@ -88,8 +91,8 @@ impl<T> Shared<T> {
         unreachable!()
     }
 
-    // The value, once this is the only share.
-    pub(crate) fn into_value<R: Wait>(self, rt: &R) -> T
+    /// Returns the value, once this is the only share.
+    pub fn into_value<R: Wait>(self, rt: &R) -> T
         ensures { result ≡ self }
     {
         let Shared { value } = self;

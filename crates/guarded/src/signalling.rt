@@ -7,8 +7,7 @@ ghost use Rattle.guarded.specs.Asking.{signals};
 ghost use Rattle.monitor.specs.Calling.{CanCall, Called};
 ghost use Rattle.monitor_fronts.specs.Holding.{holds};
 
-use crate::keeps::Keeps;
-use crate::mutex::Mutex;
+use crate::{Keeps, Mutex};
 use frame::hooks::Hooks;
 use history::entry::Entry;
 use history::fault::Fault;

@@ -1,15 +1,6 @@
 //! What a lock or a pool shows of itself.
 ghost use Rattle.std.specs.Prelude.{◌≡◌, ◌<◌, true, length, is_some, Some};
-ghost use Rattle.deciding.specs.Balance.{available};
-ghost use Rattle.history.specs.Counts.{counts, held, owner};
-ghost use Rattle.history.specs.Line.{line, place_of};
-ghost use Rattle.history.specs.Marks.{is_placed};
-ghost use Rattle.history.specs.Naming.{ready};
-ghost use Rattle.history.specs.Sleepers.{sleepers};
-ghost use Rattle.monitor.specs.Calling.{Called};
-ghost use Rattle.monitor.specs.Lawful.{start_at};
-ghost use Rattle.monitor.specs.Observing.{IsLook};
-ghost use Rattle.monitor.specs.Stepping.{IsTrim};
+ghost use Rattle.guarded.specs.Below.{available, counts, held, owner, line, place_of, is_placed, ready, sleepers, Called, start_at, IsLook, IsTrim};
 
 use frame::hooks::Hooks;
 use history::entry::Mode;

@@ -7,6 +7,8 @@ use std::alloc::AllocGlobal;
 use std::io;
 use std::process::Abort;
 use std::sync::Wait;
+use std::sync::atomic::{AtomicU64, Ordering};
+use std::thread::join;
 use std::time::{Clock, Duration};
 use word_lock::Token;
 
@@ -149,6 +151,76 @@ fn each_deadline_has_come_if_the_clock_cant_be_read(rt: HostRuntime) {
     assert_eq!(rt; parking.now(&NoClock), u64::MAX);
 }
 
+/// A clock at its start.
+struct Start;
+
+impl Clock for Start {
+    fn monotonic(&self) -> io::Result<Duration> {
+        Ok(Duration::ZERO)
+    }
+
+    fn since_1970(&self) -> io::Result<Duration> {
+        Ok(Duration::ZERO)
+    }
+}
+
+/// A clock that goes on by a number of microseconds with each look. As it shows `at`, seat 0 is unparked.
+#[derive(Drop)]
+struct Ticking<'a, R: Wait> {
+    rt: &'a R,
+    parking: &'a ThreadParking,
+    token: &'a Token,
+    shows: AtomicU64,
+    step: u64,
+    at: u64,
+    ghost has_seat: { 0 < parking.now },
+}
+
+impl<'a, R: Wait> Wait for Ticking<'a, R> {}
+
+impl<'a, R: Wait> Clock for Ticking<'a, R> {
+    fn monotonic(&self) -> io::Result<Duration> {
+        let shown = self.shows.fetch_add(self.step, Ordering::SeqCst);
+        if shown == self.at {
+            self.parking.unpark(0, self.token);
+        }
+        Ok(Duration::from_micros(shown))
+    }
+
+    fn since_1970(&self) -> io::Result<Duration> {
+        self.monotonic()
+    }
+}
+
+/// Parks until a clock, which begins with `from`, shows 5 milliseconds. Returns how that ended, and what it showed last.
+fn park_by<R: Abort + Wait + AllocGlobal>(rt: &R, from: u64, step: u64, at: u64) -> (Woke, u64) {
+    let parking = ThreadParking::open(&Start, rt.alloc(), 1).expect(rt, "memory");
+    let token = lone_token(rt);
+    let clock = Ticking {
+        rt,
+        parking: &parking,
+        token: &token,
+        shows: AtomicU64::new(from),
+        step,
+        at,
+    };
+    let woke = parking.park(&clock, 0, Some(5), false);
+    let last = clock.shows.load(Ordering::SeqCst).saturating_sub(step);
+    (woke, last)
+}
+
+#[test]
+fn a_park_ends_by_its_clock_and_takes_a_permit_that_came_by_then(rt: HostRuntime) {
+    for (from, step, last) in [(0, 1_000, 5_000), (4_300, 350, 5_000), (4_999, 1, 5_000)] {
+        let ended = park_by(&rt, from, step, u64::MAX);
+        assert_eq!(rt; ended, (Woke::Deadline, last));
+    }
+    for (from, step, at) in [(5_000, 1, 5_000), (0, 5_000, 5_000), (4_000, 400, 5_200)] {
+        let ended = park_by(&rt, from, step, at);
+        assert_eq!(rt; ended, (Woke::Permit, at));
+    }
+}
+
 /// A result that doesn't fit the call is used up: a deadline without a timeout, or an interrupt for a park
 /// that isn't interruptible. When the list is empty each park returns `Permit`.
 static SCRIPTED: [Row; 13] = deeds![
@@ -192,4 +264,26 @@ fn a_script_answers_in_order_and_records_the_first_calls(rt: HostRuntime) {
     answer_all(&rt, &parking, &SCRIPTED);
     let calls = parking.calls(rt.alloc()).expect(&rt, "memory");
     assert!(rt; calls.as_slice() == RECORDED.as_slice());
+}
+
+/// How many calls a thread makes beside another.
+const MANY: u32 = 20_000;
+
+fn interrupt_often(parking: &ScriptedParking) {
+    for _ in 0..MANY {
+        parking.interrupt(0);
+    }
+}
+
+#[test]
+fn each_call_of_two_threads_is_recorded(rt: HostRuntime) {
+    let answers = Vec::new(rt.alloc());
+    let parking = ScriptedParking::open(rt.alloc(), answers, 2 * MANY).expect(&rt, "memory");
+    let ((), ()) = join(
+        &rt,
+        || { interrupt_often(&parking) },
+        || { interrupt_often(&parking) },
+    );
+    let calls = parking.calls(rt.alloc()).expect(&rt, "memory");
+    assert_eq!(rt; calls.len(), 2 * MANY as usize);
 }

@@ -1,6 +1,7 @@
 use Rattle.std.proofs.Common.{rules, ◌≡◌, true, false, sym, ◌∙◌, subst, arith}
 use Rattle.std.proofs.lemmas.Fn.{says_at}
 use Rattle.guarded.specs.Prelude.{MutexView, AwaitsUntil, HasCome, owner}
+use Rattle.guarded.proofs.Calling.{stays_on}
 use Rattle.guarded.proofs.Waits.{has_come, then_failed, waited_again}
 use Rattle.guarded.proofs.guard.Guard.wait_while_until.Goals as goal
 
@@ -16,7 +17,7 @@ returns-then-left-eq0-clause-over g c =
 
 pub returns-then-left-eq0-clause-in_time : goal.returns-then-left-eq0-clause-in_time
 returns-then-left-eq0-clause-in_time g c = λ _.
-    subst (λ (place : _). HasCome (g.P.Parking.did place) c.args.moment) c.loop.invariant.4
+    subst (λ (place : _). HasCome (g.P.Parking.did place) c.args.moment) c.loop.invariant.3.same_parking
     (has_come (g.P.Parking.did c.loop.self.parking.now) c.args.moment c.milliseconds_left-left.result
     c.milliseconds_left-left.ensures c.if-left-eq0.true)
 
@@ -26,15 +27,12 @@ loop-preserved g c =
       tt,
       tt,
       c.wait_for.ensures.same_reference ∙ c.loop.invariant.2,
-      c.wait_for.ensures.same_lock.0 ∙ c.loop.invariant.3,
-      c.wait_for.ensures.same_lock.1 ∙ c.loop.invariant.4,
-      c.wait_for.ensures.guards,
+      stays_on c.loop.invariant.3 c.wait_for.ensures.stays,
       c.wait_for.ensures.kept,
-      search rules,
-      c.wait_for.ensures.keeps ∙ c.loop.invariant.8,
+      c.wait_for.ensures.keeps ∙ c.loop.invariant.5,
       waited_again _ (λ (m : MutexView) (place : _). AwaitsUntil (g.P.Parking.did place) m.when_full
           c.args.condition c.args.moment) _
-          c.loop.invariant.3 c.loop.invariant.4 c.loop.invariant.9
+          c.loop.invariant.3.same_lock c.loop.invariant.3.same_parking c.loop.invariant.6
           (c.value.result.now, sym c.value.ensures.value, says_at g.F.Fn c.predicate.ensures is)
           c.in_ok-wait_for.field-0 (
             c.milliseconds_left-left.result,
@@ -50,7 +48,7 @@ returns-in_err-wait_for-clause-failed g c =
     let failed = then_failed _ (λ (m : MutexView) (place : _). AwaitsUntil (g.P.Parking.did place) m.when_full
     c.args.condition c.args.moment)
     (owner c.wait_for.new.self.pass.now c.wait_for.new.self.slot)
-    c.loop.invariant.3 c.loop.invariant.4 c.loop.invariant.9
+    c.loop.invariant.3.same_lock c.loop.invariant.3.same_parking c.loop.invariant.6
     (c.value.result.now, sym c.value.ensures.value, says_at g.F.Fn c.predicate.ensures is)
     c.in_err-wait_for.field-0.0 (
       c.milliseconds_left-left.result,

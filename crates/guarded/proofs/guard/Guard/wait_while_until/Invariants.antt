@@ -1,17 +1,15 @@
 use Rattle.std.proofs.Common.{◌≡◌}
 use Rattle.std.specs.Fn.{FnReturnsAt}
-use Rattle.guarded.specs.Below.{IsSame, holds}
-use Rattle.guarded.specs.Prelude.{Guards, Kept, AwaitsUntil, Waited, WaitsWhile, owner}
+use Rattle.guarded.specs.Below.{holds}
+use Rattle.guarded.specs.Prelude.{StillOwns, Kept, AwaitsUntil, Waited, WaitsWhile, owner}
 use Rattle.guarded.proofs.guard.Guard.wait_while_until.Given as goal
 
 abbrev pub invariant-loop : goal.invariant-loop
 invariant-loop g l =
     (goal.iterator-loop g).can_next l.iterator' × (goal.iterator-loop g).is_finite l.iterator'
     × (l.self.pass.ghost_name ≡ l.initial.self.pass.ghost_name)
-    × (l.self.lock.now ≡ l.fn.self.lock.now) × (l.self.parking.now ≡ l.fn.self.parking.now)
-    × Guards l.self.lock.now (g.P.Parking.seats l.self.parking.now) l.self.pass.now l.self.slot
-    × Kept g.I.Keeps.invariant l.self.slot
-    × IsSame l.fn.self.pass.now l.self.pass.now × (holds l.self.pass.now ≡ holds l.fn.self.pass.now)
+    × StillOwns (g.P.Parking.seats l.self.parking.now) l.fn.self l.self
+    × Kept g.I.Keeps.invariant l.self.slot × (holds l.self.pass.now ≡ holds l.fn.self.pass.now)
     × Waited
     (WaitsWhile (FnReturnsAt g.F.Fn l.fn.predicate) (AwaitsUntil (g.P.Parking.did l.fn.self.parking.now)
     l.fn.self.lock.now.when_full l.fn.condition l.fn.moment))

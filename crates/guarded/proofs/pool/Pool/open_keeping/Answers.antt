@@ -1,6 +1,7 @@
-use Rattle.std.proofs.Common.{◌∙◌, refl, sym, ap, subst}
+use Rattle.std.proofs.Common.{rules, ◌∙◌, refl, sym, ap, subst}
 use Rattle.guarded.specs.Below.{IsInRange, Object, header_of, opened_counts}
 use Rattle.guarded.specs.Shelved.{Lies}
+use Rattle.guarded.proofs.Calling.{none_hold}
 use Rattle.guarded.proofs.Shelving.{short}
 use Rattle.guarded.proofs.pool.Pool.open_keeping.Goals as goal
 
@@ -22,7 +23,14 @@ open_with-requires-clause-rests g c = (
   c.requires.kept,
 )
 
-pub returns-in-Ok-clause-header : goal.returns-in-Ok-clause-header
-returns-in-Ok-clause-header g c =
-    c.in-Ok.ensures.header
-    ∙ ap (λ (o : Object). header_of o c.args.seats 0 c.args.cap) c.hooks_for-hooks.ensures.object
+pub returns-in-Ok-clause-opened : goal.returns-in-Ok-clause-opened
+returns-in-Ok-clause-opened g c =
+    record {
+      header =
+          c.in-Ok.ensures.header
+          ∙ ap (λ (o : Object). header_of o c.args.seats 0 c.args.cap) c.hooks_for-hooks.ensures.object;
+      when_full = search rules;
+      passes = c.in-Ok.ensures.passes;
+      own = c.in-Ok.ensures.own;
+      free = none_hold c.in-Ok.monitor c.args.seats _ c.in-Ok.ensures.passes;
+    }

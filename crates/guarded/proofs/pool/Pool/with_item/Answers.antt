@@ -19,7 +19,10 @@ returns-in-Ok-release_one-clause-lent g c =
       acquired = c.in-Ok.ensures.returned;
       before = c.in-Ok.item;
       after = c.work-answer.new.arg2;
-      worked = record { shown = _; shows = refl; left = _; met = c.work-answer.ensures; leaves = refl };
+      worked = (
+        c.in-Ok.ensures.kept,
+        record { shown = _; shows = refl; left = _; met = c.work-answer.ensures; leaves = refl },
+      );
       released = c.in-Ok-release_one.ensures.returned;
     }
 
@@ -36,7 +39,10 @@ returns-in-Err-release_one-clause-lent g c =
       before = c.in-Ok.item;
       after = c.work-answer.new.arg2;
       worked = (
-        record { shown = _; shows = refl; left = _; met = c.work-answer.ensures; leaves = refl },
+        (
+          c.in-Ok.ensures.kept,
+          record { shown = _; shows = refl; left = _; met = c.work-answer.ensures; leaves = refl },
+        ),
         sym c.in-Err-release_one.ensures.back,
       );
       released = c.in-Err-release_one.ensures.returned;
