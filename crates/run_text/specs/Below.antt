@@ -7,9 +7,10 @@ pub use Rattle.driver.specs.AuditText.{number_line, audit_text}
 pub use Rattle.driver.specs.LineWriter.{IsGathered}
 pub use Rattle.history.specs.declared.entry.Entry.{Entry}
 pub use Rattle.history.specs.declared.header.Header.{Header}
+pub use Rattle.history.specs.declared.limits.TheConstants.{MOST_FOLDED}
 pub use Rattle.history.specs.Base.{Base, based}
-pub use Rattle.history.specs.Entries.{base_on, start_on}
-pub use Rattle.history.specs.EntryWords.{IsSpelt}
+pub use Rattle.history.specs.Entries.{base_on, start_on, IsBasedWell}
+pub use Rattle.history.specs.EntryWords.{IsSpelt, mode_word}
 pub use Rattle.history.specs.Fault.{fault_name}
 pub use Rattle.history.specs.GoodBase.{IsGood}
 pub use Rattle.history.specs.Header.{IsInRange}
@@ -19,7 +20,9 @@ pub use Rattle.history_text.specs.EntryLines.{entry_line, counts_line}
 pub use Rattle.history_text.specs.HistoryLines.{head_line, head_of, lines_told}
 pub use Rattle.history_text.specs.Pieces.{lines_text, entry_lines, history_text}
 pub use Rattle.monitor.specs.Shown.{Shown}
-pub use Rattle.script.specs.Script.{Named, ScriptView}
+pub use Rattle.script.specs.declared.action.Action.TheVariants.{Acquire, AwaitOn}
+pub use Rattle.script.specs.CallText.{action_words}
+pub use Rattle.script.specs.Script.{Named, ScriptView, named}
 pub use Rattle.streams.specs.declared.stream_fault.StreamFault.{StreamFault}
 pub use Rattle.streams.specs.declared.stream_fault.StreamFault.TheVariants.{Text, ReadFailed, WriteFailed, Memory}
 pub use Rattle.streams.specs.Writing.{AppendsFront}

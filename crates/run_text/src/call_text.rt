@@ -1,11 +1,7 @@
 //! The words of a call.
 
 ghost use Rattle.std.specs.Prelude.{◌≡◌, ◌∷◌, ◌++◌, [], OnOk, decimal, slice_get};
-ghost use Rattle.history.specs.EntryWords.{mode_word};
-ghost use Rattle.history.specs.Text.{line_of};
-ghost use Rattle.script.specs.CallText.{action_words};
-ghost use Rattle.script.specs.Script.{named};
-ghost use Rattle.script.specs.declared.action.Action.TheVariants.{Acquire, AwaitOn};
+ghost use Rattle.run_text.specs.Below.{mode_word, line_of, action_words, named, Acquire, AwaitOn};
 ghost use Rattle.run_text.specs.Lines.{call_words, name_by, numbered};
 
 use history::entry::Mode;

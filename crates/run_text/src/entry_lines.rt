@@ -2,10 +2,7 @@
 
 ghost use Rattle.std.specs.Prelude.{◌≡◌, ◌≤◌, ◌↔◌, [], false, All, IsErr, IsTrue, OnErr, OnOk, reverse};
 ghost use Rattle.std.specs.Io.KnownBytes.{Appends};
-ghost use Rattle.history.specs.EntryWords.{IsSpelt};
-ghost use Rattle.history.specs.declared.limits.TheConstants.{MOST_FOLDED};
-ghost use Rattle.history_text.specs.Pieces.{entry_lines};
-ghost use Rattle.streams.specs.Writing.{AppendsFront};
+ghost use Rattle.run_text.specs.Below.{IsSpelt, MOST_FOLDED, entry_lines, AppendsFront};
 
 use driver::answers::put_entries;
 use driver::line_writer::LineWriter;

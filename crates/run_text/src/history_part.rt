@@ -2,14 +2,9 @@
 
 ghost use Rattle.std.specs.Prelude.{◌≡◌, ◌≤◌, ◌++◌, ◌↔◌, [], false, All, IfErr, IfOk, IsErr, IsErrOf, IsTrue, OnErr, OnOk, reverse};
 ghost use Rattle.std.specs.Io.KnownBytes.{Appends};
-ghost use Rattle.history.specs.EntryWords.{IsSpelt};
-ghost use Rattle.history.specs.declared.limits.TheConstants.{MOST_FOLDED};
-ghost use Rattle.history_text.specs.Pieces.{entry_lines};
+ghost use Rattle.run_text.specs.Below.{IsSpelt, MOST_FOLDED, entry_lines, AppendsFront, Memory, WriteFailed, IsSound};
 ghost use Rattle.run_text.specs.RunText.{WritesHistory, base_of};
 ghost use Rattle.run_text.specs.inner.{end_text, history_head};
-ghost use Rattle.streams.specs.Writing.{AppendsFront};
-ghost use Rattle.streams.specs.declared.stream_fault.StreamFault.TheVariants.{Memory, WriteFailed};
-ghost use Rattle.workers.specs.Reports.{IsSound};
 
 use crate::entry_lines::write_entries;
 use crate::part::Head;

@@ -2,12 +2,9 @@
 
 ghost use Rattle.std.specs.Prelude.{◌≡◌, ◌↔◌, [], false, IfErr, IfOk, IsErr, IsTrue, OnErr, OnOk};
 ghost use Rattle.std.specs.Io.KnownBytes.{Appends};
-ghost use Rattle.history.specs.Entries.{IsBasedWell, base_on};
-ghost use Rattle.history.specs.Header.{IsInRange};
+ghost use Rattle.run_text.specs.Below.{IsBasedWell, base_on, IsInRange, AppendsFront, Memory};
 ghost use Rattle.run_text.specs.RunText.{base_of, part_text};
 ghost use Rattle.run_text.specs.inner.{IsJudged, foot_text, head_text};
-ghost use Rattle.streams.specs.Writing.{AppendsFront};
-ghost use Rattle.streams.specs.declared.stream_fault.StreamFault.TheVariants.{Memory};
 
 use crate::entry_lines::write_entries;
 use driver::audit_text::{audit_text, put_line};

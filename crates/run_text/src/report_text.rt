@@ -5,9 +5,7 @@ ghost use Rattle.std.specs.List.{concat};
 ghost use Rattle.std.specs.Io.KnownBytes.{Appends};
 ghost use Rattle.run_text.specs.RunText.{last_lines, parts_text, report_text};
 ghost use Rattle.run_text.specs.inner.{IsJudged};
-ghost use Rattle.streams.specs.Writing.{AppendsFront};
-ghost use Rattle.streams.specs.declared.stream_fault.StreamFault.TheVariants.{Memory};
-ghost use Rattle.workers.specs.Reports.{IsReport, IsSound};
+ghost use Rattle.run_text.specs.Below.{AppendsFront, Memory, IsReport, IsSound};
 
 use crate::answer_lines::put_answers;
 use crate::part::PartText;

@@ -6,6 +6,7 @@
 ghost use Rattle.std.specs.Prelude.{◌≡◌, ◌≤◌, IfOk, length, vec_len};
 
 use crate::standing::{Held, Standing};
+use crate::start::tell;
 use history::entry::{Entry, Mode, Word};
 use history::header::{Header, Object};
 use history::holds::holds_after;
@@ -173,8 +174,7 @@ impl Notes {
 
     /// Tells whoever waits that the run has ended.
     pub(crate) fn tell_end(&self) {
-        self.over.store(OVER, Ordering::SeqCst);
-        self.over.wake_all();
+        tell(&self.over, OVER);
     }
 
     /// Waits for the end of the run at most this many milliseconds, and returns whether it came. If the clock

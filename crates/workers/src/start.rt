@@ -16,6 +16,12 @@ const GO: u64 = 1;
 /// Some thread couldn't be started.
 const CALLED_OFF: u64 = 2;
 
+/// Sets a word, and then wakes all who wait for that: each looks at the word again, and may go back to sleep.
+pub(crate) fn tell(word: &AtomicU64, value: u64) {
+    word.store(value, Ordering::SeqCst);
+    word.wake_all();
+}
+
 /// Where workers wait until all threads were started.
 #[derive(Drop)]
 pub(crate) struct Start {
@@ -31,17 +37,12 @@ impl Start {
 
     /// Lets all workers begin.
     pub(crate) fn go(&self) {
-        self.set(GO);
+        tell(&self.word, GO);
     }
 
     /// Lets all workers end without a call.
     pub(crate) fn call_off(&self) {
-        self.set(CALLED_OFF);
-    }
-
-    fn set(&self, word: u64) {
-        self.word.store(word, Ordering::SeqCst);
-        self.word.wake_all();
+        tell(&self.word, CALLED_OFF);
     }
 
     /// Waits until the workers may begin. If they were called off instead, returns `NotStarted` for this one.

@@ -118,6 +118,9 @@ const LATE: u64 = 400;
 
 const USED: u64 = 60;
 
+/// How often they are woken in that time, though nothing is set.
+const WAKES: u64 = 8;
+
 /// Sets the word of the start after a while. Returns what it tells two workers.
 fn start_late<R: Threads + Wait + Clock + Sync>(
     rt: &R,
@@ -132,8 +135,11 @@ fn start_late<R: Threads + Wait + Clock + Sync>(
                 rt,
                 || -> Result<(), RunFault> { start.wait(rt, 1) },
                 || {
-                    sleep(rt, Duration::from_millis(LATE));
-                    start.set(word);
+                    for _ in 0..WAKES {
+                        sleep(rt, Duration::from_millis(LATE / WAKES));
+                        start.word.wake_all();
+                    }
+                    tell(&start.word, word);
                 },
             )
         },
