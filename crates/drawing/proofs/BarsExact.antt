@@ -176,19 +176,10 @@ run_earlier s from e h b l r =
           r.before;
     }
 
--- what one entry makes of how long a level has lasted
-lasting_too_early : (s : Start) (from : ℕ) (e : Entry) (h : List Entry) (t : Track) (n : ℕ) →
-    length h < from → lasting s from (e ∷ h) t n ≡ 0
-lasting_too_early s from e h t n l = rw (lt-ltb (length h) from l) refl
-
 lasting_on : (s : Start) (from : ℕ) (e : Entry) (h : List Entry) (t : Track) (n : ℕ) → from ≤ length h →
     level_of s (e ∷ h) t ≡ n → lasting s from (e ∷ h) t n ≡ lasting s from h t n + 1
 lasting_on s from e h t n l q =
     rw (le-ltb (length h) from l) (rw (eq-eqb (level_of s (e ∷ h) t) n q) refl)
-
-lasting_off : (s : Start) (from : ℕ) (e : Entry) (h : List Entry) (t : Track) (n : ℕ) →
-    (level_of s (e ∷ h) t ≡ n → ⊥) → lasting s from (e ∷ h) t n ≡ 0
-lasting_off s from e h t n ne = lasting_none s from (e ∷ h) t n (λ l. ne)
 
 -- a run that reaches the newest entry has lasted since its first
 lasts : (s : Start) (from : ℕ) (h : List Entry) (t : Track) (n first : ℕ) → from ≤ first → first < length h →

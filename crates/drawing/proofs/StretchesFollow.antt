@@ -63,15 +63,6 @@ flat_map_none : {X Z : Type 0} (f : X → List Z) (xs : List X) → ((x : X) →
 flat_map_none f [] none = refl
 flat_map_none f (x ∷ xs) none = rw (none x, flat_map_none f xs none) refl
 
--- as they begin
-pub seat_begins : (s : Start) (from i : ℕ) →
-    stretches s from [] i ≡ map (fresh from) (tracks_of_seat s.header.conditions i)
-seat_begins s from i = each (tracks_of_seat s.header.conditions i)
-  where
-    each : (ts : List Track) → map (stretch s from []) ts ≡ map (fresh from) ts
-    each [] = refl
-    each (t ∷ ts) = rw (not_yet s from [] t (omega arith), each ts) refl
-
 -- after an entry that is drawn
 pub seat_goes_on : (s : Start) (from : ℕ) (e : Entry) (h : List Entry) (i : ℕ) → from ≤ length h →
     map (going_on s (e ∷ h) (length h)) (stretches s from h i) ≡ stretches s from (e ∷ h) i

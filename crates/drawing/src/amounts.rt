@@ -1,10 +1,7 @@
 //! The number whose curve is drawn.
 
 ghost use Rattle.std.specs.Prelude.{◌≡◌, ◌++◌, List, OnOk};
-ghost use Rattle.audit.specs.Ledger.{LedgerStand};
-ghost use Rattle.deciding.specs.ObjectState.{HasHistory};
-ghost use Rattle.history.specs.Start.{Start};
-ghost use Rattle.history.specs.declared.entry.Entry.{Entry};
+ghost use Rattle.drawing.specs.Below.{LedgerStand, HasHistory, Start, Entry};
 ghost use Rattle.drawing.specs.Curve.{amount_of, point};
 
 use audit::ledger::Ledger;

@@ -1,12 +1,9 @@
 //! Which acquires pass a waiter.
 
 ghost use Rattle.std.specs.Prelude.{◌≡◌, ◌<◌, ◌^◌, ◌∷◌, List, is_some};
-ghost use Rattle.audit.specs.Ledger.{LedgerStand};
-ghost use Rattle.history.specs.Start.{Start};
-ghost use Rattle.history.specs.declared.entry.Entry.{Entry};
+ghost use Rattle.drawing.specs.Below.{LedgerStand, Start, Entry, begun};
 ghost use Rattle.drawing.specs.Barging.{askers, barges};
 ghost use Rattle.drawing.specs.inner.Barging.{IsCounted, others};
-ghost use Rattle.summing.specs.Waits.{begun};
 
 use audit::ledger::Ledger;
 use deciding::situation::ObjectState;

@@ -1,12 +1,7 @@
 //! Drawing a history whose entries come one after another.
 
 ghost use Rattle.std.specs.Prelude.{◌≡◌, ℕ, ◌<◌, ◌∷◌, [], List, IfOk, OnOk};
-ghost use Rattle.audit.specs.Ledger.{IsNext};
-ghost use Rattle.history.specs.Base.{based};
-ghost use Rattle.history.specs.GoodBase.{IsGood};
-ghost use Rattle.history.specs.Header.{IsInRange};
-ghost use Rattle.history.specs.Start.{Start};
-ghost use Rattle.history.specs.declared.entry.Entry.{Entry};
+ghost use Rattle.drawing.specs.Below.{IsNext, based, IsGood, IsInRange, Start, Entry};
 ghost use Rattle.drawing.specs.Bars.{bars};
 ghost use Rattle.drawing.specs.Curve.{curve};
 ghost use Rattle.drawing.specs.Drawing.{CanDraw, HasDrawn};

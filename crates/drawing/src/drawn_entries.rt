@@ -1,9 +1,7 @@
 //! Drawing a list of entries.
 
 ghost use Rattle.std.specs.Prelude.{◌≡◌, ◌<◌, ◌^◌, IfOk, length, reverse};
-ghost use Rattle.history.specs.Base.{based};
-ghost use Rattle.history.specs.Header.{IsInRange};
-ghost use Rattle.history.specs.Point.{CanFold};
+ghost use Rattle.drawing.specs.Below.{based, IsInRange, CanFold};
 ghost use Rattle.drawing.specs.Bars.{bars};
 ghost use Rattle.drawing.specs.Curve.{curve};
 ghost use Rattle.drawing.specs.Marks.{marks};

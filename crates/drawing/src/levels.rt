@@ -1,11 +1,7 @@
 //! The level of a seat and a kind.
 
 ghost use Rattle.std.specs.Prelude.{◌≡◌, List};
-ghost use Rattle.audit.specs.Ledger.{LedgerStand};
-ghost use Rattle.deciding.specs.ObjectState.{HasSeat};
-ghost use Rattle.history.specs.Sleepers.{has, sleepers};
-ghost use Rattle.history.specs.Start.{Start};
-ghost use Rattle.history.specs.declared.entry.Entry.{Entry};
+ghost use Rattle.drawing.specs.Below.{LedgerStand, HasSeat, has, sleepers, Start, Entry};
 ghost use Rattle.drawing.specs.Levels.{level};
 
 use crate::kind::Kind;

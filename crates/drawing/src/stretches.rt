@@ -2,16 +2,12 @@
 
 ghost use Rattle.std.specs.Prelude.{◌≡◌, ◌<◌, ℕ, ◌++◌, ◌∷◌, [], List, IfOk, OnOk, false, length, map};
 ghost use Rattle.std.specs.List.{All, flat_map};
-ghost use Rattle.audit.specs.Ledger.{LedgerStand};
-ghost use Rattle.deciding.specs.ObjectState.{HasSeat};
-ghost use Rattle.history.specs.Start.{Start};
-ghost use Rattle.history.specs.declared.entry.Entry.{Entry};
+ghost use Rattle.drawing.specs.Below.{LedgerStand, HasSeat, Start, Entry, is_signal};
 ghost use Rattle.drawing.specs.Bars.{bar_at};
 ghost use Rattle.drawing.specs.Levels.{level, track, tracks, tracks_of_seat};
 ghost use Rattle.drawing.specs.declared.kind.Kind.{Kind};
 ghost use Rattle.drawing.specs.Stretches.{AreStretches, fresh};
 ghost use Rattle.drawing.specs.inner.Stretches.{CanGoOn, GoesOn, bar_of, ending, going_on};
-ghost use Rattle.summing.specs.Counting.{is_signal};
 
 use crate::bar::{Bar, Stretch, put_bar};
 use crate::kind::Kind;

@@ -1,9 +1,9 @@
 -- What is told of a history that was judged.
-use Rattle.std.proofs.Common.{◌≡◌, ℕ, List, Option, None, Some, Result, IfSome, subst, sym, IfErr, IsErrOf, refl}
-use Rattle.driver.specs.Below.{Entry, history_form, Verdict, verdict_of, StreamFault, WriteFailed}
+use Rattle.std.proofs.Common.{◌≡◌, ℕ, List, Option, None, Some, IfSome, subst, sym, refl}
+use Rattle.driver.specs.Below.{Entry, Verdict, verdict_of}
 use Rattle.driver.specs.declared.judged.Judged.{Judged}
 use Rattle.driver.specs.declared.telling.Telling.{Telling}
-use Rattle.driver.specs.Prelude.{IsFaultOf, IsToldOf, Tells}
+use Rattle.driver.specs.Prelude.{IsToldOf, Tells}
 use Rattle.driver.specs.inner.Judged.{IsJudged, IsJudgedOf}
 use Rattle.driver.proofs.Judging.{verdict_is}
 
@@ -47,9 +47,3 @@ pub some_verdict : (telling : Telling) (left : Option (List ℕ)) (verdict : Ver
     IfSome left (λ text. (v : Verdict) × IsToldOf telling text v Written)
 some_verdict telling None verdict Written a = tt
 some_verdict telling (Some text) verdict Written a = (verdict, a)
-
--- no fault of a text or of its source is one of writing
-pub not_of_writing : {T : Type 0} (text left : Option (List ℕ)) (r : Result T StreamFault) →
-    IfErr r (IsFaultOf history_form text left) → IsErrOf r WriteFailed → ⊥
-not_of_writing {T} text left r err is =
-    subst (λ (x : Result T StreamFault). IfErr x (IsFaultOf history_form text left)) is err

@@ -1,5 +1,5 @@
 -- Acts of a core, one after another, and what is kept of them.
-use Rattle.std.proofs.Common.{◌≡◌, ℕ, List, All, reverse, Result, Ok, Err, ap, arith, lt-ltb}
+use Rattle.std.proofs.Common.{◌≡◌, ℕ, List, All, reverse, Result, Ok, Err, refl, arith, lt-ltb}
 use Rattle.std.specs.List.{AllByRecursion}
 use Rattle.std.proofs.lemmas.Bool.Decides.{nat_tests}
 use Rattle.std.proofs.lemmas.List.Elements.{All-from_recursion}
@@ -14,31 +14,11 @@ pub of_seats : (h : StepsHeader) (a : Act) → IsAct h a → IsOfSeats h.header.
 of_seats h (Do i step) is = is.0
 of_seats h Trim is = tt
 
--- ---- what a core's trim leaves
-
-pub record HasTrimmed (old : CoreView) (r : Result ℕ Fault) (new : CoreView) : Type 0 where
-  pub is : IsTrimOf r old.base old.entries
-  pub base : new.base ≡ base_after r old.base old.entries
-  pub entries : new.entries ≡ list_after r old.entries
-  pub header : new.header ≡ old.header
-
-pub has_trimmed : (old new : CoreView) (r : Result ℕ Fault) → IsTrimmed old r new → HasTrimmed old r new
-has_trimmed old new (Ok count) t =
-    record {
-      is = (t.1, grind (arith, nat_tests, t.0));
-      base = ap (λ (v : CoreView). v.base) t.2;
-      entries = ap (λ (v : CoreView). v.entries) t.2;
-      header = ap (λ (v : CoreView). v.header) t.2;
-    }
-has_trimmed old new (Err fault) t =
-    record {
-      is = (t.1, lt-ltb _ _ t.0);
-      base = ap (λ (v : CoreView). v.base) t.2;
-      entries = ap (λ (v : CoreView). v.entries) t.2;
-      header = ap (λ (v : CoreView). v.header) t.2;
-    }
-
--- ---- all entries have lines
+pub has_trimmed : (old new : CoreView) (r : Result ℕ Fault) → IsTrimmed old r new →
+    IsTrimOf r old.base old.entries × (new.base ≡ base_after r old.base old.entries)
+    × (new.entries ≡ list_after r old.entries) × (new.header ≡ old.header)
+has_trimmed old new (Ok count) t = rw t.2 ((t.1, grind (arith, nat_tests, t.0)), refl, refl, refl)
+has_trimmed old new (Err fault) t = rw t.2 ((t.1, lt-ltb _ _ t.0), refl, refl, refl)
 
 pub spelt_each : (b : Base) (h : List Entry) → CanFold b h → AllByRecursion IsSpelt h
 spelt_each b h can = all_spelt_on (based b) h (good_waits b can.good) can.legal

@@ -1,13 +1,13 @@
 -- The acts of a text are done as their lines are read.
-use Rattle.std.proofs.Common.{◌≡◌, ℕ, ◌+◌, List, [], ◌∷◌, ◌++◌, length, Option, None, Some, Result, Ok, IfSome, refl, subst, sym, ap, ◌∙◌, arith}
-use Rattle.driver.specs.Below.{Act, Do, Trim, CoreView, Entry, Fault, Answer, Step, answer, Base, based, opening_base, ended, IsText, StepsHeader, steps_form}
+use Rattle.std.proofs.Common.{◌≡◌, ℕ, ◌+◌, List, [], ◌∷◌, ◌++◌, length, Option, None, Some, Result, Ok, IfSome, refl, subst, sym, ap, arith}
+use Rattle.driver.specs.Below.{Act, Do, Trim, CoreView, Entry, Fault, Answer, Step, answer, Base, based, made_by, opening_base, ended, IsText, StepsHeader, steps_form}
 use Rattle.driver.specs.Prelude.{Form, Replay, History, AllAnswers, answers_text, AreAnswersBehind, IsLawful, answer_text, answer_line, behind_acts, entries_of, Told, told_more, trim_line, Progress, IsNext}
 use Rattle.driver.specs.inner.Logged.{IsLogged}
 use Rattle.driver.specs.inner.ReplayStream.{IsAnswerTo}
 use Rattle.driver.proofs.ReadingAhead.{ReadOn}
 use Rattle.driver.proofs.WrittenAnswers.{replayed}
 use Rattle.driver.proofs.Doing.{has_trimmed}
-use Rattle.driver.proofs.Replies.{added_count, added_is}
+use Rattle.driver.proofs.Replies.{made_count}
 use Rattle.driver.proofs.ReplayUnderWay.{IsTrimOf, PlayedSoFar, answered, base_after, list_after, played_all, played_none, played_step, played_trim, same_count}
 
 -- These acts were read, and these lines were told of them. They left this base and list.
@@ -32,15 +32,15 @@ answering_none p b h told base none empty =
 pub answering_step : (first old new : Progress StepsHeader Act) (i : ℕ) (step : Step)
     (r : Result Answer Fault) (b : Base) (h h' : List Entry) (told : Told) (left : Option (List ℕ))
     → IsNext steps_form old (Ok (Some (Do i step))) new left → new.so_far.header ≡ old.so_far.header →
-    r ≡ (answer (based b) h i step).0 → h' ≡ (answer (based b) h i step).1 → Answering first old b h told →
-    Answering first new b h' (told_more told (ended (answer_line told.count i r)) (entries_of r))
-answering_step first old new i step r b h h' told left next same p q a =
+    r ≡ (answer (based b) h i step).0 → h' ≡ (answer (based b) h i step).1 → h' ≡ made_by r ++ h →
+    Answering first old b h told → Answering first new b h' (told_more told (ended (answer_line told.count i r)) (entries_of r))
+answering_step first old new i step r b h h' told left next same p q more a =
     let played = subst (λ (k : StepsHeader). PlayedSoFar k.header a.acts told.lines b h) (sym same) a.played in
     record {
       acts = a.acts ++ Do i step ∷ [];
       read = λ text were. next text a.acts (a.read text were);
-      played = rw a.counted (played_step new.so_far.header.header a.acts told.lines b h i step r h' played p q);
-      counted = omega (arith, a.counted, ap length (added_is (based b) h i step r h' p q), added_count r h);
+      played = rw a.counted (played_step new.so_far.header.header a.acts told.lines b h i step r h' played p q more);
+      counted = omega (arith, a.counted, ap length more, made_count r h);
     }
 
 -- one more trim was answered
@@ -65,19 +65,19 @@ pub answering_act : (first old new : Progress StepsHeader Act) (act : Act) (core
     IsLogged core told act core' told' → Answering first old core.base core.entries told
     → Answering first new core'.base core'.entries told' × (core'.header ≡ core.header)
 answering_act first old new (Do i step) core core' told told' left next same is a =
-    let now = answered core core' i step is.0 is.1 is.2 in
+    let now = answered core core' i step is.0 is.1.answered is.2 in
     let more =
     answering_step first old new i step is.0 core.base core.entries core'.entries told left next same now.0
-    now.1 a in (
-      rw (now.3, is.3) more,
-      now.2,
+    now.1 is.1.grown a in (
+      rw (is.1.base, is.3) more,
+      is.1.header,
     )
 answering_act first old new Trim core core' told told' left next same is a =
     let t = has_trimmed core core' is.0 is.1 in
     let more =
-    answering_trim first old new is.0 core.base core.entries told left next same t.is a in (
-      rw (t.base, t.entries, is.2) more,
-      t.header,
+    answering_trim first old new is.0 core.base core.entries told left next same t.0 a in (
+      rw (t.1, t.2, is.2) more,
+      t.3,
     )
 
 -- ---- all acts were done

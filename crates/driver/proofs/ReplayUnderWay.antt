@@ -1,8 +1,8 @@
 -- What a replay has answered, and what is left to answer.
 use Rattle.std.proofs.Common.{◌≡◌, inl, inr, ℕ, ◌+◌, false, true, ltb, List, [], ◌∷◌, ◌++◌, length, Result, Ok, Err, refl, ap, sym, ◌∙◌, arith, append_assoc, append-nil}
-use Rattle.driver.specs.Below.{Act, Do, Trim, as_answered, outcome, CoreView, IsAnswered, start_of, Entry, Fault, OutOfMemory, TrimFull, Header, Answer, Step, answer, Base, based, folded, opening_base, MOST_FOLDED, ended}
+use Rattle.driver.specs.Below.{Act, Do, Trim, as_answered, outcome, CoreView, IsAnswered, start_of, Entry, Fault, OutOfMemory, TrimFull, Header, Answer, Step, answer, Base, based, folded, made_by, opening_base, MOST_FOLDED, ended}
 use Rattle.driver.specs.ReplayText.{answer_line, done_line, done_lines, entries_done, entries_of, trim_line}
-use Rattle.driver.proofs.Replies.{added_count, added_is}
+use Rattle.driver.proofs.Replies.{made_count}
 
 -- ---- what is left to do
 
@@ -107,11 +107,11 @@ played_next header acts out b h x line b' h' played one =
 
 pub played_step : (header : Header) (acts : List Act) (out : List ℕ) (b : Base) (h : List Entry) (i : ℕ)
     (step : Step) (r : Result Answer Fault) (h' : List Entry) → PlayedSoFar header acts out b h →
-    r ≡ (answer (based b) h i step).0 → h' ≡ (answer (based b) h i step).1
+    r ≡ (answer (based b) h i step).0 → h' ≡ (answer (based b) h i step).1 → h' ≡ made_by r ++ h
     → PlayedSoFar header (acts ++ Do i step ∷ []) (out ++ ended (answer_line (b.entries + length h) i r)) b h'
-played_step header acts out b h i step r h' played p q =
+played_step header acts out b h i step r h' played p q more =
     let count : (b.entries + length h) + entries_of r ≡ b.entries + length h' =
-    omega (arith, ap length (added_is (based b) h i step r h' p q), added_count r h) in
+    omega (arith, ap length more, made_count r h) in
     played_next header acts out b h (Do i step) (ended (answer_line (b.entries + length h) i r)) b h' played
     (λ left. rest-do b h (b.entries + length h) i step left r h' p q
     ∙ ap (λ (n : ℕ). behind (ended (answer_line (b.entries + length h) i r)) (rest b h' n left)) count)
@@ -147,7 +147,6 @@ played_all header acts out b h played =
 pub answered : (old new : CoreView) (i : ℕ) (step : Step) (r : Result Answer Fault) →
     IsAnswered old i step r new → (r ≡ Err OutOfMemory → ⊥)
     → (r ≡ (answer (start_of old) old.entries i step).0)
-    × (new.entries ≡ (answer (start_of old) old.entries i step).1) × (new.header ≡ old.header)
-    × (new.base ≡ old.base)
-answered old new i step r (inl a) refused = (a.answer, a.entries, a.header, a.base)
+    × (new.entries ≡ (answer (start_of old) old.entries i step).1)
+answered old new i step r (inl a) refused = (a.answer, a.entries)
 answered old new i step r (inr a) refused = absurd (refused a.0)

@@ -1,5 +1,5 @@
 -- The entries before the first illegal one, of those that were kept.
-use Rattle.std.proofs.Common.{◌≡◌, ℕ, zero, suc, ◌<◌, ◌≤◌, ◌^◌, arith, List, [], ◌∷◌, ◌++◌, length, take, drop, reverse, refl, ap, ◌∙◌, sym, subst, length-drop, length-take, take-append-drop, Option, None, Some, IfSome, IsSomeAnd}
+use Rattle.std.proofs.Common.{◌≡◌, ℕ, zero, suc, ◌<◌, ◌≤◌, ◌^◌, arith, List, [], ◌∷◌, ◌++◌, length, take, drop, reverse, refl, ap, ◌∙◌, sym, subst, length-append, length-drop, length-take, take-append-drop, Option, Some, IfSome}
 use Rattle.std.specs.List.{All, AllByRecursion, slice_get}
 use Rattle.std.proofs.lemmas.Grind.{common_steps}
 use Rattle.std.proofs.lemmas.List.{length-reverse, reverse-append, reverse-reverse}
@@ -12,8 +12,8 @@ use Rattle.history_text.proofs.Lists.{each-reverse}
 use Rattle.driver.specs.declared.judged.Judged.{Judged}
 use Rattle.driver.specs.declared.telling.Telling.{Telling}
 use Rattle.driver.specs.Prelude.{before_wrong}
-use Rattle.driver.specs.inner.Judged.{IsJudged}
-use Rattle.driver.specs.inner.Telling.{legal_count, legal_front, place_before}
+use Rattle.driver.specs.inner.Judged.{CanExplain, IsJudged}
+use Rattle.driver.specs.inner.Telling.{legal_front}
 
 -- ---- the first of the first entries
 
@@ -85,13 +85,8 @@ wrong_within : (s : Start) (h : List Entry) (j : Judgement) → IsJudgement s h 
 wrong_within s h (Legal totals) is = omega arith
 wrong_within s h (NotLegal w) is = omega (arith, is.0.stands)
 
-count_within : (v : Verdict) (s : Start) (h : List Entry) (j : Judgement) (count : ℕ) → v ≡ verdict_of j →
-    IsJudgement s h j → count ≡ length h → legal_count v count ≤ length h
-count_within v s h (Legal totals) count q is same = rw q (omega (arith, same))
-count_within v s h (NotLegal w) count q is same = rw q (omega (arith, is.0.stands))
-
-place_within : (at : Option ℕ) (folded front : ℕ) → place_before at folded front ≤ front
-place_within at folded front = grind arith
+if_some : {A : Type 0} (o : Option A) (P : A → Type 0) → ((x : A) → o ≡ Some x → P x) → IfSome o P
+if_some o P f = grind arith
 
 -- ---- of what was judged
 
@@ -100,88 +95,58 @@ module _ (telling : Telling) (h : List Entry) (j : Judged) (k : IsJudged telling
   wrong_early v q =
       omega (arith, k.few, wrong_within (based j.base) h j.judgement k.judged, ap before_wrong q)
 
-  -- the place that is explained isn't past the first illegal entry
-  pub place_few : (v : Verdict) (at : Option ℕ) (folded count place : ℕ) → v ≡ verdict_of j.judgement →
-      count ≡ legal_count v j.count → place ≡ place_before at folded count → place < 2 ^ 32
-  place_few v at folded count place q counts placed =
-      omega (
-        arith,
-        k.few,
-        count_within v (based j.base) h j.judgement j.count q k.judged k.count,
-        counts,
-        placed,
-        place_within at folded count,
-      )
-
   kept_few : length j.entries.items ≤ length h
   kept_few = omega (arith, ap length k.front, length-take k.most (reverse h), length-reverse h)
 
-  -- the entries before the first illegal one are few, and the first of them can be folded
-  module _ (v : Verdict) (xs : List Entry) where
-    pub within_cap : (kept : List Entry) → kept ≡ j.entries.items → xs ≡ legal_front v kept →
-        length xs ≤ j.base.header.cap
-    within_cap kept same is =
-        omega (arith, kept_few, k.within, ap length is, shown_few v kept, ap length same)
+  -- the entry at a place is of a seat of the object
+  next_seated : (kept : List Entry) (n : ℕ) (next : Option Entry) → kept ≡ j.entries.items →
+      next ≡ slice_get kept n → IfSome next (λ e. e.seat < j.base.header.seats)
+  next_seated kept n next same is =
+      let P : Entry → Type 0 = λ e. e.seat < j.base.header.seats in
+      if_some next P (λ e q.
+      let at : slice_get j.entries.items n ≡ Some e = ap (λ (xs : List Entry). slice_get xs n) (sym same) ∙ sym is ∙ q in
+      subst P (get_or_from_slice_get j.entries.items n e e at) (k.seated n e (slice_get_within j.entries.items n e at)))
 
-    pub taken_within_cap : (kept : List Entry) (n : ℕ) (ys : List Entry) → kept ≡ j.entries.items →
-        xs ≡ legal_front v kept → ys ≡ take n xs → length ys ≤ j.base.header.cap
-    taken_within_cap kept n ys same is taken =
-        omega (arith, within_cap kept same is, ap length taken, length-take n xs)
+  -- the first entries before the first illegal one can be folded, and one after them explained
+  module _ (v : Verdict) (kept xs ys : List Entry) (n : ℕ) (q : v ≡ verdict_of j.judgement) (same : kept ≡ j.entries.items)
+      (is : xs ≡ legal_front v kept) (taken : ys ≡ take n xs) where
+    few_shown : length ys ≤ length h
+    few_shown =
+        omega (arith, kept_few, ap length same, ap length is, shown_few v kept, ap length taken, length-take n xs)
 
-    pub few_shown : (kept : List Entry) (n : ℕ) (ys : List Entry) → kept ≡ j.entries.items →
-        xs ≡ legal_front v kept → ys ≡ take n xs → length ys < 2 ^ 32
-    few_shown kept n ys same is taken =
-        omega (
-          arith,
-          k.few,
-          kept_few,
-          ap length same,
-          ap length is,
-          shown_few v kept,
-          ap length taken,
-          length-take n xs,
-        )
-
-    pub can_fold_shown : (kept : List Entry) (n : ℕ) → v ≡ verdict_of j.judgement → kept ≡ j.entries.items →
-        xs ≡ legal_front v kept → CanFold j.base (reverse (take n xs))
-    can_fold_shown kept n q same is =
+    can_fold_shown : CanFold j.base (reverse ys)
+    can_fold_shown =
         let shown = legal_front v j.entries.items in
-        let whole : xs ≡ shown = is ∙ ap (legal_front v) same in
+        let whole : ys ≡ take n shown = taken ∙ ap (take n) (is ∙ ap (legal_front v) same) in
         let legal : IsLegal (based j.base) (reverse shown) =
         subst (λ (u : Verdict). IsLegal (based j.base) (reverse (legal_front u j.entries.items))) (sym q)
         (subst (λ (zs : List Entry). IsLegal (based j.base) (reverse (legal_front (verdict_of j.judgement) zs)))
         (sym k.front) (shown_legal (based j.base) h j.judgement k.most k.judged)) in
-        subst (λ (zs : List Entry). CanFold j.base (reverse (take n zs))) (sym whole)
+        subst (λ (zs : List Entry). CanFold j.base (reverse zs)) (sym whole)
         (record {
           good = k.good;
           seated = taken_seated (based j.base) n shown (shown_seated v j.base.header.seats j.entries.items k.seated);
           legal = taken_legal (based j.base) n shown legal;
         })
 
-pub turned : (xs : List Entry) → length xs < 2 ^ 32 → length (reverse xs) < 2 ^ 32
-turned xs few = omega (arith, few, length-reverse xs)
+    pub can_explain : (all : List Entry) (m : ℕ) (next : Option Entry) → all ≡ j.entries.items →
+        next ≡ slice_get all m → CanExplain j.base ys next
+    can_explain all m next whole at = record {
+      range = k.range;
+      can = can_fold_shown;
+      few = omega (arith, few_shown, k.within);
+      seat = next_seated all m next whole at;
+    }
 
-if_some : {A : Type 0} (o : Option A) (P : A → Type 0) → ((x : A) → o ≡ Some x → P x) → IfSome o P
-if_some o P f = grind arith
-
--- the entry at a place is of a seat of the object
-pub next_seated : (j : Judged) (kept : List Entry) (n : ℕ) (next : Option Entry) → kept ≡ j.entries.items →
-    next ≡ slice_get kept n → All (λ e. e.seat < j.base.header.seats) j.entries.items →
-    IfSome next (λ e. e.seat < j.base.header.seats)
-next_seated j kept n next same is all =
-    let P : Entry → Type 0 = λ e. e.seat < j.base.header.seats in
-    if_some next P (λ e q.
-    let at : slice_get j.entries.items n ≡ Some e = ap (λ (xs : List Entry). slice_get xs n) (sym same) ∙ sym is ∙ q in
-    subst P (get_or_from_slice_get j.entries.items n e e at) (all n e (slice_get_within j.entries.items n e at)))
-
--- the state after the entries before it
-pub state_sound : (o : Option Base) (j : Judged) (before : List Entry) (next : Option Entry) →
-    IsInRange j.base.header → IfSome next (λ e. e.seat < j.base.header.seats) →
-    IsSomeAnd o (λ x. x ≡ folded j.base (reverse before)) → IsSomeAnd o IsGood →
-    IsSomeAnd o (λ x. IsInRange x.header × IsGood x × IfSome next (λ e. e.seat < x.header.seats))
-state_sound None j before next range seat is good = absurd is
-state_sound (Some x) j before next range seat is good = (
-  subst (λ (y : Base). IsInRange y.header) (sym is) range,
-  good,
-  subst (λ (y : Base). IfSome next (λ e. e.seat < y.header.seats)) (sym is) seat,
-)
+-- after the first of these entries it can be explained after the others
+pub goes_on : (b state : Base) (xs g h : List Entry) (next : Option Entry) → CanExplain b xs next → xs ≡ g ++ h →
+    state ≡ folded b (reverse g) → ((l : List Entry) → CanFold b (l ++ reverse g) → CanFold state l) →
+    CanExplain state h next
+goes_on b state xs g h next k whole is goes =
+    let cap : state.header.cap ≡ b.header.cap = ap (λ (y : Base). y.header.cap) is in
+    record {
+      range = subst (λ (y : Base). IsInRange y.header) (sym is) k.range;
+      can = goes (reverse h) (subst (CanFold b) (ap reverse whole ∙ reverse-append g h) k.can);
+      few = omega (arith, k.few, ap length whole, length-append g h, cap);
+      seat = subst (λ (y : Base). IfSome next (λ e. e.seat < y.header.seats)) (sym is) k.seat;
+    }

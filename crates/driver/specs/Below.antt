@@ -12,7 +12,7 @@ pub use Rattle.frame.specs.declared.acts.Act.TheVariants.{Do, Trim}
 pub use Rattle.frame.specs.declared.acts.Done.{Done}
 pub use Rattle.frame.specs.declared.acts.Done.TheVariants.{Answered, Trimmed}
 pub use Rattle.frame.specs.Acts.{IsOfSeats, as_answered, Outcome, outcome}
-pub use Rattle.frame.specs.Core.{CoreView, start_of, IsAnswered, IsTrimmed}
+pub use Rattle.frame.specs.Core.{CoreView, start_of, IsAnswered, IsStepped, IsTrimmed, made_by}
 pub use Rattle.history.specs.declared.entry.Entry.{Entry}
 pub use Rattle.history.specs.declared.fault.Fault.{Fault}
 pub use Rattle.history.specs.declared.fault.Fault.TheVariants.{HistoryFull, OutOfMemory, TrimFull}
@@ -40,7 +40,7 @@ pub use Rattle.history.specs.Room.{has_room}
 pub use Rattle.history.specs.Spelling.{part_of}
 pub use Rattle.history.specs.Start.{Start}
 pub use Rattle.history.specs.Steps.{entry_for}
-pub use Rattle.history.specs.Text.{ended, line_of}
+pub use Rattle.history.specs.Text.{ended, line_of, HasNoBreak}
 pub use Rattle.history_text.specs.declared.base_line.BaseLine.{BaseLine}
 pub use Rattle.history_text.specs.declared.base_under_way.TheConstants.{MOST_LINES}
 pub use Rattle.history_text.specs.declared.place.Head.{Head}
@@ -53,22 +53,24 @@ pub use Rattle.history_text.specs.NextLine.{HasShortLine, LacksBaseLine, LinesRe
 pub use Rattle.history_text.specs.Pieces.{entry_lines, history_text}
 pub use Rattle.history_text.specs.TextLines.{Line, Based, lines_on}
 pub use Rattle.history_text.specs.ToldBases.{IsToldBase, GoodBeginsSo, GoodHas}
-pub use Rattle.streams.specs.declared.fault.TextFault.{TextFault}
-pub use Rattle.streams.specs.declared.fault.TextFault.TheVariants.{BadHeader, BadLine, CutShort}
-pub use Rattle.streams.specs.declared.limits.TheConstants.{LINE_BYTES}
-pub use Rattle.streams.specs.Form.{Form, lines_of}
-pub use Rattle.streams.specs.Reading.{Begins, IsText, IsReading}
-pub use Rattle.streams.specs.Short.{HasShortLines}
-pub use Rattle.streams.specs.UnderWay.{SoFar, AreRead, IsAhead, IsLineBehind}
 pub use Rattle.steps.specs.declared.common_step.Common.{Common}
+pub use Rattle.steps.specs.declared.end_line.TheConstants.{MOST_ACTS}
 pub use Rattle.steps.specs.declared.header.StepsHeader.{StepsHeader}
 pub use Rattle.steps.specs.CommonSteps.{step_of, stepped}
 pub use Rattle.steps.specs.StepLines.{IsStep, step_line, IsAct, act_line, end_line}
 pub use Rattle.steps.specs.StepsText.{steps_form, steps_so_far}
+pub use Rattle.streams.specs.declared.fault.TextFault.{TextFault}
+pub use Rattle.streams.specs.declared.fault.TextFault.TheVariants.{BadHeader, BadLine, CutShort}
+pub use Rattle.streams.specs.declared.limits.TheConstants.{LINE_BYTES, PIECE}
 pub use Rattle.streams.specs.declared.source.DeviceFailed.{DeviceFailed}
 pub use Rattle.streams.specs.declared.stream_fault.StreamFault.{StreamFault}
 pub use Rattle.streams.specs.declared.stream_fault.StreamFault.TheVariants.{Text, ReadFailed, WriteFailed, Memory}
+pub use Rattle.streams.specs.Form.{Form, lines_of}
+pub use Rattle.streams.specs.Reading.{Begins, IsText, IsReading}
 pub use Rattle.streams.specs.ReadingOn.{IsOfReading, IsToldFor, IsTooLong}
+pub use Rattle.streams.specs.Short.{HasShortLines}
 pub use Rattle.streams.specs.Streams.{Streams, IsReadTo, IsReadNoFurther, IsReadOut}
+pub use Rattle.streams.specs.UnderWay.{SoFar, AreRead, IsAhead, IsLineBehind}
 pub use Rattle.streams.specs.Window.{Seen, room, Grows, StaysAhead}
 pub use Rattle.streams.specs.Writing.{AppendsFront}
+pub use Rattle.summing.specs.Summing.{HasSummed}

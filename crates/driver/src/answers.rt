@@ -2,18 +2,10 @@
 
 ghost use Rattle.std.specs.Prelude.{◌≡◌, ◌↔◌, ◌+◌, ◌++◌, ◌<◌, ◌≤◌, ◌^◌, [], false, All, IfOk, IfErr, IsErr, IsErrOf, IsTrue, OnErr, OnOk, length, reverse};
 ghost use Rattle.std.specs.Io.KnownBytes.{Appends};
-ghost use Rattle.history.specs.Base.{based};
-ghost use Rattle.history.specs.EntryWords.{IsSpelt};
-ghost use Rattle.history.specs.Header.{IsInRange};
-ghost use Rattle.history.specs.Legal.{calls};
-ghost use Rattle.history.specs.declared.limits.TheConstants.{MOST_FOLDED};
-ghost use Rattle.history.specs.Text.{ended};
-ghost use Rattle.streams.specs.declared.stream_fault.StreamFault.TheVariants.{Memory};
+ghost use Rattle.driver.specs.Below.{based, IsSpelt, IsInRange, calls, MOST_FOLDED, ended, Memory, entry_lines, AppendsFront};
 ghost use Rattle.driver.specs.Answers.{Writes, answers_text, first_line, form_lines, lines_text, text_behind};
 ghost use Rattle.driver.specs.LineWriter.{Gathers};
 ghost use Rattle.driver.specs.ReplayText.{name_of};
-ghost use Rattle.history_text.specs.Pieces.{entry_lines};
-ghost use Rattle.streams.specs.Writing.{AppendsFront};
 
 use crate::form::Form;
 use crate::line_writer::LineWriter;

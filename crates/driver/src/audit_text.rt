@@ -2,11 +2,8 @@
 
 ghost use Rattle.std.specs.Prelude.{◌≡◌, ◌+◌, ◌<◌, ◌^◌, ◌++◌, List, IfOk, OnOk, length};
 ghost use Rattle.std.specs.Fmt.{signed_decimal};
-ghost use Rattle.audit.specs.Verdict.{IsJudgement, verdict_of};
-ghost use Rattle.history.specs.declared.entry.Entry.{Entry};
-ghost use Rattle.history.specs.Base.{Base, based};
+ghost use Rattle.driver.specs.Below.{IsJudgement, verdict_of, Entry, Base, based, ended};
 ghost use Rattle.history.specs.Legal.{calls as history_calls};
-ghost use Rattle.history.specs.Text.{ended};
 ghost use Rattle.driver.specs.AuditText.{audit_text, base_line, before_wrong, legal_text, number_line, totals_line};
 ghost use Rattle.driver.specs.AuditText.{holds_line, permits_line, count_line};
 

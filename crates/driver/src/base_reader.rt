@@ -1,12 +1,9 @@
 //! Reading the lines of a base from their source, one after another.
 
 ghost use Rattle.std.specs.Prelude.{◌≡◌, ◌≤◌, ◌↔◌, false, length, true, IsTrue, IsErrOf, IfOk};
-ghost use Rattle.history.specs.GoodBase.{IsBaseOf};
-ghost use Rattle.history.specs.Header.{IsInRange};
-ghost use Rattle.history_text.specs.declared.base_under_way.TheConstants.{MOST_LINES};
+ghost use Rattle.driver.specs.Below.{IsBaseOf, IsInRange, MOST_LINES, room};
 ghost use Rattle.driver.specs.BaseReader.{IsPlacedBehind};
 ghost use Rattle.driver.specs.inner.BaseReader.{IsBaseRead, IsLineTaken};
-ghost use Rattle.streams.specs.Window.{room};
 
 use history::base::Base;
 use history_text::base_under_way::BaseUnderWay;

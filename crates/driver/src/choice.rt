@@ -16,6 +16,17 @@ pub struct Choice {
 }
 
 impl Choice {
+    /// Returns this choice, or if none were chosen the first illegal entry, if there is one, and this many before it.
+    pub(crate) fn or_near(self, wrong: Option<u64>, most: u64) -> Choice {
+        match (self.from, self.to, wrong) {
+            (None, None, Some(number)) => Choice {
+                from: Some(number.saturating_sub(most)),
+                to: wrong,
+            },
+            _ => self,
+        }
+    }
+
     /// Returns how many unfolded entries are before the first one to draw, if `folded` entries were folded.
     pub(crate) fn first(self, folded: u64) -> u64
         ensures { result ≡ first_of self folded }

@@ -1,16 +1,15 @@
 //! What explains an entry of a history.
 
-ghost use Rattle.std.specs.Prelude.{◌≡◌, ◌<◌, IfSome, IsSomeAnd, take};
+ghost use Rattle.std.specs.Prelude.{◌≡◌, ◌<◌, [], IfSome, take};
 ghost use Rattle.std.specs.List.{slice_get};
 ghost use Rattle.history.specs.GoodBase.{IsGood};
 ghost use Rattle.history.specs.Header.{IsInRange};
-ghost use Rattle.driver.specs.inner.Judged.{IsSound};
-ghost use Rattle.driver.specs.inner.Telling.{is_legal_at, kept_for, legal_count, place_before};
+ghost use Rattle.driver.specs.inner.Judged.{CanExplain, IsSound};
+ghost use Rattle.driver.specs.inner.Telling.{kept_for, place_before};
 
-use crate::drawn::{legal_front, wrong_of};
+use crate::drawn::legal_front;
 use crate::judged::Judged;
 use crate::notation::Notation;
-use audit::verdict::Verdict;
 use explaining::document::{explained_text, unfolded_text};
 use explaining::explanation::{explain, standing_of};
 use explaining::found::{Found, Told};
@@ -18,7 +17,6 @@ use explaining::json::{explained_json, unfolded_json};
 use explaining::naming::Naming;
 use explaining::state::state_before;
 use history::base::Base;
-use history::entries::History;
 use history::entry::Entry;
 use std::alloc::{AllocError, Global};
 
@@ -32,16 +30,6 @@ pub(crate) fn kept_for(at: Option<u64>, folded: u64) -> u64
     }
 }
 
-/// Returns how many entries precede the first illegal one.
-fn legal_count(verdict: Verdict, count: u64) -> u64
-    ensures { result ≡ legal_count verdict count }
-{
-    match verdict {
-        Verdict::Legal => count,
-        Verdict::NotLegal(number) => number,
-    }
-}
-
 /// Returns how many entries precede the one that is explained.
 fn place_before(at: Option<u64>, folded: u64, front: u64) -> u64
     ensures { result ≡ place_before at folded front }
@@ -49,16 +37,6 @@ fn place_before(at: Option<u64>, folded: u64, front: u64) -> u64
     match at {
         Some(number) => number.saturating_sub(folded).min(front),
         None => front,
-    }
-}
-
-/// Returns whether the entry at a place is legal, if those before it are.
-fn is_legal_at(verdict: Verdict, place: u64) -> bool
-    ensures { result ≡ is_legal_at verdict place }
-{
-    match verdict {
-        Verdict::Legal => true,
-        Verdict::NotLegal(number) => place < number,
     }
 }
 
@@ -74,7 +52,7 @@ pub(crate) fn front(entries: &[Entry], count: u64) -> &[Entry]
 }
 
 /// Returns the entry after this many others, if there is one.
-fn entry_at(entries: &[Entry], place: u64) -> Option<Entry>
+pub(crate) fn entry_at(entries: &[Entry], place: u64) -> Option<Entry>
     ensures { result ≡ slice_get entries.now place }
 {
     entries.get(place as usize).copied()
@@ -89,27 +67,31 @@ pub(crate) fn explained(
 ) -> Result<Vec<u8>, AllocError>
     requires { IsSound judged }
 {
+    let wrong = judged.wrong();
     let folded = judged.folded();
     let verdict = judged.judgement.verdict();
-    let wrong = wrong_of(folded, verdict);
-    let place = place_before(at, folded, legal_count(verdict, judged.count));
-    let number = folded + place;
-    let is_legal = is_legal_at(verdict, place);
-    let Judged {
-        base,
-        count: _,
-        calls: _,
-        judgement: _,
-        entries,
-        summing: _,
-    } = judged;
-    let next = entry_at(&entries, place);
+    let Judged { base, entries, .. } = judged;
     let legal = legal_front(&entries, verdict);
-    let before = front(legal, place);
+    let place = place_before(at, folded, legal.len() as u64);
+    let next = entry_at(&entries, place);
+    explained_at(alloc, notation, base, front(legal, place), next, wrong)
+}
+
+/// Returns what explains the entry after these on a base, or the state there if there is none.
+pub(crate) fn explained_at(
+    alloc: Global,
+    notation: Notation,
+    base: Base,
+    before: &[Entry],
+    next: Option<Entry>,
+    wrong: Option<u64>,
+) -> Result<Vec<u8>, AllocError>
+    requires { CanExplain base before.now next }
+{
     match state_before(base, before) {
         Err(_) => Err(AllocError),
         Ok(None) => unfolded(alloc, notation, wrong),
-        Ok(Some(history)) => explained_on(alloc, notation, &history, wrong, number, next, is_legal),
+        Ok(Some(state)) => explained_on(alloc, notation, &state, next, wrong),
     }
 }
 
@@ -121,40 +103,18 @@ fn unfolded(alloc: Global, notation: Notation, wrong: Option<u64>) -> Result<Vec
     }
 }
 
-/// Returns what explains an entry after the state that is the base of a history, or that state if there is no entry.
+/// Returns what explains an entry after a state, or the state if there is no entry.
 fn explained_on(
     alloc: Global,
     notation: Notation,
-    history: &History,
-    wrong: Option<u64>,
-    number: u64,
-    next: Option<Entry>,
-    is_legal: bool,
-) -> Result<Vec<u8>, AllocError>
-    requires { IsSomeAnd history.now.base (λ state. IsInRange state.header × IsGood state
-        × IfSome next (λ e. e.seat < state.header.seats)) }
-{
-    match history.base() {
-        Some(state) => {
-            let found = found_after(alloc, state, next, is_legal)?;
-            explained_after(alloc, notation, state, wrong, number, found)
-        }
-        None => unreachable!(),
-    }
-}
-
-/// Returns what is told of a state, and of an entry after it if there is one.
-fn explained_after(
-    alloc: Global,
-    notation: Notation,
     state: &Base,
+    next: Option<Entry>,
     wrong: Option<u64>,
-    number: u64,
-    found: Option<Found>,
 ) -> Result<Vec<u8>, AllocError>
-    requires range { IsInRange state.now.header }
-    requires good { IsGood state.now }
+    requires { CanExplain state.now [] next }
 {
+    let number = state.entries as u64;
+    let found = found_after(alloc, state, next, wrong != Some(number))?;
     let Ok(standing) = standing_of(alloc, state) else {
         return Err(AllocError);
     };

@@ -4,19 +4,12 @@ ghost use Rattle.std.specs.Prelude.{◌≡◌, ◌<◌, ◌≤◌, ◌↔◌, []
 ghost use Rattle.std.specs.Prelude.{Ok, IsTrue, IsErrOf, IfOk, IfErr, IfSome, OnErr};
 ghost use Rattle.std.specs.Option.{option_copied};
 ghost use Rattle.std.specs.Io.KnownBytes.{IsAtEnd};
-ghost use Rattle.history.specs.Entries.{IsBasedWell, or_opening};
-ghost use Rattle.history.specs.declared.limits.TheConstants.{MOST_FOLDED};
-ghost use Rattle.history.specs.GoodBase.{IsBaseOf};
-ghost use Rattle.history.specs.Header.{IsInRange};
-ghost use Rattle.history.specs.Text.{HasNoBreak};
+ghost use Rattle.driver.specs.Below.{IsBasedWell, or_opening, MOST_FOLDED, IsBaseOf, IsInRange, HasNoBreak, history_form, IsTooLong, room};
 ghost use Rattle.driver.specs.BaseReader.{IsPlacedBehind};
 ghost use Rattle.driver.specs.inner.BaseReader.{IsBeginningRead};
 ghost use Rattle.driver.specs.HistoryReader.{AreCounted, EntriesRead, IsEntryNext, IsStart};
 ghost use Rattle.driver.specs.inner.HistoryReader.{entry_passed};
 ghost use Rattle.driver.specs.TextReader.{IsFaultOf, KeepsPlace};
-ghost use Rattle.history_text.specs.HistoryText.{history_form};
-ghost use Rattle.streams.specs.ReadingOn.{IsTooLong};
-ghost use Rattle.streams.specs.Window.{room};
 
 use crate::base_reader::read_base;
 use crate::end_of::end_of;

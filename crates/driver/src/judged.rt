@@ -3,29 +3,17 @@
 ghost use Rattle.std.specs.Prelude.{◌≡◌, ◌+◌, ◌<◌, ◌≤◌, ◌∷◌, ◌^◌, ◌↔◌, IsTrue, IfErr, IfOk, IfSome, IsErrOf, IsOkUnless, List, OnOk, Some, [], false, is_some, length};
 ghost use Rattle.std.specs.Option.{option_copied};
 ghost use Rattle.std.specs.Io.KnownBytes.{IsAtEnd};
-ghost use Rattle.audit.specs.Auditor.{HasJudged};
-ghost use Rattle.history.specs.Base.{based};
-ghost use Rattle.history.specs.Entries.{IsBasedWell, or_opening};
-ghost use Rattle.history.specs.GoodBase.{IsGood};
-ghost use Rattle.history.specs.Header.{IsInRange};
-ghost use Rattle.history.specs.Legal.{IsLegal};
-ghost use Rattle.history.specs.Start.{Start};
-ghost use Rattle.history.specs.declared.entry.Entry.{Entry};
-ghost use Rattle.history.specs.declared.limits.TheConstants.{MOST_FOLDED};
-ghost use Rattle.history_text.specs.HistoryText.{history_form};
+ghost use Rattle.driver.specs.Below.{HasJudged, based, IsBasedWell, or_opening, IsGood, IsInRange, IsLegal, Start, Entry, MOST_FOLDED, history_form, IsReadNoFurther, Memory, HasSummed, verdict_of};
 ghost use Rattle.driver.specs.HistoryReader.{IsStart, base_held};
 ghost use Rattle.driver.specs.TextReader.{IsFaultOf};
 ghost use Rattle.driver.specs.inner.HistoryReader.{IsFaultAfterBase};
-ghost use Rattle.driver.specs.inner.Judged.{AreSums, CanFollow, CanSumUp, Follows, IsFollowed, IsJudgedOf, kept_with};
-ghost use Rattle.driver.specs.inner.Telling.{is_summed};
-ghost use Rattle.streams.specs.Streams.{IsReadNoFurther};
-ghost use Rattle.streams.specs.declared.stream_fault.StreamFault.TheVariants.{Memory};
-ghost use Rattle.summing.specs.Summing.{HasSummed};
+ghost use Rattle.driver.specs.inner.Judged.{AreSums, CanFollow, CanSumUp, Follows, IsFollowed, IsJudgedOf, IsSound, kept_with};
+ghost use Rattle.driver.specs.inner.Telling.{is_summed, wrong_of};
 
 use crate::history_reader::HistoryReader;
 use crate::telling::Telling;
 use audit::auditor::Auditor;
-use audit::verdict::Judgement;
+use audit::verdict::{Judgement, Verdict};
 use history::base::Base;
 use history::entry::Entry;
 use history::fault::Fault;
@@ -58,6 +46,17 @@ impl Judged {
         ensures few { result ≤ MOST_FOLDED }
     {
         self.base.entries as u64
+    }
+
+    /// Returns the number of the first illegal entry.
+    pub(crate) fn wrong(&self) -> Option<u64>
+        requires { IsSound self.now }
+        ensures { result ≡ wrong_of self.now.base.entries (verdict_of self.now.judgement) }
+    {
+        match self.judgement.verdict() {
+            Verdict::Legal => None,
+            Verdict::NotLegal(number) => Some(self.folded() + number),
+        }
     }
 
     /// Returns the header of the object.

@@ -7,5 +7,8 @@ pub const LONGEST_LINE: usize = 255;
 /// How many entries are drawn if none are chosen.
 pub const UNCHOSEN: u64 = 2000;
 
+/// How many entries before the first illegal one are drawn if none are chosen.
+pub const UNCHOSEN_WRONG: u64 = 40;
+
 /// A history with more entries than this is summed up in columns if none are chosen.
 pub const UNSUMMED: u64 = 5000;

@@ -2,14 +2,11 @@
 
 ghost use Rattle.std.specs.Prelude.{◌≡◌, ◌+◌, ◌++◌, ◌<◌, ◌≤◌, ◌↔◌, [], false, length, IsErr, IsTrue, IfOk, OnErr, OnOk};
 ghost use Rattle.std.specs.Io.KnownBytes.{Appends};
-ghost use Rattle.history.specs.Text.{ended};
-ghost use Rattle.history_text.specs.EntryLines.{counts_line};
+ghost use Rattle.driver.specs.Below.{ended, counts_line, PIECE, AppendsFront};
 ghost use Rattle.driver.specs.declared.limits.TheConstants.{LONGEST_LINE};
 ghost use Rattle.driver.specs.LineWriter.{Gathers};
 ghost use Rattle.driver.specs.ReplayText.{HasLine, answer_line};
 ghost use Rattle.driver.specs.inner.Codes.{kept_in, line_by};
-ghost use Rattle.streams.specs.declared.limits.TheConstants.{PIECE};
-ghost use Rattle.streams.specs.Writing.{AppendsFront};
 
 use crate::answer_line::spell_answer;
 use crate::code::{Code, WHOLE};

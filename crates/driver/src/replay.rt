@@ -2,24 +2,18 @@
 
 ghost use Rattle.std.specs.Prelude.{◌≡◌, ◌<◌, ◌↔◌, [], All, Err, false, IfErr, IfOk, IsErrOf, IsTrue, OnOk, reverse};
 ghost use Rattle.std.specs.Io.KnownBytes.{IsAtEnd};
-ghost use Rattle.frame.specs.Acts.{IsOfSeats};
-ghost use Rattle.history.specs.Base.{opening_base};
-ghost use Rattle.history.specs.Entries.{IsBasedWell};
-ghost use Rattle.history.specs.EntryWords.{IsSpelt};
-ghost use Rattle.streams.specs.declared.stream_fault.StreamFault.TheVariants.{Memory};
+ghost use Rattle.driver.specs.Below.{CoreView, IsOfSeats, IsStepped, Step, opening_base, IsBasedWell, IsSpelt, Memory, step_of, steps_form};
 ghost use Rattle.driver.specs.inner.Logged.{IsLogged, IsStepLogged};
 ghost use Rattle.driver.specs.ReplayStream.{AreAnswersBehind};
 ghost use Rattle.driver.specs.StepReader.{progress};
 ghost use Rattle.driver.specs.inner.TextReader.{IsFaultBehind};
-ghost use Rattle.steps.specs.CommonSteps.{step_of};
-ghost use Rattle.steps.specs.StepsText.{steps_form};
 
 use crate::code::Code;
 use crate::step_reader::StepReader;
 use crate::tape::Tape;
 use frame::acts::Act;
 use frame::hooks::Hooks;
-use frame::machine::Core;
+use frame::machine::{Core, entry_at_once};
 use history::entry::Mode;
 use history::fault::Fault;
 use history::step::{Answer, Step};
@@ -37,18 +31,18 @@ fn lacks_memory(answer: &Result<Answer, Fault>) -> bool
     matches!(answer, Err(Fault::OutOfMemory))
 }
 
-/// Performs a step, and keeps its line.
+/// Keeps the line of the answer to a step, unless memory was lacking for it.
 #[inline(always)]
-fn answer_step<H: Hooks + Drop>(
-    core: &mut Core<H>,
+fn keep<H: Hooks + Drop>(
+    core: &Core<H>,
     tape: &mut Tape,
     seat: u16,
-    step: Step,
+    answer: Result<Answer, Fault>,
 ) -> Result<(), AllocError>
-    requires { seat < core.old.header.seats }
-    ensures { OnOk result (IsStepLogged core.old tape.old seat step core.new tape.new) }
+    requires { (old : CoreView) × (step : Step) × IsStepped old seat step answer core.now }
+    ensures { (old : CoreView) (step : Step) → IsStepped old seat step answer core.now →
+        OnOk result (IsStepLogged old tape.old seat step core.now tape.new) }
 {
-    let answer = core.step(seat, step);
     if lacks_memory(&answer) {
         return Err(AllocError);
     }
@@ -59,8 +53,71 @@ fn answer_step<H: Hooks + Drop>(
     tape.push_answer(seat, answer)
 }
 
-/// Performs a common step, and keeps its line.
-// In each arm the step is known.
+/// Performs a step, and keeps its line.
+#[inline(never)]
+fn answer_step<H: Hooks + Drop>(
+    core: &mut Core<H>,
+    tape: &mut Tape,
+    seat: u16,
+    step: Step,
+) -> Result<(), AllocError>
+    requires { seat < core.old.header.seats }
+    ensures { OnOk result (IsStepLogged core.old tape.old seat step core.new tape.new) }
+{
+    let answer = core.step(seat, step);
+    keep(core, tape, seat, answer)
+}
+
+/// As `answer_step`, for a step that is mostly done at once: so its entry is known, and its code.
+#[inline(always)]
+fn at_once<H: Hooks + Drop>(
+    core: &mut Core<H>,
+    tape: &mut Tape,
+    seat: u16,
+    step: Step,
+) -> Result<(), AllocError>
+    requires { seat < core.old.header.seats }
+    ensures { OnOk result (IsStepLogged core.old tape.old seat step core.new tape.new) }
+{
+    let Some(name) = core.step_at_once(seat, step) else {
+        return answer_step(core, tape, seat, step);
+    };
+    keep(
+        core,
+        tape,
+        seat,
+        Ok(Answer::Recorded(entry_at_once(seat, step), name)),
+    )
+}
+
+// The next three are called for most steps of a lock that is asked for. Each knows its step.
+#[inline(never)]
+fn queue<H: Hooks + Drop>(core: &mut Core<H>, tape: &mut Tape, seat: u16) -> Result<(), AllocError>
+    requires { seat < core.old.header.seats }
+    ensures { OnOk result (IsStepLogged core.old tape.old seat (Step.Acquire Mode.X 1) core.new tape.new) }
+{
+    let answer = core.step_by_kind(seat, Step::Acquire(Mode::X, 1));
+    keep(core, tape, seat, answer)
+}
+
+#[inline(never)]
+fn give<H: Hooks + Drop>(core: &mut Core<H>, tape: &mut Tape, seat: u16) -> Result<(), AllocError>
+    requires { seat < core.old.header.seats }
+    ensures { OnOk result (IsStepLogged core.old tape.old seat (Step.Give Mode.X 1) core.new tape.new) }
+{
+    at_once(core, tape, seat, Step::Give(Mode::X, 1))
+}
+
+#[inline(never)]
+fn look<H: Hooks + Drop>(core: &mut Core<H>, tape: &mut Tape, seat: u16) -> Result<(), AllocError>
+    requires { seat < core.old.header.seats }
+    ensures { OnOk result (IsStepLogged core.old tape.old seat Step.Look core.new tape.new) }
+{
+    let answer = core.step_by_kind(seat, Step::Look);
+    keep(core, tape, seat, answer)
+}
+
+/// Performs a common step, and keeps its line. In most arms the step is known.
 #[inline(always)]
 fn answer_common<H: Hooks + Drop>(
     core: &mut Core<H>,
@@ -71,17 +128,16 @@ fn answer_common<H: Hooks + Drop>(
     requires { seat < core.old.header.seats }
     ensures { OnOk result (IsStepLogged core.old tape.old seat (step_of common) core.new tape.new) }
 {
+    let alone = core.queue_length() == 0;
     match common {
-        Common::Acquire => answer_step(core, tape, seat, Step::Acquire(Mode::X, 1)),
-        Common::AcquireShared => answer_step(core, tape, seat, Step::Acquire(Mode::S, 1)),
-        Common::Give => answer_step(core, tape, seat, Step::Give(Mode::X, 1)),
-        Common::GiveShared => answer_step(core, tape, seat, Step::Give(Mode::S, 1)),
-        Common::Look => answer_step(core, tape, seat, Step::Look),
-        Common::Try => answer_step(core, tape, seat, Step::Try(Mode::X, 1)),
-        Common::TryFair => answer_step(core, tape, seat, Step::TryFair(Mode::X, 1)),
-        Common::EntryInterrupt => answer_step(core, tape, seat, Step::EntryInterrupt(Mode::X, 1)),
-        Common::Expire => answer_step(core, tape, seat, Step::Expire),
-        Common::Interrupt => answer_step(core, tape, seat, Step::Interrupt),
+        Common::Acquire if alone => at_once(core, tape, seat, Step::Acquire(Mode::X, 1)),
+        Common::AcquireShared if alone => at_once(core, tape, seat, Step::Acquire(Mode::S, 1)),
+        Common::Give if alone => at_once(core, tape, seat, Step::Give(Mode::X, 1)),
+        Common::GiveShared if alone => at_once(core, tape, seat, Step::Give(Mode::S, 1)),
+        Common::Acquire => queue(core, tape, seat),
+        Common::Give => give(core, tape, seat),
+        Common::Look => look(core, tape, seat),
+        _ => answer_step(core, tape, seat, common.step()),
     }
 }
 

@@ -4,12 +4,10 @@ ghost use Rattle.std.specs.Prelude.{◌≡◌, ◌↔◌, false, IsTrue, IfErr, 
 ghost use Rattle.std.specs.Io.KnownBytes.{IsAtEnd};
 ghost use Rattle.driver.specs.ReplayStream.{AreAnswersBehind, Replays};
 ghost use Rattle.driver.specs.inner.ReplayStream.{AreAnswersTo};
-ghost use Rattle.streams.specs.Streams.{IsReadNoFurther};
-ghost use Rattle.streams.specs.declared.stream_fault.StreamFault.TheVariants.{Memory};
+ghost use Rattle.driver.specs.Below.{IsReadNoFurther, Memory, steps_form};
 ghost use Rattle.driver.specs.StepReader.{progress};
 ghost use Rattle.driver.specs.TextReader.{IsFaultOf};
 ghost use Rattle.driver.specs.inner.TextReader.{IsFaultBehind};
-ghost use Rattle.steps.specs.StepsText.{steps_form};
 
 use crate::answers::Answers;
 use crate::form::Form;

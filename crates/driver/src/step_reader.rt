@@ -2,17 +2,10 @@
 
 ghost use Rattle.std.specs.Prelude.{◌≡◌, ◌⊎◌, ◌+◌, ◌^◌, ◌<◌, ◌≤◌, ◌∷◌, ◌++◌, ◌↔◌, ◌-◌, [], false, length, List, None, Ok, Option, Some, ℕ, IsErr, IsTrue, IsErrOf, IfOk, IfErr, IfNone, IfSome, OnErr, OnOk};
 ghost use Rattle.std.specs.Io.KnownBytes.{IsAtEnd};
-ghost use Rattle.history.specs.Header.{IsInRange};
-ghost use Rattle.history.specs.Text.{HasNoBreak};
+ghost use Rattle.driver.specs.Below.{IsInRange, HasNoBreak, IsAct, MOST_ACTS, steps_form, IsTooLong, room, Memory};
 ghost use Rattle.driver.specs.StepReader.{common_act, progress};
 ghost use Rattle.driver.specs.inner.StepReader.{passed};
 ghost use Rattle.driver.specs.TextReader.{IsFaultOf, IsFaultOn, IsNext, IsOfNoText, KeepsPlace, WereRead};
-ghost use Rattle.steps.specs.StepLines.{IsAct};
-ghost use Rattle.steps.specs.declared.end_line.TheConstants.{MOST_ACTS};
-ghost use Rattle.steps.specs.StepsText.{steps_form};
-ghost use Rattle.streams.specs.ReadingOn.{IsTooLong};
-ghost use Rattle.streams.specs.Window.{room};
-ghost use Rattle.streams.specs.declared.stream_fault.StreamFault.TheVariants.{Memory};
 
 use crate::end_of::end_of;
 use frame::acts::Act;

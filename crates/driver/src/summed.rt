@@ -3,7 +3,6 @@
 ghost use Rattle.driver.specs.inner.Judged.{IsJudgedFor};
 ghost use Rattle.driver.specs.declared.telling.Telling.TheVariants.{Summary};
 
-use crate::drawn::wrong_of;
 use crate::judged::Judged;
 use crate::notation::Notation;
 use std::alloc::{AllocError, Global};
@@ -19,16 +18,8 @@ pub(crate) fn summed_text(
     requires { IsJudgedFor (Summary notation) judged }
 {
     let folded = judged.folded();
-    let verdict = judged.judgement.verdict();
-    let wrong = wrong_of(folded, verdict);
-    let Judged {
-        base: _,
-        count: _,
-        calls: _,
-        judgement: _,
-        entries: _,
-        summing,
-    } = judged;
+    let wrong = judged.wrong();
+    let Judged { summing, .. } = judged;
     let Some(summing) = summing else {
         unreachable!()
     };

@@ -2,14 +2,11 @@
 
 ghost use Rattle.std.specs.Prelude.{◌≡◌, ◌↔◌, List, IsTrue, IfErr, IfOk, IsErrOf, OnOk, false};
 ghost use Rattle.std.specs.Io.KnownBytes.{IsAtEnd};
-ghost use Rattle.audit.specs.Verdict.{verdict_of};
-ghost use Rattle.history.specs.declared.entry.Entry.{Entry};
-ghost use Rattle.history_text.specs.HistoryText.{history_form};
+ghost use Rattle.driver.specs.Below.{verdict_of, Entry, history_form, IsReadNoFurther};
 ghost use Rattle.driver.specs.Telling.{Tells, TellsHistory};
 ghost use Rattle.driver.specs.TextReader.{IsFaultOf};
 ghost use Rattle.driver.specs.inner.Judged.{IsJudged, IsJudgedFor};
 ghost use Rattle.driver.specs.inner.Telling.{IsToldFor};
-ghost use Rattle.streams.specs.Streams.{IsReadNoFurther};
 
 use crate::audited::audited_text;
 use crate::drawn::drawn_text;
@@ -96,7 +93,7 @@ fn text_of(
 {
     match telling {
         Telling::Audit(notation) => audited_text(alloc, notation, &judged),
-        Telling::Draw(choice) => drawn_text(alloc, names, choice, &judged),
+        Telling::Draw(choice) => drawn_text(alloc, names, choice, judged),
         Telling::Page(choice) => paged_text(alloc, names, choice, judged),
         Telling::Explain(at, notation) => explained(alloc, at, notation, judged),
         Telling::Summary(notation) => summed_text(alloc, notation, judged),

@@ -13,9 +13,11 @@ pub enum Telling {
     /// The verdict, and what a legal history adds up to.
     Audit(Notation),
     /// A picture of the chosen entries. If none were chosen, a history of more than 5,000 entries is summed up
-    /// in columns, and of a shorter one the first 2,000 are drawn.
+    /// in columns, and of a shorter one the first 2,000 are drawn, or if it isn't legal the first illegal one
+    /// and the 40 before it.
     Draw(Choice),
-    /// A page that steps through the chosen entries, or through the first 2,000 if none were chosen.
+    /// A page that steps through the chosen entries. If none were chosen, through the first 2,000, or through the
+    /// 2,000 before the first illegal one.
     Page(Choice),
     /// What explains the entry of a number. Without a number that is the first illegal entry, or the state
     /// after the last. The first illegal entry is also explained in place of a later one.
@@ -31,8 +33,7 @@ impl Telling {
     {
         match self {
             Telling::Audit(_) | Telling::Summary(_) => 0,
-            Telling::Draw(choice) => choice.kept(folded),
-            Telling::Page(choice) => choice.end(folded),
+            Telling::Draw(choice) | Telling::Page(choice) => choice.kept(folded),
             Telling::Explain(at, _) => kept_for(at, folded),
         }
     }

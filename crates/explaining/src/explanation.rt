@@ -1,12 +1,7 @@
 //! What is known of an entry, and of the state before it.
 
 ghost use Rattle.std.specs.Prelude.{◌≡◌, ◌<◌, [], IfOk, IsOkUnless};
-ghost use Rattle.audit.specs.Ledger.{IsNext};
-ghost use Rattle.deciding.specs.Balance.{balance};
-ghost use Rattle.history.specs.Base.{based};
-ghost use Rattle.history.specs.GoodBase.{IsGood};
-ghost use Rattle.history.specs.Header.{IsInRange};
-ghost use Rattle.history.specs.Naming.{ready};
+ghost use Rattle.explaining.specs.Below.{IsNext, balance, based, IsGood, IsInRange, ready};
 ghost use Rattle.explaining.specs.Naming.{naming_of};
 ghost use Rattle.explaining.specs.Ways.{ways_of};
 

@@ -2,11 +2,7 @@
 
 ghost use Rattle.std.specs.Prelude.{◌≡◌, ◌↔◌, IsTrue, List, Ok, Some, true};
 ghost use Rattle.std.specs.List.{Contains, list_any};
-ghost use Rattle.history.specs.Naming.{named};
-ghost use Rattle.history.specs.Start.{Start};
-ghost use Rattle.history.specs.Steps.{entry_for};
-ghost use Rattle.history.specs.declared.entry.Entry.{Entry};
-ghost use Rattle.history.specs.declared.step.Step.{Step};
+ghost use Rattle.explaining.specs.Below.{named, Start, entry_for, Entry, Step};
 ghost use Rattle.explaining.specs.Naming.{naming_of, seat_named};
 ghost use Rattle.explaining.specs.Ways.{same_entry, ways_of};
 

@@ -1,11 +1,7 @@
 //! Whom an entry names, and why.
 
 ghost use Rattle.std.specs.Prelude.{◌≡◌, List};
-ghost use Rattle.history.specs.Line.{first_of, line};
-ghost use Rattle.history.specs.Naming.{ready};
-ghost use Rattle.history.specs.Start.{Start};
-ghost use Rattle.history.specs.declared.entry.Entry.{Entry};
-ghost use Rattle.deciding.specs.ObjectState.{HasHistory};
+ghost use Rattle.explaining.specs.Below.{first_of, line, ready, Start, Entry, HasHistory};
 ghost use Rattle.explaining.specs.Naming.{naming_by};
 
 use deciding::decide::ready;

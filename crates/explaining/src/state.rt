@@ -1,11 +1,7 @@
 //! The state before an entry: the entries before it, folded.
 
-ghost use Rattle.std.specs.Prelude.{◌≡◌, ◌≤◌, [], IfOk, IfSome, IsOkUnless, IsSomeAnd, OnOk, is_some, length, reverse};
-ghost use Rattle.history.specs.declared.limits.TheConstants.{MOST_FOLDED};
-ghost use Rattle.history.specs.Base.{folded};
-ghost use Rattle.history.specs.GoodBase.{IsGood};
-ghost use Rattle.history.specs.Header.{IsInRange};
-ghost use Rattle.history.specs.Point.{CanFold};
+ghost use Rattle.std.specs.Prelude.{◌≡◌, ◌≤◌, ◌++◌, [], List, IfOk, IfSome, IsOkUnless, OnOk, is_some, length, reverse};
+ghost use Rattle.explaining.specs.Below.{MOST_FOLDED, folded, Entry, IsInRange, CanFold};
 ghost use Rattle.explaining.specs.State.{few_permits, fits_fold, is_modest_of};
 
 use history::base::{Base, SeatBase};
@@ -61,16 +57,18 @@ fn fill(history: &mut History, entries: &[Entry]) -> Result<(), Fault>
     Ok(())
 }
 
-/// Returns the state after these entries, the oldest first, on a base: a history with the fold of all of
-/// them as its base. Returns `None` if they can't be folded: the base's permits are more than its entries
-/// can have moved, or more than `MOST_FOLDED` entries would be folded.
-pub fn state_before(base: Base, entries: &[Entry]) -> Result<Option<History>, Fault>
+/// Returns the state after these entries, the oldest first, on a base: the fold of all of them. Returns `None` if
+/// they can't be folded: the base's permits are more than its entries can have moved, or more than `MOST_FOLDED`
+/// entries would be folded.
+pub fn state_before(base: Base, entries: &[Entry]) -> Result<Option<Base>, Fault>
     requires range { IsInRange base.header }
     requires can { CanFold base (reverse entries.now) }
     requires few { length entries.now ≤ base.header.cap }
-    ensures state { IfOk result (λ state. IfSome state (λ after.
-        IsSomeAnd after.base (λ b. b ≡ folded base (reverse entries.now)))) }
-    ensures good { IfOk result (λ state. IfSome state (λ after. IsSomeAnd after.base IsGood)) }
+    ensures state { IfOk result (λ state. IfSome state (λ after. after ≡ folded base (reverse entries.now))) }
+
+    // What can follow them can follow the state.
+    ensures goes_on { IfOk result (λ state. IfSome state (λ after. (h : List Entry) →
+        CanFold base (h ++ reverse entries.now) → CanFold after h)) }
     ensures some { IfOk result (λ state. is_some state ≡ fits_fold base (length entries.now)) }
     ensures memory { IsOkUnless result Fault.OutOfMemory }
 {
@@ -80,7 +78,7 @@ pub fn state_before(base: Base, entries: &[Entry]) -> Result<Option<History>, Fa
     let mut history = History::open_on(base.header.cap, base);
     fill(&mut history, entries)?;
     match history.fold() {
-        Ok(_) => Ok(Some(history)),
+        Ok(_) => Ok(Some(history.take_base())),
         Err(_) => unreachable!(),
     }
 }

@@ -1,9 +1,7 @@
 //! What each step of a seat makes.
 
 ghost use Rattle.std.specs.Prelude.{◌≡◌, ◌++◌, List, IfOk, OnOk};
-ghost use Rattle.history.specs.Start.{Start};
-ghost use Rattle.history.specs.declared.entry.Entry.{Entry};
-ghost use Rattle.deciding.specs.ObjectState.{HasSeat};
+ghost use Rattle.explaining.specs.Below.{Start, Entry, HasSeat};
 ghost use Rattle.explaining.specs.Ways.{is_it, same_entry, way_of, ways_of};
 
 use crate::steps::steps_of;

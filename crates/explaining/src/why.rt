@@ -1,11 +1,7 @@
 //! Why a step makes what it makes.
 
 ghost use Rattle.std.specs.Prelude.{◌≡◌, List};
-ghost use Rattle.history.specs.Counts.{counts};
-ghost use Rattle.history.specs.Line.{first_mode, first_of, line, place_of};
-ghost use Rattle.history.specs.Start.{Start};
-ghost use Rattle.history.specs.declared.entry.Entry.{Entry};
-ghost use Rattle.deciding.specs.ObjectState.{HasSeat};
+ghost use Rattle.explaining.specs.Below.{counts, first_mode, first_of, line, place_of, Start, Entry, HasSeat};
 ghost use Rattle.explaining.specs.Why.{blocks, failed_why, made_why, took_why, waits_why, why_of};
 
 use deciding::checks::is_lock;

@@ -25,7 +25,7 @@ use crate::columns::gauges::put_gauges;
 use crate::columns::looks::{LEGEND, STYLE};
 use crate::columns::spans::Spans;
 use crate::columns::waits::{longest_of, put_waits};
-use crate::grid::{Grid, amounts_of, left_of, put_rows, put_tick, put_wrong};
+use crate::grid::{Grid, amounts_of, left_of, put_rows, put_tick};
 use crate::head::{put_opening, put_rest};
 use crate::naming::Names;
 use crate::picture::Picture;
@@ -35,12 +35,11 @@ use crate::sheet::Sheet;
 use history::entry::Entry;
 use std::alloc::{AllocError, Global};
 
-/// Returns the SVG document of a summary. `picture` has the bars, marks and amounts of all entries that are
-/// summed up, from the first one on, and `entries` are those after the base. The first illegal entry is told
-/// in words if it is among them.
+/// Returns the SVG document of a summary of a legal history. `picture` has the bars, marks and amounts of all
+/// entries, and `entries` are those after the base.
 ///
-/// A seat has a row if it has a bar, or made one of the entries, or the first illegal one after them.
-/// Seats and conditions are told by their numbers, with the names that they were given.
+/// A seat has a row if it has a bar, or made one of the entries. Seats and conditions are told by their
+/// numbers, with the names that they were given.
 pub fn overview_text(
     alloc: Global,
     names: &Names,
@@ -69,7 +68,6 @@ pub fn overview_text(
     put_gauges(alloc, &mut out, sheet, grid, spans)?;
     put_amounts(&mut out, sheet, grid, spans)?;
     put_all_cells(alloc, &mut out, sheet, grid, spans)?;
-    put_wrong(&mut out, sheet, grid, spans.column_of(picture.to), 20)?;
     put_waits(&mut out, sheet, grid, &waits)?;
     out.extend_from_slice(b"</svg>\n")?;
     Ok(out)

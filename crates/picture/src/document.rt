@@ -4,13 +4,14 @@ ghost use Rattle.history.specs.Header.{IsInRange};
 
 use crate::bars::put_bars;
 use crate::curve::put_curve;
+use crate::escaping::put_escaped;
 use crate::grid::{Grid, amounts_of, left_of, put_rows, put_tick, put_wrong};
 use crate::head::{put_opening, put_rest};
 use crate::looks::{LEGEND, STYLE};
 use crate::marks::put_marks;
 use crate::naming::Names;
 use crate::picture::Picture;
-use crate::pieces::put;
+use crate::pieces::{put, put_word};
 use crate::rows::ranks_of;
 use crate::sheet::Sheet;
 use history::entry::Entry;
@@ -18,7 +19,7 @@ use std::alloc::{AllocError, Global};
 
 /// Returns the SVG document of a picture. `entries` are those after the base, from the first one on. Tooltips
 /// say in words which entry a bar or a mark shows. The first illegal entry is told in words if it is among
-/// them.
+/// them, and explained below the rows.
 ///
 /// A seat has a row if it has a bar, or made one of the entries that are drawn, or the first illegal one
 /// after them. Seats and conditions are told by their numbers, with the names that they were given.
@@ -39,8 +40,11 @@ pub fn svg_text(
     };
     let grid = grid_of(sheet);
     let mut out = Vec::new(alloc);
-    let height = grid.bottom().saturating_add(24);
-    put_opening(&mut out, picture.header, grid.width(760), height, STYLE)?;
+    let bottom = grid.bottom().saturating_add(24);
+    let lines = picture.why.iter().filter(|byte| **byte == b'\n').count() as u64;
+    let width = grid.width(if lines == 0 { 760 } else { 1048 });
+    let height = bottom.saturating_add(lines.saturating_mul(16));
+    put_opening(&mut out, picture.header, width, height, STYLE)?;
     put_shown(&mut out, sheet, grid)?;
     put_rest(&mut out, sheet, LEGEND)?;
     put_rows(&mut out, sheet, grid, 20)?;
@@ -48,9 +52,29 @@ pub fn svg_text(
     put_curve(&mut out, sheet, grid)?;
     put_bars(&mut out, sheet, grid)?;
     put_marks(&mut out, sheet, grid)?;
-    put_wrong(&mut out, sheet, grid, picture.to, 34)?;
+    put_wrong(&mut out, sheet, grid)?;
+    put_why(alloc, &mut out, picture, bottom)?;
     out.extend_from_slice(b"</svg>\n")?;
     Ok(out)
+}
+
+/// Appends the lines that explain the illegal entry, from an upper edge down.
+fn put_why(
+    alloc: Global,
+    out: &mut Vec<u8>,
+    picture: &Picture,
+    upper: u64,
+) -> Result<(), AllocError> {
+    let mut why = Vec::new(alloc);
+    put_escaped(&mut why, &picture.why)?;
+    let mut y = upper.saturating_sub(4);
+    for line in why.split(|byte| *byte == b'\n') {
+        y = y.saturating_add(16);
+        if !line.is_empty() {
+            put_word(out, y, line)?;
+        }
+    }
+    Ok(())
 }
 
 /// Returns the grid, with a place for each entry. If there are few, they are wide. The rows begin below the

@@ -26,7 +26,7 @@ fn put_byte(out: &mut Vec<u8>, byte: u8) -> Result<(), AllocError>
 }
 
 /// Appends a name, escaped.
-fn put_escaped(out: &mut Vec<u8>, name: &[u8]) -> Result<(), AllocError>
+pub(crate) fn put_escaped(out: &mut Vec<u8>, name: &[u8]) -> Result<(), AllocError>
     ensures { OnOk result (out.new.items ≡ out.old.items ++ escaped name.now) }
 {
     for byte in name {

@@ -126,19 +126,14 @@ pub(crate) fn put_tick(
 }
 
 /// Appends the place of the illegal entry, if it follows those that are drawn: an exclamation mark in the row
-/// of its seat, so far below the upper edge, and a field through all rows.
-pub(crate) fn put_wrong(
-    out: &mut Vec<u8>,
-    sheet: Sheet<'_>,
-    grid: Grid,
-    place: u64,
-    lower: u64,
-) -> Result<(), AllocError> {
-    if !sheet.ends_wrong() {
+/// of its seat, and a field through all rows.
+pub(crate) fn put_wrong(out: &mut Vec<u8>, sheet: Sheet<'_>, grid: Grid) -> Result<(), AllocError> {
+    let place = sheet.picture.to;
+    if !sheet.picture.ends_wrong() {
         return Ok(());
     }
-    if let Some(entry) = sheet.entry_at(sheet.picture.to) {
-        put_mark_place(out, grid, place, sheet.row_of(entry.seat as usize), lower)?;
+    if let Some(entry) = sheet.entry_at(place) {
+        put_mark_place(out, grid, place, sheet.row_of(entry.seat as usize))?;
         out.extend_from_slice(b"m0 -5v5m0 2v2'/>\n")?;
     }
     let area = Rect {
@@ -148,21 +143,20 @@ pub(crate) fn put_wrong(
         height: grid.rows.saturating_mul(40),
     };
     put_rect(out, b"<rect class='e' x='", area)?;
-    put_wrong_title(out, sheet, sheet.picture.to)
+    put_wrong_title(out, sheet, place)
 }
 
-/// Appends the beginning of a mark in the middle of a place, so far below the upper edge of a row.
+/// Appends the beginning of a mark in the middle of a place, below the bars of a row.
 pub(crate) fn put_mark_place(
     out: &mut Vec<u8>,
     grid: Grid,
     place: u64,
     row: u64,
-    lower: u64,
 ) -> Result<(), AllocError> {
     put(
         out,
         b"<path class='m' d='M",
         grid.x(place).saturating_add(grid.step / 2),
     )?;
-    put(out, b" ", grid.y(row).saturating_add(lower))
+    put(out, b" ", grid.y(row).saturating_add(34))
 }

@@ -10,9 +10,9 @@
 //! at the greatest number; no history comes near it.
 //!
 //! A user's only texts in a picture are the names that were given to seats and conditions ([`naming`]). They
-//! stand between tags, and are escaped: `escaping` alone writes them. All other words are this crate's, the
-//! header's own spelling or a history text's, and all else is digits. None of these has a `<`, a `&` or a
-//! quote.
+//! stand between tags, and are escaped: `escaping` alone writes them. All other words are this crate's, those of
+//! `explaining`, the header's own spelling or a history text's, and all else is digits. None of these has a `<`,
+//! a `&` or a quote.
 #![tactic(auto)]
 
 mod bars;

@@ -11,7 +11,7 @@ pub(crate) fn put_marks(out: &mut Vec<u8>, sheet: Sheet<'_>, grid: Grid) -> Resu
     let marks: &[Mark] = &sheet.picture.drawn.marks;
     for mark in marks {
         let row = sheet.row_of(mark.seat as usize);
-        put_mark_place(out, grid, mark.number, row, 34)?;
+        put_mark_place(out, grid, mark.number, row)?;
         out.extend_from_slice(shape_of(mark.sign))?;
         put_mark_title(out, sheet, *mark)?;
     }

@@ -19,6 +19,20 @@ pub struct Picture {
     pub is_cut: bool,
     /// The first illegal entry, by the number that is shown.
     pub wrong: Option<u64>,
+    /// The lines that explain it, if it was kept.
+    pub why: Vec<u8>,
     /// The bars, marks and curve of the entries that are drawn.
     pub drawn: Drawn,
+}
+
+impl Picture {
+    /// Returns whether the first illegal entry follows those that are drawn.
+    pub(crate) fn ends_wrong(&self) -> bool {
+        match self.wrong {
+            Some(number) => {
+                number == self.folded.saturating_add(self.to) && self.from <= self.to
+            }
+            None => false,
+        }
+    }
 }

@@ -35,21 +35,12 @@ fn seats_with_row(
     for bar in bars {
         note(&mut table, bar.seat);
     }
-    let end = placed_end(picture);
+    // The illegal entry has a place, if it is the next.
+    let end = picture.to.saturating_add(u64::from(picture.ends_wrong()));
     for entry in between(entries, picture.from, end) {
         note(&mut table, entry.seat);
     }
     Ok(table)
-}
-
-/// Returns where the entries end that have a place in the picture: those before `to`, and the illegal one if
-/// it is the next.
-fn placed_end(picture: &Picture) -> u64 {
-    let to = picture.to;
-    match picture.wrong {
-        Some(number) if number == picture.folded.saturating_add(to) => to.saturating_add(1),
-        _ => to,
-    }
 }
 
 /// Notes a seat, if the table has it.

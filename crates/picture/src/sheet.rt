@@ -44,14 +44,4 @@ impl Sheet<'_> {
     pub(crate) fn entry_at(self, index: u64) -> Option<Entry> {
         self.entries.get(index as usize).copied()
     }
-
-    /// Returns whether the first illegal entry follows those that are drawn.
-    pub(crate) fn ends_wrong(self) -> bool {
-        match self.picture.wrong {
-            Some(number) => {
-                number == self.number_of(self.picture.to) && self.picture.from <= self.picture.to
-            }
-            None => false,
-        }
-    }
 }

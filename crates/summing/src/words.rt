@@ -21,77 +21,53 @@ pub(crate) fn ends_call(word: Word) -> bool
 pub fn is_take(word: Word) -> bool
     ensures { result ≡ is_take word }
 {
-    match word {
-        Word::Got | Word::TryGot => true,
-        _ => false,
-    }
+    matches!(word, Word::Got | Word::TryGot)
 }
 
 /// Returns whether an acquire began to wait in the queue.
 pub fn is_queued(word: Word) -> bool
     ensures { result ≡ is_queued word }
 {
-    match word {
-        Word::Queued => true,
-        _ => false,
-    }
+    matches!(word, Word::Queued)
 }
 
 /// Returns whether the object was handed over to an acquire that waited.
 pub(crate) fn is_grant(word: Word) -> bool
     ensures { result ≡ is_grant word }
 {
-    match word {
-        Word::Granted => true,
-        _ => false,
-    }
+    matches!(word, Word::Granted)
 }
 
 /// Returns whether a wait on a condition began.
 pub(crate) fn is_await(word: Word) -> bool
     ensures { result ≡ is_await word }
 {
-    match word {
-        Word::Await => true,
-        _ => false,
-    }
+    matches!(word, Word::Await)
 }
 
 /// Returns whether one waiter of a condition was signalled, or all.
 pub fn is_signal(word: Word) -> bool
     ensures { result ≡ is_signal word }
 {
-    match word {
-        Word::Signal | Word::SignalAll => true,
-        _ => false,
-    }
+    matches!(word, Word::Signal | Word::SignalAll)
 }
 
 fn is_timeout(end: End) -> bool
     ensures { result ≡ is_timeout end }
 {
-    match end {
-        End::Timeout => true,
-        _ => false,
-    }
+    matches!(end, End::Timeout)
 }
 
 fn is_interrupt(end: End) -> bool
     ensures { result ≡ is_interrupt end }
 {
-    match end {
-        End::Interrupt => true,
-        _ => false,
-    }
+    matches!(end, End::Interrupt)
 }
 
 fn is_interrupted(fault: Fault) -> bool
     ensures { result ≡ is_interrupted fault }
 {
-    match fault {
-        Fault::Interrupted => true,
-        _ => false,
-    }
+    matches!(fault, Fault::Interrupted)
 }
 
 fn is_refused_by_interrupt(word: Word) -> bool

@@ -26,6 +26,8 @@ pub(crate) struct Data {
     to: u64,
     cut: bool,
     wrong: Option<String>,
+    #[serde(skip_serializing_if = "Option::is_none")]
+    why: Option<String>,
     stretches: Vec<Value>,
     marks: Vec<Value>,
     amounts: Vec<Value>,
@@ -36,13 +38,13 @@ pub(crate) struct Data {
 }
 
 impl Data {
-    /// Returns the data of a picture, of the entries that it shows, and of the state before them.
+    /// Returns the data of a picture, of the entries that it shows, and of who waits before them.
     pub(crate) fn of(
         alloc: Global,
         names: &Names,
         picture: &Picture,
         entries: &[Entry],
-        start: Option<&Base>,
+        start: Value,
     ) -> Result<Self, AllocError>
         requires { IsInRange picture.now.header }
     {
@@ -61,14 +63,15 @@ impl Data {
                 Some(number) => Some(format!(in alloc; "{number}")?),
                 None => None,
             },
+            why: match picture.why.is_empty() {
+                true => None,
+                false => Some(text_of(alloc, &picture.why)?),
+            },
             stretches: stretches_of(alloc, &picture.drawn.bars)?,
             marks: marks_of(alloc, &picture.drawn.marks)?,
             amounts: amounts_of(alloc, &picture.drawn.curve)?,
             entries_shown: shown_of(alloc, entries)?,
-            start: match start {
-                Some(state) => start_of(alloc, state)?,
-                None => Value::Null,
-            },
+            start,
             names: names_of(alloc, names, picture.header)?,
         })
     }
@@ -149,7 +152,7 @@ fn shown_of(alloc: Global, entries: &[Entry]) -> Result<Vec<Value>, AllocError> 
 }
 
 /// Returns who waits in a state: in the queue, and on each condition.
-fn start_of(alloc: Global, state: &Base) -> Result<Value, AllocError> {
+pub fn start_of(alloc: Global, state: &Base) -> Result<Value, AllocError> {
     let mut line = Vec::new(alloc);
     line.push(Value::try_from_str(alloc, "seat")?)?;
     let places: &[LinePlace] = &state.line;

@@ -8,7 +8,7 @@
 //! is escaped: nothing in it can end its element. Without names the page has no part for them.
 #![tactic(auto)]
 
-mod data;
+pub mod data;
 pub mod document;
 mod escape;
 pub mod texts;

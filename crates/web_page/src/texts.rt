@@ -9,7 +9,7 @@ pub const OPENING: &[u8] = b"\
     <html lang='en'>\n\
     <head>\n\
     <meta charset='utf-8'>\n\
-    <meta http-equiv='Content-Security-Policy' content=\"default-src 'none'; script-src 'sha256-VEyC+90mXX2A1G7KRylM5YzNRYSE8jEE96iEG0x5muM='; style-src 'sha256-lAR4oZJmbvFLPLO4vxmxk2ouwdbq35Xk4u3a3RLGdSo='; base-uri 'none'; form-action 'none'\">\n\
+    <meta http-equiv='Content-Security-Policy' content=\"default-src 'none'; script-src 'sha256-WCfACWSWss5+xQRvqUCnUuZJ5dFKmglyyH1gTUtYf8w='; style-src 'sha256-VFslN9JuzyAqpoq/6Eca6zLEq8H0p9mvh4kSYBNZSaU='; base-uri 'none'; form-action 'none'\">\n\
     <meta name='viewport' content='width=device-width'>\n\
     <title>aqs draw</title>\n\
     <style>\n\
@@ -23,6 +23,7 @@ pub const OPENING: &[u8] = b"\
     #at{flex:1 1 20em}\n\
     #panel{border:1px solid var(--line);padding:.2em 1em;min-height:8em}\n\
     #entry{font-weight:bold}\n\
+    pre{white-space:pre-wrap}\n\
     #wrong{color:var(--bad);font-weight:bold}\n\
     svg{display:block;width:100%;height:auto}\n\
     svg text{font-size:11px;fill:var(--ink)}\n\
@@ -44,6 +45,7 @@ pub const OPENING: &[u8] = b"\
     <body>\n\
     <h1 id='title'>aqs draw</h1>\n\
     <p><span id='part'></span> <span id='wrong'></span></p>\n\
+    <pre id='why'></pre>\n\
     <noscript><p>This page steps through a history by a script of its own. Without scripts, aqs draw without --page writes a picture.</p></noscript>\n\
     <div class='tools' role='group' aria-label='Steps'>\n\
     <button id='first' type='button' aria-keyshortcuts='Home'>First</button>\n\
@@ -203,7 +205,8 @@ pub const CLOSING: &[u8] = b"\n\
         return entry.seat === bar.seat && entry.word === 'queued' ? entry.words.split(' ')[1] : '';\n\
       }\n\
     \n\
-      let [at, width, begin] = [from, 4, from];\n\
+      // A page of an illegal history opens before its first illegal entry.\n\
+      let [at, width, begin] = [data.why ? to - 1 : from, 4, from];\n\
     \n\
       function element(parent, name, attributes, text) {\n\
         const it = document.createElementNS('http://www.w3.org/2000/svg', name);\n\
@@ -350,6 +353,7 @@ pub const CLOSING: &[u8] = b"\n\
         : data.cut ? 'the first ' + shown + ' entries of ' + data.entries + '; --from and --to choose others'\n\
           : 'entries ' + numberOf(from) + ' to ' + numberOf(to - 1) + ' of ' + data.entries;\n\
       if (data.wrong !== null) byId('wrong').textContent = 'not legal at entry ' + data.wrong;\n\
+      byId('why').textContent = data.why || '';\n\
       if (shown === 0) {\n\
         byId('entry').textContent = 'No entry is shown.';\n\
         return;\n\

@@ -1,7 +1,7 @@
 -- Judging the entries of a history text as they are read.
 use Rattle.std.specs.Prelude.{◌≡◌, ◌↔◌, ℕ, ◌+◌, ◌<◌, ◌≤◌, ◌^◌, nat_lt, if◌then◌else◌, Bool, List, [], ◌∷◌, ◌++◌, length, reverse, take, Option, IfSome, IsTrue, is_some}
 use Rattle.std.specs.List.{All}
-use Rattle.driver.specs.Below.{HasJudged, IsJudgement, Entry, based, calls, IsGood, IsInRange, IsLegal, Start, IsHistoryText}
+use Rattle.driver.specs.Below.{HasJudged, IsJudgement, Base, CanFold, Entry, based, calls, IsGood, IsInRange, IsLegal, Start, IsHistoryText}
 use Rattle.driver.specs.declared.judged.Following.{Following}
 use Rattle.driver.specs.declared.judged.Judged.{Judged}
 use Rattle.driver.specs.declared.telling.Telling.{Telling}
@@ -81,6 +81,13 @@ pub record IsSound (j : Judged) : Type 0 where
   pub telling : Telling
   pub history : List Entry
   pub judged : IsJudged telling history j
+
+-- the entry after these on a base, if there is one, can be explained
+pub record CanExplain (b : Base) (before : List Entry) (next : Option Entry) : Type 0 where
+  pub range : IsInRange b.header
+  pub can : CanFold b (reverse before)
+  pub few : length before ≤ b.header.cap
+  pub seat : IfSome next (λ e. e.seat < b.header.seats)
 
 -- the text is a history text whose entries were judged
 pub record IsJudgedOf (telling : Telling) (left : Option (List ℕ)) (j : Judged) : Type 0 where

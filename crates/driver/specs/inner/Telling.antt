@@ -1,8 +1,8 @@
 -- What is kept of a history, and what is told of it, by the verdict.
-use Rattle.std.specs.Prelude.{◌≡◌, ℕ, ◌+◌, ◌-◌, ◌^◌, Bool, true, false, min, nat_lt, List, Option, Some, None, take, IfSome}
+use Rattle.std.specs.Prelude.{◌≡◌, ℕ, ◌+◌, ◌-◌, ◌^◌, Bool, true, false, min, List, Option, Some, None, take, IfSome}
 use Rattle.driver.specs.Below.{Verdict, Legal, NotLegal, Entry}
 use Rattle.driver.specs.Telling.{IsToldOf}
-use Rattle.driver.specs.inner.Choice.{end_chosen, kept_of}
+use Rattle.driver.specs.inner.Choice.{kept_of}
 use Rattle.driver.specs.declared.tell_stream.Told.{Told}
 use Rattle.driver.specs.declared.telling.Telling.{Telling}
 use Rattle.driver.specs.declared.telling.Telling.TheVariants.{Audit, Draw, Page, Explain, Summary}
@@ -22,26 +22,16 @@ abbrev pub kept_for : Option ℕ → ℕ → ℕ
 kept_for None folded = 2 ^ 64 - 1
 kept_for (Some number) folded = min ((number - folded) + 1) (2 ^ 64 - 1)
 
--- how many entries precede the first illegal one
-abbrev pub legal_count : Verdict → ℕ → ℕ
-legal_count Legal count = count
-legal_count (NotLegal number) count = number
-
 -- how many entries precede the one that is explained, of those before the first illegal one
 abbrev pub place_before : Option ℕ → ℕ → ℕ → ℕ
 place_before None folded front = front
 place_before (Some number) folded front = min (number - folded) front
 
--- whether the entry at a place is legal, if those before it are
-abbrev pub is_legal_at : Verdict → ℕ → Bool
-is_legal_at Legal place = true
-is_legal_at (NotLegal number) place = nat_lt place number
-
 -- how many entries are kept to tell of a history
 abbrev pub kept_to_tell : Telling → ℕ → ℕ
 kept_to_tell (Audit notation) folded = 0
 kept_to_tell (Draw choice) folded = kept_of choice folded
-kept_to_tell (Page choice) folded = end_chosen choice folded
+kept_to_tell (Page choice) folded = kept_of choice folded
 kept_to_tell (Explain at notation) folded = kept_for at folded
 kept_to_tell (Summary notation) folded = 0
 
