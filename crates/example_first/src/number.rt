@@ -1,5 +1,5 @@
 //! A number, and a book of all that was added to it.
-ghost use Rattle.std.specs.Prelude.{◌≡◌, ◌+◌, ◌<◌};
+ghost use Rattle.std.specs.Prelude.{◌≡◌, ◌+◌, ◌<◌, ◌≤◌};
 ghost use Rattle.example_first.specs.Sums.{capped};
 
 use locks::Keeps;
@@ -44,14 +44,17 @@ impl<L: Ledger> Number<L> {
         self.value = added(self.value, more);
     }
 
-    /// Returns the number. The whole share says what it must be.
-    pub fn read(&mut self, all: &mut Share<L>) -> u64
-        requires whole { all.old.parts ≡ L.parts }
+    /// Returns the number. It is at least what this share has. The whole share says what it must be.
+    pub fn read(&mut self, mine: &mut Share<L>) -> u64
         requires is_sum { self.old.value ≡ capped self.old.book.total }
-        ensures read { result ≡ capped all.old.amount }
-        ensures same { (self.new.value ≡ self.old.value) × (self.new.book.total ≡ self.old.book.total) }
+        ensures least { capped mine.old.amount ≤ result }
+        ensures whole { mine.old.parts ≡ L.parts → result ≡ capped mine.old.amount }
+        ensures value { self.new.value ≡ self.old.value }
+        ensures total { self.new.book.total ≡ self.old.book.total }
+        ensures amount { mine.new.amount ≡ mine.old.amount }
+        ensures parts { mine.new.parts ≡ mine.old.parts }
     {
-        self.book.audit(all);
+        self.book.audit(mine);
         self.value
     }
 }

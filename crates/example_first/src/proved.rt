@@ -1,5 +1,5 @@
 //! The same sum, and a proof that it is 42: each thread has a share of what was added.
-ghost use Rattle.std.specs.Prelude.{◌≡◌, ◌+◌, IfOk, OnOk};
+ghost use Rattle.std.specs.Prelude.{◌≡◌, ◌+◌, ◌≤◌, IfOk, OnOk};
 ghost use Rattle.locks.specs.Calling.{CanLock};
 ghost use Rattle.example_first.specs.Sums.{capped};
 
@@ -33,6 +33,44 @@ fn add<L: Ledger, R: Wait + Clock>(
     Ok(())
 }
 
+/// Reads the number, which only grows: it is at least what this thread has added, whatever the others did since.
+fn look<L: Ledger, R: Wait + Clock>(
+    rt: &R,
+    parking: &ThreadParking,
+    number: &Mutex<Number<L>, IsSum>,
+    pass: &mut Pass,
+    share: &mut Share<L>,
+) -> Result<u64, Fault>
+    requires can { CanLock number.now parking.now pass.old }
+    ensures can { CanLock number.now parking.now pass.new }
+    ensures least { IfOk result (λ n. capped share.old.amount ≤ n) }
+    ensures whole { IfOk result (λ n. share.old.parts ≡ L.parts → n ≡ capped share.old.amount) }
+    ensures share { (share.new.parts ≡ share.old.parts) × (share.new.amount ≡ share.old.amount) }
+{
+    let mut guard = Mutex::lock(pass, number, rt, parking)?;
+    Ok(guard.value_mut().read(share))
+}
+
+/// Adds, lets the number go, and looks at it later.
+fn add_and_look<L: Ledger, R: Wait + Clock>(
+    rt: &R,
+    parking: &ThreadParking,
+    number: &Mutex<Number<L>, IsSum>,
+    pass: &mut Pass,
+    share: &mut Share<L>,
+    more: u64,
+) -> Result<u64, Fault>
+    requires can { CanLock number.now parking.now pass.old }
+    requires part { share.old.parts ≡ 1 }
+    ensures can { CanLock number.now parking.now pass.new }
+    ensures added { OnOk result (share.new.amount ≡ share.old.amount + more) }
+    ensures least { IfOk result (λ n. capped (share.old.amount + more) ≤ n) }
+    ensures part { share.new.parts ≡ 1 }
+{
+    add(rt, parking, number, pass, share, more)?;
+    look(rt, parking, number, pass, share)
+}
+
 /// Two threads add, and the sum is read.
 fn both<L: Ledger + Send + Sync, R: Threads + Wait + Clock + Sync>(
     rt: &R,
@@ -55,14 +93,13 @@ fn both<L: Ledger + Send + Sync, R: Threads + Wait + Clock + Sync>(
     let (mut one, mut two) = two_passes(passes);
     let (x, y) = thread::join_mut(
         rt,
-        &mut || add(rt, &parking, &number, &mut one, &mut first, a),
-        &mut || add(rt, &parking, &number, &mut two, &mut second, b),
+        &mut || add_and_look(rt, &parking, &number, &mut one, &mut first, a),
+        &mut || add_and_look(rt, &parking, &number, &mut two, &mut second, b),
     );
     x?;
     y?;
     first.merge(second);
-    let mut guard = Mutex::lock(&mut one, &number, rt, &parking)?;
-    Ok(guard.value_mut().read(&mut first))
+    look(rt, &parking, &number, &mut one, &mut first)
 }
 
 /// Two threads add 40 and 2.

@@ -1,4 +1,5 @@
 pub mod Client
 pub mod Opened
 pub mod Parts
+pub mod Places
 pub mod Worker

@@ -3,9 +3,10 @@
 //! Locks that guard a value:
 //!
 //! - `buffer`: a queue with two places, which a lock guards. One thread puts, another takes.
-//! - `read_mostly_table`: a table that a read-write lock guards, and writers that downgrade to readers.
 //! - `two_readers`: two threads read at the same time, and print while both hold.
 //! - `bank`: two accounts, between which two threads pay. The lock keeps the invariant that their sum is 1000.
+//! - `fifo`: a queue. What one thread takes as number k is what a thread put at place k.
+//! - `receipts`: a journal. Two threads write, and find their entries again as readers.
 //! - `connection_pool`: clients that share connections of a pool.
 //!
 //! Locks, latches and monitors that guard none:
@@ -31,10 +32,12 @@ mod bounded_buffer;
 mod buffer;
 mod connection_pool;
 mod endless_lock;
+mod fifo;
 mod first_lock;
 mod history_in_parts;
+mod journal;
 mod latch_workers;
-mod read_mostly_table;
+mod receipts;
 mod small_calls;
 mod two_readers;
 mod working;
@@ -74,9 +77,10 @@ fn run_all<R: Print + Eprint + AllocGlobal + Threads + Wait + Clock + Sync>(
     words: &[String],
 ) -> io::Result<()> {
     buffer::run(rt)?;
-    read_mostly_table::run(rt)?;
     two_readers::run(rt)?;
     bank::run(rt)?;
+    fifo::run(rt)?;
+    receipts::run(rt)?;
     first_lock::run(rt)?;
     bounded_buffer::run(rt)?;
     endless_lock::run(rt, words)?;
@@ -94,9 +98,10 @@ fn run<R: Print + Eprint + AllocGlobal + Threads + Wait + Clock + Sync>(
     match words.first().map(|word| word.as_str()) {
         None => run_all(rt, words),
         Some("buffer") => buffer::run(rt),
-        Some("read_mostly_table") => read_mostly_table::run(rt),
         Some("two_readers") => two_readers::run(rt),
         Some("bank") => bank::run(rt),
+        Some("fifo") => fifo::run(rt),
+        Some("receipts") => receipts::run(rt),
         Some("first_lock") => first_lock::run(rt),
         Some("bounded_buffer") => bounded_buffer::run(rt),
         Some("endless_lock") => endless_lock::run(rt, words),
