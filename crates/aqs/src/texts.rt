@@ -183,7 +183,7 @@ pub const DRAW: &[u8] = b"\
     \n\
     Reads a history text and draws it as an SVG document: a row for each thread that did something,\n\
     the entries from left to right, with bars while a thread holds or waits. A history that is not\n\
-    legal is drawn up to its first entry that is not, and the status is 1.\n\
+    legal is drawn up to its first entry that is not, which is explained. The status is then 1.\n\
     \n\
     \x20 --page        writes a page of HTML in place of the picture. It needs no network. It steps from\n\
     \x20               entry to entry, says who holds and who waits in which order, and finds entries\n\
@@ -195,7 +195,8 @@ pub const DRAW: &[u8] = b"\
     \n\
     With neither --from nor --to a history of more than 5,000 entries is summed up in columns, at\n\
     most 240, with its longest waits and the --from and --to that draw each. Of a shorter history, and\n\
-    on a page, the first 2,000 entries are drawn.\n\
+    on a page, the first 2,000 entries are drawn, or if it is not legal the first entry that is not\n\
+    and 40, on a page 2,000, before it.\n\
     \n\
     For example: aqs draw --from 100 --to 200 -o my.svg my.history\n\
     or:          aqs draw --page --to 9999 -o my.html my.history\n";

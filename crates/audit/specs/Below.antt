@@ -1,5 +1,6 @@
 -- What audit cites of the crates below, passed on from one place: names of condition_queue, deciding and
 -- history. Declares nothing.
+pub use Rattle.acquire_queue.specs.Line.{Line}
 pub use Rattle.condition_queue.specs.Following.{JoinedBy, Keeps, IsMovable}
 pub use Rattle.condition_queue.specs.Sleepers.{Sleepers, asleep_on, sleeper_of}
 pub use Rattle.deciding.specs.declared.balance.Balance.{Balance}
@@ -7,8 +8,9 @@ pub use Rattle.deciding.specs.declared.sleep.LastSleep.{LastSleep}
 pub use Rattle.deciding.specs.Amounts.{AreAmounts}
 pub use Rattle.deciding.specs.Balance.{balance}
 pub use Rattle.deciding.specs.Checks.{refused_as}
+pub use Rattle.deciding.specs.Claim.{IsClaim}
 pub use Rattle.deciding.specs.Holds.{most_held}
-pub use Rattle.deciding.specs.ObjectState.{IsHistory}
+pub use Rattle.deciding.specs.ObjectState.{IsHistory, HasSeat}
 pub use Rattle.deciding.specs.Sleep.{sleep_of}
 pub use Rattle.history.specs.declared.arrival.Arrival.{Arrival}
 pub use Rattle.history.specs.declared.base.LinePlace.{LinePlace}
@@ -28,9 +30,9 @@ pub use Rattle.history.specs.declared.header.Policy.{Policy}
 pub use Rattle.history.specs.declared.limits.TheConstants.{MOST_AMOUNT, MOST_BASE_PERMITS}
 pub use Rattle.history.specs.declared.step.Step.{Step}
 pub use Rattle.history.specs.declared.step.Step.TheVariants.{Acquire, Try, TryFair, EntryInterrupt, Give, Look, Expire, Interrupt, Await, Signal, SignalAll, Drain}
-pub use Rattle.history.specs.Base.{Base, nothing, opening_base, seat_of, sleepers_of, sleep_in_line, sleep_on, either, sleep_below, or_awake, based}
+pub use Rattle.history.specs.Base.{Base, nothing, opening_base, seat_of, sleepers_of, sleep_in_line, sleep_on, either, sleep_below, or_awake, based, holds_of}
 pub use Rattle.history.specs.Conservation.{permits_held}
-pub use Rattle.history.specs.Could.{is_seat, could, limit, held_back, try_held_back}
+pub use Rattle.history.specs.Could.{is_seat, could, limit, held_back, try_held_back, is_none_or}
 pub use Rattle.history.specs.Counts.{holds_after, held, unheld, free, count, Counts, counts, seat_with, total, owner, readers}
 pub use Rattle.history.specs.Entries.{or_opening, start_on, IsBasedWell}
 pub use Rattle.history.specs.Entry.{same_mode}

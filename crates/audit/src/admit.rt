@@ -1,9 +1,7 @@
 //! Which entries may come next.
 
 ghost use Rattle.std.specs.Prelude.{◌≡◌, ◌↔◌, List, IsTrue, Ok, Some};
-ghost use Rattle.history.specs.Start.{Start};
-ghost use Rattle.history.specs.Steps.{entry_for};
-ghost use Rattle.history.specs.declared.entry.Entry.{Entry};
+ghost use Rattle.audit.specs.Below.{Start, entry_for, Entry};
 ghost use Rattle.audit.specs.Ledger.{HasSeat, IsNext, LedgerStand};
 
 use crate::candidates::possible_steps;

@@ -4,15 +4,8 @@
 //! no step decided and no entry made. All other entries take the general way, [`admits`](Ledger::admits).
 
 ghost use Rattle.std.specs.Prelude.{◌≡◌, List, IsTrue, None, Ok, Some};
-ghost use Rattle.deciding.specs.Checks.{refused_as};
-ghost use Rattle.history.specs.Counts.{counts};
-ghost use Rattle.history.specs.Line.{first_mode};
-ghost use Rattle.history.specs.Phase.{Idle, phase};
-ghost use Rattle.history.specs.Start.{Start};
-ghost use Rattle.history.specs.Steps.{acquired, entry_for, gave, plain};
-ghost use Rattle.history.specs.declared.entry.Entry.{Entry};
+ghost use Rattle.audit.specs.Below.{refused_as, counts, first_mode, Idle, phase, Start, acquired, entry_for, gave, plain, Entry, Look};
 ghost use Rattle.history.specs.declared.entry.Word.TheVariants as word;
-ghost use Rattle.history.specs.declared.step.Step.TheVariants.{Look};
 ghost use Rattle.audit.specs.Ledger.{HasSeat, IsNext, LedgerStand};
 
 use crate::ledger::Ledger;

@@ -1,12 +1,7 @@
 //! Judging the entries of a history one after another.
 
 ghost use Rattle.std.specs.Prelude.{◌≡◌, ◌<◌, ◌∷◌, ◌↔◌, [], List, IfOk, IsOkUnless, IsTrue};
-ghost use Rattle.history.specs.Base.{based};
-ghost use Rattle.history.specs.GoodBase.{IsGood};
-ghost use Rattle.history.specs.Header.{IsInRange};
-ghost use Rattle.history.specs.Legal.{IsLegal};
-ghost use Rattle.history.specs.Start.{Start, opening};
-ghost use Rattle.history.specs.declared.entry.Entry.{Entry};
+ghost use Rattle.audit.specs.Below.{based, IsGood, IsInRange, IsLegal, Start, opening, Entry};
 ghost use Rattle.audit.specs.Auditor.{CanFollow, HasJudged, IsAuditor};
 ghost use Rattle.audit.specs.Ledger.{LedgerStand};
 ghost use Rattle.audit.specs.Verdict.{IsJudgement};

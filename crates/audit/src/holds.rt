@@ -1,15 +1,7 @@
 //! The holds of each seat, the owner, and the number of readers.
 
 ghost use Rattle.std.specs.Prelude.{◌≡◌, ◌≢◌, ℕ, ◌+◌, ◌*◌, ◌<◌, ◌≤◌, ◌^◌, ◌∷◌, List, IfOk, get_or, length, map, slice_index, true, [], IsOkUnless};
-ghost use Rattle.history.specs.Base.{based, holds_of, nothing, seat_of};
-ghost use Rattle.history.specs.Counts.{seat_with, total};
-ghost use Rattle.history.specs.GoodBase.{IsGood};
-ghost use Rattle.history.specs.Header.{IsInRange};
-ghost use Rattle.history.specs.Object.{is_lock};
-ghost use Rattle.history.specs.Start.{Start, opening};
-ghost use Rattle.history.specs.declared.entry.Entry.{Entry};
-ghost use Rattle.history.specs.declared.entry.Mode.TheVariants.{X, S};
-ghost use Rattle.history.specs.declared.header.Header.{Header};
+ghost use Rattle.audit.specs.Below.{based, holds_of, nothing, seat_of, seat_with, total, IsGood, IsInRange, is_lock, Start, opening, Entry, X, S, Header};
 ghost use Rattle.audit.specs.Holds.{HoldsStand};
 ghost use Rattle.audit.specs.inner.Holds.{IsOnlyOwner, owner_after};
 

@@ -1,11 +1,7 @@
 //! The state after a part of a history, from which each question about the next entry is answered at once.
 
 ghost use Rattle.std.specs.Prelude.{◌≡◌, ◌<◌, ◌∷◌, [], List, IfOk, IsOkUnless};
-ghost use Rattle.history.specs.Base.{based};
-ghost use Rattle.history.specs.GoodBase.{IsGood};
-ghost use Rattle.history.specs.Header.{IsInRange};
-ghost use Rattle.history.specs.Start.{Start, opening};
-ghost use Rattle.history.specs.declared.entry.Entry.{Entry};
+ghost use Rattle.audit.specs.Below.{based, IsGood, IsInRange, Start, opening, Entry};
 ghost use Rattle.audit.specs.Ledger.{HasSeat, IsNext, LedgerStand};
 
 use crate::holds::Holds;

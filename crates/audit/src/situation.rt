@@ -1,13 +1,7 @@
 //! The ledger's answers to the questions of a decision.
 
 ghost use Rattle.std.specs.Prelude.{◌≡◌, List, true};
-ghost use Rattle.deciding.specs.Claim.{IsClaim};
-ghost use Rattle.deciding.specs.ObjectState.{HasSeat};
-ghost use Rattle.history.specs.Could.{is_none_or, is_seat};
-ghost use Rattle.history.specs.Counts.{counts, free};
-ghost use Rattle.history.specs.Object.{is_semaphore};
-ghost use Rattle.history.specs.Start.{Start};
-ghost use Rattle.history.specs.declared.entry.Entry.{Entry};
+ghost use Rattle.audit.specs.Below.{IsClaim, HasSeat, is_none_or, is_seat, counts, free, is_semaphore, Start, Entry};
 ghost use Rattle.audit.specs.Ledger.{LedgerStand};
 
 use crate::ledger::Ledger;

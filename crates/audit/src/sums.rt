@@ -1,10 +1,7 @@
 //! The totals of a history.
 
 ghost use Rattle.std.specs.Prelude.{◌≡◌, ◌<◌, ◌^◌, List, pos, ◌+ℤ◌, ◌-ℤ◌};
-ghost use Rattle.history.specs.Start.{Start};
-ghost use Rattle.history.specs.declared.entry.Entry.{Entry};
-ghost use Rattle.deciding.specs.Balance.{balance};
-ghost use Rattle.deciding.specs.ObjectState.{IsHistory};
+ghost use Rattle.audit.specs.Below.{Start, Entry, balance, IsHistory};
 ghost use Rattle.audit.specs.Ledger.{LedgerStand};
 ghost use Rattle.audit.specs.inner.Ledger.{IsLedger};
 ghost use Rattle.audit.specs.Totals.{no_totals, numbers_of, totals_of};

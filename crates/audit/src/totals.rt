@@ -1,9 +1,7 @@
 //! The totals of a legal history.
 
 ghost use Rattle.std.specs.Prelude.{◌≡◌, IfOk, IsOkUnless};
-ghost use Rattle.history.specs.Entries.{IsBasedWell, start_on};
-ghost use Rattle.history.specs.Header.{IsInRange};
-ghost use Rattle.history.specs.Legal.{AreSeated, IsLegal};
+ghost use Rattle.audit.specs.Below.{IsBasedWell, start_on, IsInRange, AreSeated, IsLegal};
 ghost use Rattle.audit.specs.Totals.{totals_of};
 
 use crate::sums::Totals;

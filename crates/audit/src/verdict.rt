@@ -1,9 +1,7 @@
 //! The verdict on a history.
 
 ghost use Rattle.std.specs.Prelude.{◌≡◌, ◌↔◌, [], ℕ, IfOk, IsOkUnless};
-ghost use Rattle.history.specs.Entries.{IsBasedWell, start_on};
-ghost use Rattle.history.specs.Header.{IsInRange};
-ghost use Rattle.history.specs.Legal.{AreSeated, IsLegal};
+ghost use Rattle.audit.specs.Below.{IsBasedWell, start_on, IsInRange, AreSeated, IsLegal};
 ghost use Rattle.audit.specs.Auditor.{HasJudged};
 ghost use Rattle.audit.specs.Verdict.{IsFirstWrong, IsJudgement, verdict_of};
 ghost use Rattle.audit.specs.declared.verdict.Verdict.TheVariants.{Legal, NotLegal};

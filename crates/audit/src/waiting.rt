@@ -1,13 +1,7 @@
 //! Who is in the queue, who waits on which condition, and what each waiter of a condition gave up.
 
 ghost use Rattle.std.specs.Prelude.{◌≡◌, ◌<◌, ◌∷◌, [], List, IfOk, IsOkUnless, length};
-ghost use Rattle.history.specs.Base.{based};
-ghost use Rattle.history.specs.GoodBase.{IsGood};
-ghost use Rattle.history.specs.Header.{IsInRange};
-ghost use Rattle.history.specs.Start.{Start, opening};
-ghost use Rattle.history.specs.declared.entry.Entry.{Entry};
-ghost use Rattle.condition_queue.specs.Following.{IsMovable};
-ghost use Rattle.deciding.specs.ObjectState.{IsHistory};
+ghost use Rattle.audit.specs.Below.{based, IsGood, IsInRange, Start, opening, Entry, IsMovable, IsHistory};
 ghost use Rattle.audit.specs.Waiting.{WaitingStand};
 ghost use Rattle.audit.specs.inner.Waiting.{NobodyWaits, saved_by};
 

@@ -2,12 +2,7 @@
 
 ghost use Rattle.std.specs.Prelude.{◌≡◌, ◌<◌, ◌≤◌, ◌==◌, ℕ, List, [], length, map, true, false, None, slice_index_or, if◌then◌else◌};
 ghost use Rattle.std.specs.List.{AllByRecursion};
-ghost use Rattle.acquire_queue.specs.Line.{Line};
-ghost use Rattle.condition_queue.specs.Sleepers.{asleep_on, sleeper_of};
-ghost use Rattle.deciding.specs.Sleep.{sleep_of};
-ghost use Rattle.history.specs.Base.{sleep_below, sleep_in_line, sleep_on, sleepers_of};
-ghost use Rattle.history.specs.Sleepers.{has};
-ghost use Rattle.history.specs.Waiting.{seats_of, times};
+ghost use Rattle.audit.specs.Below.{Line, asleep_on, sleeper_of, sleep_of, sleep_below, sleep_in_line, sleep_on, sleepers_of, has, seats_of, times};
 ghost use Rattle.audit.specs.Waiting.{never_slept};
 ghost use Rattle.audit.specs.inner.Waiting.{AreAwake, AreSleepers, or_kept};
 ghost use Rattle.history.specs.inner.BaseSleepers.{sleeping_seats};

@@ -2,14 +2,7 @@
 
 ghost use Rattle.std.specs.Prelude.{◌≡◌, ◌≤◌, ◌<◌, ◌+◌, ◌∷◌, [], ◌^◌, List, length, nat_abs, ℕ, FitsSigned, pos, ◌+ℤ◌, ◌-ℤ◌};
 ghost use Rattle.std.specs.Int.{w128};
-ghost use Rattle.history.specs.Base.{based, seat_of};
-ghost use Rattle.history.specs.Counts.{counted_after, free_after, total};
-ghost use Rattle.history.specs.GoodBase.{IsGood};
-ghost use Rattle.history.specs.Header.{IsInRange};
-ghost use Rattle.history.specs.Object.{created};
-ghost use Rattle.history.specs.Start.{Start, opening};
-ghost use Rattle.history.specs.declared.entry.Entry.{Entry};
-ghost use Rattle.history.specs.declared.header.Header.{Header};
+ghost use Rattle.deciding.specs.Below.{based, seat_of, counted_after, free_after, total, IsGood, IsInRange, created, Start, opening, Entry, Header};
 ghost use Rattle.deciding.specs.Amounts.{AreAmounts};
 
 use history::base::{Base, opening_count};

@@ -1,9 +1,7 @@
 //! The steps that fail and aren't recorded, in whatever state.
 
 ghost use Rattle.std.specs.Prelude.{◌≡◌};
-ghost use Rattle.history.specs.Faults.{is_wrong_mode, is_no_condition, is_bad_amount, is_bad_number, lacks_mode};
-ghost use Rattle.history.specs.Object.{is_lock, is_semaphore, is_latch};
-ghost use Rattle.history.specs.Phase.{waits};
+ghost use Rattle.deciding.specs.Below.{is_wrong_mode, is_no_condition, is_bad_amount, is_bad_number, lacks_mode, is_lock, is_semaphore, is_latch, waits};
 ghost use Rattle.deciding.specs.Checks.{refused_as};
 
 use history::entry::Mode;

@@ -1,18 +1,7 @@
 //! The one entry that a step of a seat makes now.
 
 ghost use Rattle.std.specs.Prelude.{◌≡◌, ◌<◌, ◌≤ℤ◌, List, Some, None, true, false, pos, nat_lt, IfSome};
-ghost use Rattle.history.specs.Could.{is_seat};
-ghost use Rattle.history.specs.Counts.{counts, free, held, owner};
-ghost use Rattle.history.specs.Faults.{max_amount};
-ghost use Rattle.history.specs.Line.{first_mode, line, place_of};
-ghost use Rattle.history.specs.Naming.{ready};
-ghost use Rattle.history.specs.Object.{is_lock, is_semaphore};
-ghost use Rattle.history.specs.Phase.{phase, waits};
-ghost use Rattle.history.specs.Start.{Start};
-ghost use Rattle.history.specs.Steps.{acquired, at_least_none, awaits, entry_for, gave, idle_entry, line_entry};
-ghost use Rattle.history.specs.Steps.{signals, tried, tried_fairly};
-ghost use Rattle.history.specs.declared.entry.Entry.{Entry};
-ghost use Rattle.history.specs.declared.entry.Mode.TheVariants.{X};
+ghost use Rattle.deciding.specs.Below.{is_seat, counts, free, held, owner, max_amount, first_mode, line, place_of, ready, is_lock, is_semaphore, phase, waits, Start, acquired, at_least_none, awaits, entry_for, gave, idle_entry, line_entry, signals, tried, tried_fairly, Entry, X};
 ghost use Rattle.deciding.specs.Checks.{refused_as};
 ghost use Rattle.deciding.specs.inner.Checks.{in_phase};
 ghost use Rattle.deciding.specs.ObjectState.{HasHistory, HasSeat};

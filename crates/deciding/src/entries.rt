@@ -1,11 +1,7 @@
 //! The entries that steps make.
 
 ghost use Rattle.std.specs.Prelude.{◌≡◌, ℕ, List};
-ghost use Rattle.history.specs.declared.entry.Entry.{Entry};
-ghost use Rattle.history.specs.Naming.{named_by};
-ghost use Rattle.history.specs.Sleepers.{last_sleep};
-ghost use Rattle.history.specs.Start.{Start};
-ghost use Rattle.history.specs.Steps.{plain, ended, queued_entry, sleeping_entry, back};
+ghost use Rattle.deciding.specs.Below.{Entry, named_by, last_sleep, Start, plain, ended, queued_entry, sleeping_entry, back};
 ghost use Rattle.deciding.specs.Sleep.{sleep_of};
 
 use crate::sleep::LastSleep;

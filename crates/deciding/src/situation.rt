@@ -1,15 +1,7 @@
 //! The questions that a decision asks about the state of an object.
 
 ghost use Rattle.std.specs.Prelude.{◌≡◌, List, length, true};
-ghost use Rattle.history.specs.Could.{could, held_back, limit};
-ghost use Rattle.history.specs.Counts.{count, counts, free, held};
-ghost use Rattle.history.specs.Line.{first_mode, first_of, line, place_of};
-ghost use Rattle.history.specs.Object.{is_semaphore, is_strict};
-ghost use Rattle.history.specs.Ownership.{is_away};
-ghost use Rattle.history.specs.Phase.{phase};
-ghost use Rattle.history.specs.Sleepers.{last_sleep, sleepers, sleeps_below};
-ghost use Rattle.history.specs.Start.{Start};
-ghost use Rattle.history.specs.declared.entry.Entry.{Entry};
+ghost use Rattle.deciding.specs.Below.{could, held_back, limit, count, counts, free, held, first_mode, first_of, line, place_of, is_semaphore, is_strict, is_away, phase, last_sleep, sleepers, sleeps_below, Start, Entry};
 ghost use Rattle.deciding.specs.ObjectState.{HasHistory, HasSeat, IsHistory};
 ghost use Rattle.deciding.specs.Sleep.{sleep_of};
 

@@ -1,9 +1,7 @@
 //! Tables of the seats' holds in one mode.
 
 ghost use Rattle.std.specs.Prelude.{◌≡◌, ℕ, ◌<◌, ◌≤◌, ◌^◌, IfOk, length, map, slice_index};
-ghost use Rattle.history.specs.Base.{holds_of};
-ghost use Rattle.history.specs.Counts.{total};
-ghost use Rattle.history.specs.GoodBase.{most_permits};
+ghost use Rattle.deciding.specs.Below.{holds_of, total, most_permits};
 
 use history::base::SeatBase;
 use history::entry::Mode;

@@ -1,6 +1,6 @@
 -- The entries of the commonest steps that are not done at once.
 use Rattle.std.proofs.Common.{◌≡◌, ℕ, Bool, true, false, cond, eqb, not, ◌&&◌, ◌||◌, List, [], ◌∷◌, Option, Some, None, Ok, refl, ap, ◌∙◌, sym, is_none, is_some, eq-eqb, eqb-true}
-use Rattle.std.proofs.lemmas.Bool.{and_parts, both_ways}
+use Rattle.std.proofs.lemmas.Bool.{and_parts}
 use Rattle.condition_queue.specs.declared.sleeper.Sleeper.{Sleeper}
 use Rattle.frame.specs.Below.{refused_as, Arrival, Entry, Mode, Fault, Acquire, Look, could, held_back, is_seat, limit, Counts, first_of, line, place_of, ready_by, InLine, phase_by, sleeps_below, Start, back, ended, entry_for, line_entry, queued_entry}
 use Rattle.deciding.proofs.InPhase.{entry_admitted, in_phase_made}
@@ -118,9 +118,6 @@ waits_on v i (Some a) header is some goes =
     none : (b : Bool) → cond b None (queued_entry false i a Look) ≡ None
     none true = refl
     none false = refl
-
-pub not_ready : (o : Option ℕ) (i : ℕ) → is_seat o i ≡ false → o ≡ Some i → ⊥
-not_ready o i t q = both_ways (is_seat o i) t (ap (λ x. is_seat x i) q ∙ eq-eqb i i refl)
 
 -- whether the first in line is a seat that could take
 pub ready_is : (k : Counts) (a : Arrival) (i : ℕ) (own goes : Bool) → own ≡ eqb a.seat i →

@@ -1,5 +1,5 @@
 -- What is answered where an entry was added, or not.
-use Rattle.std.proofs.Common.{◌≡◌, inl, ℕ, ◌<◌, eqb, true, not, ◌&&◌, ◌∷◌, ◌++◌, Option, Some, None, Result, Ok, refl, ap, ◌∙◌, sym, subst, IfOk, IfSome, IsOk, OnErr, Err, ◌⊎◌}
+use Rattle.std.proofs.Common.{◌≡◌, inl, ℕ, ◌<◌, eqb, true, not, ◌&&◌, ◌∷◌, Option, Some, None, Result, Ok, refl, ap, ◌∙◌, sym, subst, IfOk, IfSome, Err, ◌⊎◌}
 use Rattle.std.proofs.lemmas.Bool.{cond_both}
 use Rattle.frame.specs.Below.{is_seat, Entry, Mode, Refused, Fault, OutOfMemory, Answer, Recorded, Sleep, Step, answer_by, recorded, named, named_by, has_room, was_owed, entry_for, held, same_mode}
 use Rattle.history.proofs.Answering.{entry_seat}
@@ -41,15 +41,6 @@ recorded_now v new e name is =
       base = ap (λ (w : CoreView). w.base) is.2;
       places = ap (λ (w : CoreView). w.places) is.2;
     })
-
--- marks that an entry's own seat left are those that the step's seat left
-pub own_told : (v new : CoreView) (i : ℕ) (step : Step) (made : Option Entry) (e : Entry)
-    (r : Result Answer Fault) → Ok made ≡ entry_for (start_of v) v.entries i step → made ≡ Some e →
-    IsTold v e.seat r new → IsTold v i r new
-own_told v new i step made e r q some told =
-    subst (λ j. IsTold v j r new)
-    (entry_seat (start_of v) v.entries i step e
-    (sym q ∙ ap (λ x. (let y : Result (Option Entry) Fault = Ok x in y)) some)) told
 
 pub own_entry : (v : CoreView) (i : ℕ) (step : Step) (made : Option Entry) (e : Entry)
     (r : Result Answer Fault) →

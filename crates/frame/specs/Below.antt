@@ -33,7 +33,7 @@ pub use Rattle.history.specs.Answers.{recorded, answer_by, answer, results}
 pub use Rattle.history.specs.Base.{Base, each_below, nothing, opening_base, seat_of, based, calls_of, seat_after, stands_from, standing_after, sleeper_after, folded}
 pub use Rattle.history.specs.Changes.{holds_with, took, gave_back, counted_down, given_of, given, let_go, restored, drained}
 pub use Rattle.history.specs.Could.{max_holds, max_shared, is_seat, is_none_or, could_of, could, limit, is_reentrant, held_back}
-pub use Rattle.history.specs.Counts.{holds_after, held, unheld, free_after, free, counted_after, counted, Counts, counts, seat_with, owner, readers}
+pub use Rattle.history.specs.Counts.{holds_after, held, unheld, free_after, free, counted_after, counted, Counts, counts, seat_with, owner, readers, count}
 pub use Rattle.history.specs.Entries.{HistoryView, or_opening, base_on, start_on}
 pub use Rattle.history.specs.Entry.{is_exclusive, same_mode, ends_arrival, ends_call}
 pub use Rattle.history.specs.Faults.{max_amount}

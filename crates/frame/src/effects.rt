@@ -1,9 +1,7 @@
 //! How an entry changes the hooks.
 
 ghost use Rattle.std.specs.Prelude.{◌≡◌, true, false, if◌then◌else◌, None};
-ghost use Rattle.history.specs.Counts.{Counts};
-ghost use Rattle.history.specs.Line.{first_of};
-ghost use Rattle.history.specs.Naming.{named_by, ready_by};
+ghost use Rattle.frame.specs.Below.{Counts, first_of, named_by, ready_by};
 ghost use Rattle.frame.specs.Effects.{IsAllowed, OpensNobody, counts_after, may_name};
 
 use crate::hooks::{Gave, Hooks, Taken};

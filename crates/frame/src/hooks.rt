@@ -5,13 +5,7 @@
 //! ask the hooks instead.
 
 ghost use Rattle.std.specs.Prelude.{◌≡◌, ◌≢◌, ℕ, ◌<◌, ◌≤◌, ◌↔◌, IsTrue, IfOk, OnOk, OnErr, Ok, false};
-ghost use Rattle.history.specs.Changes.{took, given, let_go, restored, drained};
-ghost use Rattle.history.specs.Could.{could, limit, held_back};
-ghost use Rattle.history.specs.Counts.{Counts};
-ghost use Rattle.history.specs.Object.{is_strict};
-ghost use Rattle.history.specs.declared.entry.Mode.{Mode};
-ghost use Rattle.history.specs.declared.entry.Mode.TheVariants.{X, S};
-ghost use Rattle.history.specs.declared.header.Object.{Object};
+ghost use Rattle.frame.specs.Below.{took, given, let_go, restored, drained, could, limit, held_back, Counts, is_strict, Mode, X, S, Object};
 ghost use Rattle.frame.specs.Hooks.{line_mode, opening_counts, gives, take_answer, give_answer, let_go_answer, drain_answer, level_of, AreAlike, IsRestorable, NobodyElse, NobodyElseIn, NobodyNew, NobodyElseNew};
 
 use history::entry::Mode;

@@ -9,10 +9,7 @@ mod stepping;
 mod trimming;
 
 ghost use Rattle.std.specs.Prelude.{◌≡◌, [], ℕ, IfOk, IfErr};
-ghost use Rattle.history.specs.Base.{opening_base};
-ghost use Rattle.history.specs.Header.{IsInRange};
-ghost use Rattle.history.specs.Marks.{unmarked};
-ghost use Rattle.history.specs.declared.fault.Fault.TheVariants.{OutOfMemory};
+ghost use Rattle.frame.specs.Below.{opening_base, IsInRange, unmarked, OutOfMemory};
 ghost use Rattle.frame.specs.Core.{header_of, marks_of};
 
 use crate::hooks::Hooks;

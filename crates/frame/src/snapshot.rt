@@ -1,10 +1,7 @@
 //! The base that the fields of a core come to. No entry is looked at.
 
 ghost use Rattle.std.specs.Prelude.{◌≡◌, ◌<◌, ◌≤◌, ◌+◌, ◌^◌, ℕ, true, pos, ◌+ℤ◌, List, length, map, All, slice_index_or, vec_capacity};
-ghost use Rattle.condition_queue.specs.Sleepers.{asleep_on};
-ghost use Rattle.history.specs.Base.{each_below, folded};
-ghost use Rattle.history.specs.Sleepers.{has};
-ghost use Rattle.history.specs.declared.entry.Entry.{Entry};
+ghost use Rattle.frame.specs.Below.{asleep_on, each_below, folded, has, Entry};
 ghost use Rattle.frame.specs.Seat.{no_holds};
 ghost use Rattle.frame.specs.inner.Snapshot.{IsKept, IsUnheldBy, in_base, seat_in, sleeper_in, with_sleep};
 

@@ -16,12 +16,6 @@ abbrev Joins : Start → List Entry → ℕ → Step → Type 0
 Joins s h i (step.Acquire m n) = acquired (counts s h) (first_mode s h) i m n ≡ word.Queued
 Joins s h i _ = ⊥
 
-pub signal_apart : word.Signal ≡ word.Queued → ⊥
-signal_apart q = cc
-
-pub all_apart : word.SignalAll ≡ word.Queued → ⊥
-all_apart q = cc
-
 module _ (s : Start) (h : List Entry) (i : ℕ) where
   joins : (x : Step) → (idle_entry s h i x).word ≡ word.Queued → Joins s h i x
   joins (step.Acquire m n) q = q

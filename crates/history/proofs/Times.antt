@@ -1,5 +1,5 @@
 -- How often a seat stands in a list.
-use Rattle.std.proofs.Common.{◌≡◌, ◌≢◌, ℕ, zero, suc, ◌+◌, ◌<◌, ◌≤◌, Bool, true, false, cond, eqb, List, [], ◌∷◌, ◌++◌, length, map, take, drop, Some, None, refl, ap, ◌∙◌, sym, arith, eq-eqb, ne_eqb, take-append-drop}
+use Rattle.std.proofs.Common.{◌≡◌, ◌≢◌, ℕ, zero, suc, ◌+◌, ◌<◌, ◌≤◌, Bool, true, false, cond, eqb, List, [], ◌∷◌, ◌++◌, length, map, take, drop, Some, None, refl, ap, ◌∙◌, sym, arith, eq-eqb, take-append-drop}
 use Rattle.std.specs.List.{filter, AllByRecursion}
 use Rattle.std.proofs.lemmas.Bool.Decides.{nat_tests}
 use Rattle.std.proofs.lemmas.List.{map-append}
@@ -13,9 +13,6 @@ one_if b = cond b 1 0
 -- once where it is the seat, and else not
 pub once_same : (j i : ℕ) → j ≡ i → one_if (eqb j i) ≡ 1
 once_same j i e = ap one_if (eq-eqb j i e)
-
-pub once_other : (j i : ℕ) → j ≢ i → one_if (eqb j i) ≡ 0
-once_other j i ne = ap one_if (ne_eqb j i ne)
 
 pub times-append : (i : ℕ) (xs ys : List ℕ) → times i (xs ++ ys) ≡ times i xs + times i ys
 times-append i [] ys = omega arith

@@ -1,5 +1,6 @@
 -- What history_text cites of the crates below, passed on from one place: names of history and streams.
 -- Declares nothing.
+unfoldable pub use Rattle.history.specs.EntryReading.{entry_at}
 pub use Rattle.history.specs.declared.arrival.Arrival.{Arrival}
 pub use Rattle.history.specs.declared.base.LinePlace.{LinePlace}
 pub use Rattle.history.specs.declared.base.SeatBase.{SeatBase}
@@ -15,15 +16,15 @@ pub use Rattle.history.specs.declared.fault.Fault.TheVariants.{NotOwner, TooMany
 pub use Rattle.history.specs.declared.header.Header.{Header}
 pub use Rattle.history.specs.declared.header.Object.{Object}
 pub use Rattle.history.specs.declared.header.Object.TheVariants.{Lock, ReadWrite, Semaphore, Latch}
+pub use Rattle.history.specs.declared.header.Policy.{Policy}
 pub use Rattle.history.specs.declared.limits.TheConstants.{MOST_HOLDS, MOST_READ_WRITE_HOLDS, MOST_AMOUNT, MOST_SEATS, MOST_CONDITIONS, LAST_CONDITION, MOST_FOLDED, MOST_BASE_PERMITS}
 pub use Rattle.history.specs.declared.step.Step.{Step}
 pub use Rattle.history.specs.declared.step.Step.TheVariants.{Acquire, Try, TryFair, EntryInterrupt, Give, Look, Expire, Interrupt, Await, Signal, SignalAll, Drain}
 pub use Rattle.history.specs.Base.{Base, each_below, nothing, opening_base, seat_of, sleepers_of, holds_of, based}
 pub use Rattle.history.specs.Could.{is_seat}
 pub use Rattle.history.specs.Counts.{held, free, Counts, counts, total, owner}
-pub use Rattle.history.specs.Entries.{HistoryView, ended_calls, or_opening, base_on, IsBasedWell}
+pub use Rattle.history.specs.Entries.{HistoryView, ended_calls, or_opening, base_on, IsBasedWell, start_on}
 pub use Rattle.history.specs.Entry.{ends_call}
-unfoldable pub use Rattle.history.specs.EntryReading.{entry_at}
 pub use Rattle.history.specs.EntryWords.{end_word, spelt, entry_words, CameBack, HasWords, IsSpelt, IsWritten}
 pub use Rattle.history.specs.Fault.{IsRecorded, fault_name}
 pub use Rattle.history.specs.Faults.{lacks_mode, is_bad_number}
@@ -37,7 +38,7 @@ pub use Rattle.history.specs.Ownership.{most_exclusive, most_shared, IsOwned}
 pub use Rattle.history.specs.Pages.{whole_pages}
 pub use Rattle.history.specs.Phase.{Phase, Idle, InLine, Sleeping, phase}
 pub use Rattle.history.specs.Point.{CanFold}
-pub use Rattle.history.specs.Reading.{Words, keyword_at, number_at, wide_at, named_at}
+pub use Rattle.history.specs.Reading.{Words, keyword_at, number_at, wide_at, named_at, with_rest}
 pub use Rattle.history.specs.Sleepers.{sleepers, last_sleep}
 pub use Rattle.history.specs.Spelling.{part_of}
 pub use Rattle.history.specs.Start.{Start}
@@ -49,5 +50,6 @@ pub use Rattle.streams.specs.declared.fault.TextFault.{TextFault}
 pub use Rattle.streams.specs.declared.fault.TextFault.TheVariants.{BadHeader, BadLine, CutShort}
 pub use Rattle.streams.specs.declared.limits.TheConstants.{LINE_BYTES}
 pub use Rattle.streams.specs.Form.{Form, lines_of, AreItems, text_of}
-pub use Rattle.streams.specs.Reading.{Begins, IsText, Reading, IsReading}
+pub use Rattle.streams.specs.HeaderLine.{LacksHeader}
+pub use Rattle.streams.specs.Reading.{Begins, IsText, Reading, IsReading, IsCutShort}
 pub use Rattle.streams.specs.Short.{HasShortLines}

@@ -1,9 +1,7 @@
 //! Which bases are good, and which are those of an opening.
 
 ghost use Rattle.std.specs.Prelude.{◌≡◌, ◌≤◌, ◌↔◌, [], ◌∷◌, All, IsTrue, length, map};
-ghost use Rattle.history.specs.Base.{nothing, opening_base};
-ghost use Rattle.history.specs.GoodBase.{IsGood};
-ghost use Rattle.history.specs.Header.{IsInRange};
+ghost use Rattle.history_text.specs.Below.{nothing, opening_base, IsGood, IsInRange};
 ghost use Rattle.history_text.specs.inner.BaseFollowing.{
   AllFollow,
   HasShape,

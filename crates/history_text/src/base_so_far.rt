@@ -1,10 +1,7 @@
 //! The part of a base that has been read, and which line may come next.
 
 ghost use Rattle.std.specs.Prelude.{◌≡◌, ◌⊎◌, ◌↔◌, ◌≤◌, ◌<◌, ◌+◌, IsTrue};
-ghost use Rattle.history.specs.declared.header.Object.TheVariants.{Semaphore};
-ghost use Rattle.history.specs.declared.header.Policy.{Policy};
-ghost use Rattle.history.specs.declared.limits.TheConstants.{MOST_FOLDED, MOST_READ_WRITE_HOLDS, MOST_SEATS};
-ghost use Rattle.history.specs.Header.{IsInRange};
+ghost use Rattle.history_text.specs.Below.{Semaphore, Policy, MOST_FOLDED, MOST_READ_WRITE_HOLDS, MOST_SEATS, IsInRange};
 ghost use Rattle.history_text.specs.declared.base_line.BaseLine.TheVariants.{Seat, Sleeps, Stands};
 ghost use Rattle.history_text.specs.BaseRules.{AllSeated, IsFirst, IsFree, IsSeated};
 ghost use Rattle.history_text.specs.BaseRules.{MayFollow, MayHold, with_sums, no_sums};

@@ -2,14 +2,7 @@
 
 ghost use Rattle.std.specs.Prelude.{◌≡◌, ◌+◌, ◌<◌, ◌≤◌, ◌∷◌, ◌++◌, [], ℕ, set, get_or, length};
 ghost use Rattle.std.specs.Prelude.{map, All, IfOk, IfErr, IsErrOf, None, Ok, vec_capacity};
-ghost use Rattle.history.specs.declared.base.SeatBase.{SeatBase};
-ghost use Rattle.history.specs.declared.base.Sleeper.{Sleeper};
-ghost use Rattle.history.specs.declared.base.LinePlace.{LinePlace};
-ghost use Rattle.history.specs.declared.fault.Fault.TheVariants.{OutOfMemory};
-ghost use Rattle.history.specs.Base.{sleepers_of};
-ghost use Rattle.history.specs.Header.{IsInRange};
-ghost use Rattle.history.specs.Text.{HasNoBreak};
-ghost use Rattle.streams.specs.declared.fault.TextFault.TheVariants.{CutShort};
+ghost use Rattle.history_text.specs.Below.{SeatBase, Sleeper, LinePlace, OutOfMemory, sleepers_of, IsInRange, HasNoBreak, CutShort};
 ghost use Rattle.history_text.specs.declared.base_line.BaseLine.TheVariants.{Seat, Sleeps, Stands};
 ghost use Rattle.history_text.specs.declared.base_under_way.TheConstants.{MOST_LINES};
 ghost use Rattle.history_text.specs.BaseLines.{base_lines};

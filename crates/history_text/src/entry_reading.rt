@@ -1,10 +1,7 @@
 //! Reading a line of an entry.
 
 ghost use Rattle.std.specs.Prelude.{◌≡◌, ◌≢◌, ◌∷◌, ◌++◌, ◌≤◌, decimal, IfSome, IfNone};
-ghost use Rattle.history.specs.declared.entry.Entry.{Entry};
-ghost use Rattle.history.specs.EntryWords.{entry_words};
-ghost use Rattle.history.specs.Header.{IsInRange};
-ghost use Rattle.history.specs.Reading.{with_rest};
+ghost use Rattle.history_text.specs.Below.{Entry, entry_words, IsInRange, with_rest};
 ghost use Rattle.history_text.specs.EntryLines.{HasLine, entry_line};
 ghost use Rattle.history_text.specs.EntryReading.{line_at};
 

@@ -2,13 +2,7 @@
 
 ghost use Rattle.std.specs.Prelude.{◌≡◌, ◌≤◌, ◌++◌, All, IfOk, IfErr, OnErr, OnOk, length, reverse, take};
 ghost use Rattle.std.specs.Option.{option_copied};
-ghost use Rattle.history.specs.declared.fault.Fault.TheVariants.{OutOfMemory};
-ghost use Rattle.history.specs.Entries.{IsBasedWell, base_on, or_opening};
-ghost use Rattle.history.specs.EntryWords.{IsSpelt};
-ghost use Rattle.history.specs.GoodBase.{IsBaseOf, IsGood};
-ghost use Rattle.history.specs.Header.{IsInRange};
-ghost use Rattle.history.specs.Spelling.{part_of};
-ghost use Rattle.history.specs.Text.{ended};
+ghost use Rattle.history_text.specs.Below.{OutOfMemory, IsBasedWell, base_on, or_opening, IsSpelt, IsBaseOf, IsGood, IsInRange, part_of, ended};
 ghost use Rattle.history_text.specs.BaseText.{IsHeadPut};
 ghost use Rattle.history_text.specs.Pieces.{history_text};
 

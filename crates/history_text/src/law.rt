@@ -1,17 +1,7 @@
 //! What the definitions say about each text.
 
 ghost use Rattle.std.specs.Prelude.{◌≡◌, ◌≢◌, ◌≤◌, [], ◌++◌, List, ℕ, length, reverse};
-ghost use Rattle.history.specs.declared.entry.Entry.{Entry};
-ghost use Rattle.history.specs.declared.header.Header.{Header};
-ghost use Rattle.history.specs.Base.{Base};
-ghost use Rattle.history.specs.Entries.{HistoryView, base_on, start_on};
-ghost use Rattle.history.specs.GoodBase.{IsBaseOf, IsGood};
-ghost use Rattle.history.specs.Header.{IsInRange};
-ghost use Rattle.history.specs.Legal.{AreSeated, IsLegal};
-ghost use Rattle.streams.specs.Form.{text_of};
-ghost use Rattle.streams.specs.declared.limits.TheConstants.{LINE_BYTES};
-ghost use Rattle.streams.specs.Reading.{IsCutShort, Reading};
-ghost use Rattle.streams.specs.Short.{HasShortLines};
+ghost use Rattle.history_text.specs.Below.{Entry, Header, Base, HistoryView, base_on, start_on, IsBaseOf, IsGood, IsInRange, AreSeated, IsLegal, text_of, LINE_BYTES, IsCutShort, Reading, HasShortLines};
 ghost use Rattle.history_text.specs.HistoryLines.{head_of};
 ghost use Rattle.history_text.specs.HistoryText.{history_form, Fits, IsHistoryReading, IsHistoryText, IsRead};
 ghost use Rattle.history_text.specs.Pieces.{history_text};

@@ -1,13 +1,7 @@
 //! Reading the lines of a history text after its base, one after another.
 
 ghost use Rattle.std.specs.Prelude.{◌≡◌, ◌+◌, ◌<◌, ◌≤◌, ◌^◌, [], codes, Err, length, IfOk, IfSome, IfErr, IsErrOf};
-ghost use Rattle.history.specs.declared.limits.TheConstants.{MOST_FOLDED};
-ghost use Rattle.history.specs.Header.{IsInRange};
-ghost use Rattle.history.specs.Text.{HasNoBreak};
-ghost use Rattle.streams.specs.Reading.{Begins, IsReading};
-ghost use Rattle.streams.specs.declared.fault.TextFault.{TextFault};
-ghost use Rattle.streams.specs.declared.fault.TextFault.TheVariants.{CutShort};
-ghost use Rattle.streams.specs.HeaderLine.{LacksHeader};
+ghost use Rattle.history_text.specs.Below.{MOST_FOLDED, IsInRange, HasNoBreak, Begins, IsReading, TextFault, CutShort, LacksHeader};
 ghost use Rattle.history_text.specs.HistoryText.{history_form};
 ghost use Rattle.history_text.specs.NextLine.{IsEntryBehind};
 

@@ -1,12 +1,7 @@
 //! Who may wait on a base.
 
 ghost use Rattle.std.specs.Prelude.{◌≡◌, ◌↔◌, true, false, IsTrue, neg_ℤ};
-ghost use Rattle.history.specs.declared.entry.Mode.{Mode};
-ghost use Rattle.history.specs.Base.{holds_of, seat_of};
-ghost use Rattle.history.specs.Faults.{is_bad_number, lacks_mode};
-ghost use Rattle.history.specs.GoodBase.{Asks, GaveUp, Returns, StandsWell};
-ghost use Rattle.history.specs.Ownership.{most_exclusive};
-ghost use Rattle.history.specs.Steps.{at_least_none};
+ghost use Rattle.history_text.specs.Below.{Mode, holds_of, seat_of, is_bad_number, lacks_mode, Asks, GaveUp, Returns, StandsWell, most_exclusive, at_least_none};
 
 use deciding::checks::{is_lock, refused_as};
 use history::base::{Base, LinePlace, SeatBase};

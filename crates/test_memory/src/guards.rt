@@ -2,7 +2,7 @@
 //!
 //! An opening that fails returns what it was to guard, and frees its memory, or it would never succeed.
 
-use guarded::{Mutex, Pool, RwMutex, WhenFull};
+use guarded::{Mutex, Pool, RwMutex, Shared, WhenFull};
 use history::fault::Fault;
 use history::header::Policy;
 use std::collections::LinkedList;
@@ -39,24 +39,22 @@ fn refusals_of_mutex<R: Abort + AllocGlobal>(rt: &R, memory: &mut Memory) -> usi
 /// Returns how often a read-write lock with two threads and a condition is refused memory.
 fn refusals_of_rw_mutex<R: Abort + AllocGlobal + Wait>(rt: &R, memory: &mut Memory) -> usize {
     for refused in 0..MOST {
-        match RwMutex::open(
-            rt,
-            rt.alloc(),
-            VALUE,
-            Policy::Fair,
-            WhenFull::Trim,
-            2,
-            1,
-            16,
-        ) {
-            Ok((_lock, passes)) => {
-                assert_eq!(rt; passes.len(), 2);
-                return refused;
+        let back = match Shared::new(rt.alloc(), VALUE) {
+            Ok(shared) => {
+                match RwMutex::open(rt.alloc(), shared, Policy::Fair, WhenFull::Trim, 2, 1, 16) {
+                    Ok((_lock, passes)) => {
+                        assert_eq!(rt; passes.len(), 2);
+                        return refused;
+                    }
+                    Err((shared, fault)) => {
+                        assert_eq!(rt; fault, Fault::OutOfMemory);
+                        shared.into_value(rt)
+                    }
+                }
             }
-            Err((back, fault)) => {
-                assert!(rt; back == VALUE && fault == Fault::OutOfMemory);
-            }
-        }
+            Err(back) => back,
+        };
+        assert_eq!(rt; back, VALUE);
         let _was_left = memory.give_piece();
     }
     MOST

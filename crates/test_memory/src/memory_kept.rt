@@ -26,7 +26,7 @@ const FIRST_TIMES: u32 = 16;
 const MORE_TIMES: u32 = 600;
 
 /// The heap sometimes cuts blocks that it keeps back from other pieces.
-const CUT: usize = 2;
+const CUT: usize = 3;
 
 /// Returns whether a play has this result each time.
 fn comes_so(

@@ -8,14 +8,7 @@
 //! so is a release while somebody waits.
 
 ghost use Rattle.std.specs.Prelude.{◌≡◌, ◌<◌, [], true, false, not, is_none, int_lt, pos, ◌+ℤ◌, Ok, IfSome, IfNone, IsTrue};
-ghost use Rattle.deciding.specs.Balance.{available};
-ghost use Rattle.deciding.specs.Checks.{refused_as};
-ghost use Rattle.history.specs.Could.{could, limit};
-ghost use Rattle.history.specs.Faults.{max_amount};
-ghost use Rattle.history.specs.Line.{line};
-ghost use Rattle.history.specs.Steps.{gave};
-ghost use Rattle.history.specs.declared.entry.Word.TheVariants.{Gave};
-ghost use Rattle.history.specs.declared.step.Answer.TheVariants.{Recorded};
+ghost use Rattle.frame.specs.Below.{available, refused_as, could, limit, max_amount, line, gave, Gave, Recorded};
 ghost use Rattle.frame.specs.AtOnce.{Gives, IsAtOnce, entry_at_once};
 ghost use Rattle.frame.specs.inner.AtOnce.{IsAlone, MakesAtOnce, Takes, moves_nobody};
 ghost use Rattle.frame.specs.Core.{counts_of, start_of, IsAdded, IsNext, IsStepped};

@@ -2,9 +2,7 @@
 //! arms the entry is known.
 
 ghost use Rattle.std.specs.Prelude.{◌≡◌, ◌<◌, IsTrue, Some};
-ghost use Rattle.history.specs.declared.step.Step.TheVariants.{Acquire, Give, Look};
-ghost use Rattle.history.specs.Could.{could, held_back, is_seat};
-ghost use Rattle.history.specs.Line.{first_of, line};
+ghost use Rattle.frame.specs.Below.{Acquire, Give, Look, could, held_back, is_seat, first_of, line};
 ghost use Rattle.frame.specs.inner.AtOnce.{IsIdle, may_acquire, queues};
 ghost use Rattle.frame.specs.Core.{counts_of, start_of, IsStepped};
 ghost use Rattle.frame.specs.inner.Core.{first_mode_of, ready_of};

@@ -1,16 +1,7 @@
 //! Observers of a core. None of them allocates.
 
 ghost use Rattle.std.specs.Prelude.{◌≡◌, ◌<◌, ◌≤◌, ◌+◌, ◌^◌, ◌≤ℤ◌, pos, length, is_some, Some};
-ghost use Rattle.history.specs.Counts.{count, held, owner};
-ghost use Rattle.history.specs.Fold.{MayFold};
-ghost use Rattle.history.specs.Faults.{max_amount};
-ghost use Rattle.history.specs.Sleepers.{sleepers};
-ghost use Rattle.deciding.specs.Balance.{available, balance};
-ghost use Rattle.history.specs.Legal.{IsLegal, AreSeated};
-ghost use Rattle.history.specs.Line.{line};
-ghost use Rattle.history.specs.Marks.{AreTold, StandInLine};
-ghost use Rattle.history.specs.Order.{IsInOrder, IsFairOrder};
-ghost use Rattle.history.specs.Room.{owed};
+ghost use Rattle.frame.specs.Below.{count, held, owner, MayFold, max_amount, sleepers, available, balance, IsLegal, AreSeated, line, AreTold, StandInLine, IsInOrder, IsFairOrder, owed};
 ghost use Rattle.frame.specs.Core.{start_of, counts_of, marks_of};
 ghost use Rattle.frame.specs.Hooks.{level_of};
 ghost use Rattle.frame.specs.Seat.{IsSeat};
