@@ -24,6 +24,7 @@ ROOT = pathlib.Path(__file__).resolve().parent.parent
 WORD = r"[^\s(){},.;:\[\]⟨⟩`]+"
 NAME = re.compile(rf"{WORD}(?:(?:\.|::){WORD})*")
 DEFINED = re.compile(r"(?:(?:pub|abbrev|unfoldable|opaque|data|record)\s+)*([^\s:(){},]+)")
+IS_DATA = re.compile(r"(?:(?:pub|abbrev|unfoldable|opaque)\s+)*data\s")
 VARIANT = re.compile(r"(?m)^ +(?:pub )?([^\s:(){},=]+) :")
 NO_DEFINITION = ("use ", "mod ", "pub use ", "pub mod ", "module ", "--", "unfoldable pub use ", "unfolding ", "infix")
 OF_A_TRAIT = re.compile(r"(?:pub )?trait\b|impl\b.* for ")
@@ -75,13 +76,14 @@ def imports(text, how=""):
 
 def definitions(text):
     """Returns the names that each definition of a file cites, by its own name. A definition begins at the margin. The
-    fields and variants of a definition count as names of it."""
+    variants of a definition count as names of it. Fields don't: they are named only behind a value."""
     found, variants = {}, {}
     for part in re.split(r"\n(?=\S)", re.sub(r"--[^\n]*", "", text)):
         head = None if part.startswith(NO_DEFINITION) else DEFINED.match(part)
         if head and "◌" not in head[1]:
             found.setdefault(head[1], set()).update(names(part))
-            variants.update((it, {head[1]}) for it in VARIANT.findall(part))
+            if IS_DATA.match(part):
+                variants.update((it, {head[1]}) for it in VARIANT.findall(part))
     return {**variants, **found}
 
 

@@ -1,8 +1,9 @@
 #!/usr/bin/env python3
 """Summaries in columns of long histories: checks/columns.py PROGRAM [SEED].
 
-Random histories of 5,001 to 20,000 entries of each object, one of them with a base, one that is not legal, one whose
-seats and conditions have names, histories of exactly 5,000 and 5,001 entries, and one whose waits all last as long.
+Random histories of 5,001 to 20,000 entries of each object, one of them with a base, one whose seats and conditions
+have names, histories of exactly 5,000 and 5,001 entries, and one whose waits all last as long. One that is not legal
+has no summary: entries before the first illegal one are drawn.
 `aqs draw` must have the status of `aqs audit`. Every number that its summary shows in a tooltip or a line is counted
 here from the entries, by checks/rules.py: for how many entries of each column each seat held, waited in the queue and
 slept, how many waited at once, how many entries were refused, the free permits or the count, and the longest waits.
@@ -98,12 +99,9 @@ class Counted:
     def __init__(self, text, names):
         self.header, read_ = rules.read_history(text.encode())
         self.names, self.folded, self.all = names, read_.folded(), len(read_.entries)
-        state, self.entries, self.wrong = read_.start(), [], None
+        state, self.entries = read_.start(), []
         self.doing, self.queue, self.amounts = [], [], []
         for entry in read_.entries:
-            if not state.is_entry(entry):
-                self.wrong = entry
-                break
             state.add(entry)
             self.entries.append(entry)
             self.doing.append({(seat, kind, at) for seat, kind, at in drawn.levels(state)})
@@ -141,8 +139,6 @@ class Counted:
                 if any(parts.values()):
                     said = ", ".join(f"{part} {count}" for part, count in parts.items())
                     yield f"seat {self.called(seat)}, {self.told(column)}: {said}"
-        if self.wrong is not None:
-            yield f"not legal: {drawn.told(self.folded + len(self.entries), self.wrong, self.names)}"
 
     def parts(self, seat, column):
         """For how many entries of a column a seat did what."""
@@ -154,7 +150,6 @@ class Counted:
 
     def rows(self):
         came = {entry.seat for entry in self.entries} | {seat for now in self.doing for seat, _, _ in now}
-        came |= {self.wrong.seat} if self.wrong else set()
         return [f"seat {self.called(seat)}" for seat in sorted(came)]
 
     def waits(self):
@@ -222,7 +217,6 @@ def faults(picture, counted):
     root = xml.fromstring(picture)
     groups = {drawn.title_of(group): group for group in root.iter(f"{SVG}g")}
     titles = [drawn.title_of(group) for group in root.iter(f"{SVG}g")]
-    titles += [drawn.title_of(each) for each in root.iter(f"{SVG}rect") if each.get("class") == "e"]
     wanted = list(counted.titles())
     if sorted(titles) != sorted(wanted):
         missing, more = sorted(set(wanted) - set(titles)), sorted(set(titles) - set(wanted))
@@ -240,17 +234,9 @@ def faults(picture, counted):
         yield f"another line: {line}"
     if [text for text in texts if re.fullmatch(r"seat [0-9]+( \(.*\))?", text)] != rows:
         yield "other rows"
-    fields = [int(each.get("x")) for each in root.iter(f"{SVG}rect") if each.get("class") == "e"]
-    if fields != [counted.left() + 4 * (len(counted.entries) // counted.span)] * (counted.wrong is not None):
-        yield f"the illegal entry is at {fields}"
     waits = [text for text in texts if ": aqs draw --from" in text]
     if waits != list(counted.wait_lines()):
         yield f"other waits: {waits}"
-    named = next((each.text for each in root.iter(f"{SVG}tspan") if each.get("class") == "f"), None)
-    number = counted.folded + len(counted.entries)
-    wrong = counted.wrong and f"not legal at {drawn.told(number, counted.wrong, counted.names)}"
-    if named != wrong:
-        yield f"another entry is not legal: {named}"
 
 
 def fault_of(program, text, names, words):
@@ -259,6 +245,8 @@ def fault_of(program, text, names, words):
     status, picture, said = program.answer(["draw", *words], text.encode())
     if (status, said) != (audited, b""):
         return f"status {status}, {said}"
+    if status == 1:
+        return None if drawn.is_drawn(picture, text.encode(), names) else "another picture of what is not legal"
     return next(faults(picture, Counted(text, names)), None)
 
 

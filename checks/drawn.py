@@ -4,14 +4,18 @@ more in Python.
 What that page leaves open, the shapes of the marks and the places within a row, is as in the crate `picture`.
 """
 
+import copy
 import re
 import xml.etree.ElementTree as xml
 
+import explained
 import rules
 import summed
 
 SVG = "{http://www.w3.org/2000/svg}"
 MOST = 2000
+# How many entries before the first illegal one are drawn.
+NEAR = 40
 SHAPES = {
     "missed": "m-3 0a3 3 0 1 0 6 0a3 3 0 1 0 -6 0",
     "refused": "m-3 -3l6 6m0 -6l-6 6",
@@ -80,13 +84,15 @@ def bars(state, entries):
 
 
 def legal_part(lines):
-    """The entries that are drawn, and the number of the first that isn't legal."""
-    state, entries = lines.start(), lines.entries
-    for number, entry in enumerate(entries):
-        if not state.is_entry(entry):
-            return entries[:min(number, MOST)], state.folded + number
+    """The place of the first entry that is drawn, the state before it, those from there on, and the first that isn't
+    legal, if there is one."""
+    legal = lines.entries[:explained.legal_count(lines)]
+    culprit = lines.entries[len(legal):len(legal) + 1]
+    begin = max(0, len(legal) - NEAR) if culprit else 0
+    state = lines.start()
+    for entry in legal[:begin]:
         state.add(entry)
-    return entries[:MOST], None
+    return begin, state, legal[begin:] if culprit else legal[:MOST], culprit
 
 
 def is_to_share(kind, seat, first, last, entries):
@@ -150,13 +156,12 @@ class Place:
 
 def wanted(text, given):
     """The rows, bars, labels and marks by their places, with their tooltips, the field of the entry that is not legal,
-    and what names it."""
+    what names it, and the lines that explain it."""
     header, lines = rules.read_history(text)
-    shown, wrong = legal_part(lines)
-    kept, folded = lines.entries[:MOST], lines.folded()
-    number = None if wrong is None else wrong - folded
-    culprit = [] if number is None else kept[number:number + 1]
-    stretches = bars(lines.start(), shown)
+    begin, before, shown, culprit = legal_part(lines)
+    kept = lines.entries[begin:][:len(shown) + 1 if culprit else MOST]
+    folded = lines.folded() + begin
+    stretches = bars(copy.deepcopy(before), shown)
     place = Place(header.kind, shown, stretches, culprit, given)
     rects, labels, marks, fields = set(), set(), set(), set()
     for (seat, kind, condition), count, first, last in stretches:
@@ -169,18 +174,18 @@ def wanted(text, given):
         rects.add((looks, x, y, width, f"seat {called(given, 'seat', seat)}{state}, {span}"))
         if kind != "w" and width >= 6 * len(digits) + 4:
             labels.add((x + 4, y + 10, digits if condition is None else f"c{digits}"))
-    for at, (entry, sign) in enumerate(zip(shown, signs(lines.start(), shown))):
+    for at, (entry, sign) in enumerate(zip(shown, signs(before, shown))):
         if sign is not None:
             marks.add((place.mark(at, entry, sign), told(folded + at, entry, given)))
     names = place.names(header.seats)
-    if number is None:
-        return names, rects, labels, marks, fields, None
-    said = told(wrong, culprit[0], given) if culprit else f"entry {wrong}"
-    if number == len(shown):
-        height = len(place.rows) * 40
-        fields.add((place.x(number), place.top, place.step, height, f"not legal: {said}"))
-        marks.update((place.mark(number, entry, "not legal"), None) for entry in culprit)
-    return names, rects, labels, marks, fields, f"not legal at {said}"
+    if not culprit:
+        return names, rects, labels, marks, fields, None, []
+    number, height = len(shown), len(place.rows) * 40
+    said = told(folded + number, culprit[0], given)
+    fields.add((place.x(number), place.top, place.step, height, f"not legal: {said}"))
+    marks.add((place.mark(number, culprit[0], "not legal"), None))
+    why = "".join(explained.lines(lines, None)).splitlines()
+    return names, rects, labels, marks, fields, f"not legal at {said}", why
 
 
 def shown(picture):
@@ -198,7 +203,14 @@ def shown(picture):
     fields = {(*(int(each.get(name)) for name in ("x", "y", "width", "height")), title_of(each))
               for each in root.iter(f"{SVG}rect") if each.get("class") == "e"}
     named = next((each.text for each in root.iter(f"{SVG}tspan") if each.get("class") == "f"), None)
-    return (names, left_out(root)), {rect for rect in rects if rect[2] >= TOP}, labels, marks, fields, named
+    rows = (names, left_out(root))
+    return rows, {rect for rect in rects if rect[2] >= TOP}, labels, marks, fields, named, why_of(root, names)
+
+
+def why_of(root, names):
+    """The lines below the rows, which explain what is not legal."""
+    below = max((y for y, _ in names), default=TOP_WITH_CURVE)
+    return [each.text for each in root.iter(f"{SVG}text") if each.get("x") == "8" and int(each.get("y")) > below + 20]
 
 
 def left_out(root):

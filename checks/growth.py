@@ -154,7 +154,7 @@ def growing(program):
     yield Case("audit on a base", ["audit"], 100_000, on_base, 0)
     yield Case("draw", ["draw"], 20_000, legal, 4096)
     yield Case("draw all", ["draw", "--from", "0"], 20_000, legal, 4096)
-    yield Case("draw the last entries on a page", ["draw", "--page"], 20_000, legal, 0)
+    yield Case("draw the first entries on a page", ["draw", "--page"], 20_000, legal, 4 * ENTRY)
     yield Case("explain", ["explain"], 100_000, legal, 2 * EXPLAINED)
     yield Case("explain an entry in the middle", ["explain", "--at", "{}"], 100_000, legal, 2 * EXPLAINED)
     misspelt = lambda count: legal(count).replace(b"\nend ", b"\nedn ")

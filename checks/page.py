@@ -9,6 +9,7 @@
   after it, at ten entries of each history. Keys, buttons, the slider, the search and clicks on bars move it.
 - The same with names of seats and conditions, among them such as would end a string or an element: they are data, and
   stand in the panel, the rows, the tooltips and the seats to choose from, and nowhere as code.
+- A page of an illegal history opens before the first illegal entry, and says what `aqs explain` says of it.
 - A page of 10,000 entries has at most 5 MB, and shows its first entry within a second.
 - Where chromium or google-chrome starts, it opens each page: the panel says the same at ten entries, keys and a
   button move it, and nothing is an error. What a screen reader is given has the names. A page of 10,000 entries is
@@ -31,6 +32,7 @@ import tempfile
 
 import browser
 import drawn
+import explained
 import rules
 
 TOP = pathlib.Path(__file__).resolve().parent.parent
@@ -129,6 +131,10 @@ def wanted(text, first=None, last=None, names=None):
             break
         state.add(entry)
         legal.append(entry)
+    is_cut = first is None and last is None and wrong is None and len(lines.entries) > drawn.MOST
+    is_known = wrong is not None and (last is None or last >= wrong)
+    if first is None and last is None and wrong is not None:
+        first, last = max(wrong - drawn.MOST, 0), wrong
     end = drawn.MOST if first is None and last is None else len(legal) if last is None else max(0, last + 1 - folded)
     legal = legal[:end]
     begin = min(max(0, (first or 0) - folded), len(legal))
@@ -138,11 +144,11 @@ def wanted(text, first=None, last=None, names=None):
     shown, before = legal[begin:], waiting(state)
     stretches = drawn.bars(lines.start() if begin == 0 else state, shown)
     rows = sorted((end, key[0], kinds(key)[1], kinds(key)[0], start, holds) for key, holds, start, end in stretches)
-    is_cut = first is None and last is None and len(lines.entries) > drawn.MOST
+    why = json.dumps("".join(explained.lines(lines, None)))
     told = [f'{{"header":"{header.part.decode()}"',
             f',"folded":"{folded}","entries":"{folded + len(lines.entries)}","from":{begin},"to":{len(legal)}'
             f',"cut":{str(is_cut).lower()},"wrong":' + ("null" if wrong is None else f'"{wrong}"'),
-            ',"stretches":[["kind","seat","first","last","holds"]']
+            f',"why":{why}' if is_known else "", ',"stretches":[["kind","seat","first","last","holds"]']
     told += [f',["{kind}",{seat},{begin + start},{begin + end},"{holds}"]' for end, seat, _, kind, start, holds in rows]
     told += ["]", ',"marks":[["sign","seat","entry"]']
     for number, (entry, sign) in enumerate(zip(legal, drawn.signs(lines.start(), legal))):
@@ -255,6 +261,20 @@ def stepped(program, name, history, words, first, last, scratch, names={}):
     yield f"{name} {' '.join(words)}: the panel at all ten", len(shown) == len(numbers) + 1
 
 
+def opens_wrong(program, name, history, scratch):
+    """A page of an illegal history opens before its first illegal entry, and explains it."""
+    file = scratch / "page.html"
+    file.write_text(page_of(program, history))
+    lines = rules.read_history(history)[1]
+    number = lines.folded() + explained.legal_count(lines)
+    _, shown = acted(file, [{"key": "Home"}])
+    yield f"{name}: the page opens at its end", says(shown[0], program, history, number - 1, {})
+    is_told = shown[0]["wrong"] == f"not legal at entry {number}"
+    yield f"{name}: the page explains it", is_told and shown[0]["why"] == "".join(explained.lines(lines, None))
+    first = max(number - drawn.MOST, lines.folded())
+    yield f"{name}: its first entry", says(shown[1], program, history, first, {})
+
+
 def moves(program, history, scratch):
     """Keys, buttons, the search and clicks on bars move the panel."""
     file = scratch / "page.html"
@@ -290,6 +310,7 @@ def opened(program, name, history, seen, scratch, words=(), names={}):
     told = json.loads(parts(file.read_text())[1])
     folded, last, at = int(told["folded"]), told["to"] - 1, 0
     seen.open(file.as_uri())
+    seen.press("Home")
     for place in ten(0, last):
         for _ in range(place - at):
             seen.press("ArrowRight")
@@ -408,6 +429,10 @@ def results(program, scratch):
         yield from with_names(program, name, history, scratch)
     based = (TOP / "examples" / "sleeper_of_a_base.history").read_bytes()
     yield from is_data(program, "sleeper_of_a_base", based, [], {})
+    late = long_entries(2_500, wrong=2_301)
+    for words, chosen in (([], {}), (["--from", "1"], {"first": 1}), (["--to", "2"], {"last": 2}),
+                          (["--from", "2400"], {"first": 2400})):
+        yield from is_data(program, "not legal at 2301", late, words, chosen)
     if shutil.which("node") is None:
         print("no node: the page's script is not run")
         return
@@ -416,6 +441,8 @@ def results(program, scratch):
         last = json.loads(parts(page_of(program, history))[1])["to"] - 1
         yield from stepped(program, name, history, [], 0, last, scratch)
         yield from stepped(program, name, history, ["--from", str(last // 3)], last // 3, last, scratch)
+    for name, history in (("taken", history_of("taken_past_the_line")), ("late", long_entries(2_500, wrong=2_301))):
+        yield from opens_wrong(program, name, history, scratch)
     yield from stepped(program, "a sleeper moved by the first entry", MOVED, ["--from", "4"], 4, 9, scratch)
     yield from stepped(program, "sleepers on many conditions", ON_MANY, [], 0, 5, scratch)
     yield from moves(program, history_of("bounded_buffer"), scratch)
@@ -441,10 +468,13 @@ def large(program, scratch):
     yield "entries left out are told", shown[0]["part"] == told
 
 
-def long_entries(count):
-    """A history of a lock for which two seats contend, in groups of five entries."""
+def long_entries(count, wrong=None):
+    """A history of a lock for which two seats contend, in groups of five entries. With `wrong`, the second entry of a
+    group, another seat takes the lock there."""
     group = ["{a} got x 1", "{b} queued x 1", "{a} gave x 1", "{b} granted x 1", "{b} gave x 1"]
     words = [group[n % 5].format(a=n // 5 % 256, b=(n // 5 + 7) % 256) for n in range(count)]
+    if wrong is not None:
+        words[wrong] = f"{(wrong // 5 + 9) % 256} got x 1"
     calls = sum(not word.split()[1].startswith("queued") for word in words)
     lines = [f"aqs-history 1 lock fair seats 256 conditions 0 cap {count}"]
     lines += [f"{n} {word}" for n, word in enumerate(words)]

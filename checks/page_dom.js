@@ -41,6 +41,7 @@ const shown = () => ({
   title: byId.title.textContent,
   part: byId.part.textContent,
   wrong: byId.wrong.textContent,
+  why: byId.why.textContent,
   entry: byId.entry.textContent,
   state: byId.state.children.map((line) => line.textContent),
   found: byId.found.textContent,

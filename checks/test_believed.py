@@ -79,7 +79,10 @@ class Names(unittest.TestCase):
     def test_a_definition_begins_at_the_margin(self):
         cites = believed.definitions(SPECS)
         self.assertEqual({it for it in cites if believed.is_whole(it, SPECS)}, {"IsFirst", "IsSmall", "few", "IsHidden"})
-        self.assertEqual(cites["less"], {"IsSmall"})
+
+    def test_a_variant_is_a_name_and_a_field_is_none(self):
+        self.assertEqual(believed.definitions(CRATES["two/specs/Other.antt"])["ahead"], {"Way"})
+        self.assertNotIn("less", believed.definitions(SPECS))
 
 
 class Paths(unittest.TestCase):
