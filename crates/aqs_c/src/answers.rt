@@ -1,9 +1,9 @@
 //! Answers as numbers.
 ghost use Rattle.std.specs.Prelude.{◌≡◌, false};
 ghost use Rattle.history.specs.Fault.{fault_number};
-ghost use Rattle.aqs_c.specs.Codes.{IsAnswerOf, IsEntry, IsNamed, IsNextOf, IsParkOf, IsQuiet, done_number, end_number, fault_in, mode_number, word_number};
+ghost use Rattle.aqs_c.specs.Codes.{IsAnswerOf, IsEntry, IsNamed, IsNextOf, IsParkOf, IsQuiet, done_number, fault_in, word_number};
 
-use history::entry::{End, Entry, Mode, Word};
+use history::entry::{Entry, Word};
 use history::fault::Fault;
 use history::step::Answer;
 use monitor::{Contention, Limits, Next, Now, Turn};
@@ -115,23 +115,6 @@ fn word_number(word: Word) -> u8
     }
 }
 
-fn end_number(end: End) -> u8
-    ensures { result ≡ end_number end }
-{
-    match end {
-        End::None => 0,
-        End::Timeout => 1,
-        End::Interrupt => 2,
-        End::Signalled => 3,
-    }
-}
-
-fn mode_number(mode: Mode) -> u8
-    ensures { result ≡ mode_number mode }
-{
-    u8::from(matches!(mode, Mode::S))
-}
-
 // The number of the fault of a refusal, or 0.
 fn fault_in(word: Word) -> u8
     ensures { result ≡ fault_in word }
@@ -179,9 +162,9 @@ pub(crate) fn entry_answer(entry: Entry, named: Option<u16>, again: bool) -> Aqs
         wakes: named.unwrap_or(0),
         kind: ENTRY,
         word: word_number(entry.word),
-        mode: mode_number(entry.mode),
+        mode: entry.mode as u8,
         at: entry.at,
-        end: end_number(entry.end),
+        end: entry.end as u8,
         fault: fault_in(entry.word),
         has_wakes: named.is_some(),
         again,

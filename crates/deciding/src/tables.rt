@@ -4,6 +4,7 @@ ghost use Rattle.std.specs.Prelude.{◌≡◌, ℕ, ◌<◌, ◌≤◌, ◌^◌,
 ghost use Rattle.deciding.specs.Below.{holds_of, total, most_permits};
 
 use history::base::SeatBase;
+use history::base_parts::holds_of;
 use history::entry::Mode;
 use std::alloc::{AllocError, Global};
 
@@ -16,15 +17,6 @@ pub fn held_in(alloc: Global, seats: &[SeatBase], mode: Mode) -> Result<Vec<u128
         held.push_reserved(holds_of(*has, mode));
     }
     Ok(held)
-}
-
-fn holds_of(has: SeatBase, mode: Mode) -> u128
-    ensures { result ≡ holds_of has mode }
-{
-    match mode {
-        Mode::X => u128::from(has.exclusive),
-        Mode::S => has.shared,
-    }
 }
 
 /// Returns the sum of the numbers.

@@ -31,7 +31,8 @@ pub(crate) fn seat_then(object: Object, entry: Entry, has: SeatBase) -> SeatBase
     then
 }
 
-fn holds_of(has: SeatBase, mode: Mode) -> u128
+/// Returns how much a seat holds in a mode.
+pub fn holds_of(has: SeatBase, mode: Mode) -> u128
     ensures { result ≡ holds_of has mode }
 {
     match mode {

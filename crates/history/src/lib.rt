@@ -6,7 +6,7 @@
 
 pub mod arrival;
 pub mod base;
-mod base_parts;
+pub mod base_parts;
 pub mod entries;
 pub mod entry;
 pub mod entry_reading;

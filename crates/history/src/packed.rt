@@ -93,32 +93,6 @@ fn word_code(word: Word) -> u8
     }
 }
 
-/// Returns the number of a mode.
-#[inline(always)]
-fn mode_code(mode: Mode) -> u8
-    ensures value { get_or modes result X ≡ mode }
-    ensures small { result < 2 }
-{
-    match mode {
-        Mode::X => 0,
-        Mode::S => 1,
-    }
-}
-
-/// Returns the number of an end.
-#[inline(always)]
-fn end_code(end: End) -> u8
-    ensures value { get_or ends result None ≡ end }
-    ensures small { result < 4 }
-{
-    match end {
-        End::None => 0,
-        End::Timeout => 1,
-        End::Interrupt => 2,
-        End::Signalled => 3,
-    }
-}
-
 impl Packed {
     /// Returns the entry in eight bytes.
     #[inline(always)]
@@ -128,7 +102,7 @@ impl Packed {
         Packed {
             n: entry.n,
             seat: entry.seat,
-            kind: word_code(entry.word) * 8 + mode_code(entry.mode) * 4 + end_code(entry.end),
+            kind: word_code(entry.word) * 8 + entry.mode as u8 * 4 + entry.end as u8,
             at: entry.at,
         }
     }
