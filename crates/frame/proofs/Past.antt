@@ -1,6 +1,6 @@
 -- What is known of a step that was done at once.
-use Rattle.std.proofs.Common.{◌≡◌, ℕ, ◌<◌, Option, Some, None, Ok, refl, ap, sym, ◌∙◌, subst, inl, IfSome, IfNone, ◌∷◌}
-use Rattle.frame.specs.Below.{Entry, Fault, Recorded, Step, Acquire, Try, TryFair, Give, entry_for}
+use Rattle.std.proofs.Common.{◌≡◌, ℕ, ◌<◌, Option, Some, None, Ok, subst, IfSome}
+use Rattle.frame.specs.Below.{Entry, Recorded, Step, entry_for}
 use Rattle.frame.specs.Prelude.{IsAtOnce, entry_at_once, CoreView, start_of, IsAdded, IsStepped}
 use Rattle.frame.specs.inner.AtOnce.{MakesAtOnce}
 use Rattle.frame.proofs.Recording.{entered, stepped}

@@ -3,23 +3,7 @@ use Rattle.std.proofs.Common.{◌≡◌, inl, ℕ, ◌<◌, eqb, true, not, ◌&
 use Rattle.std.proofs.lemmas.Bool.{cond_both}
 use Rattle.frame.specs.Below.{is_seat, Entry, Mode, Refused, Fault, OutOfMemory, Answer, Recorded, Sleep, Step, answer_by, recorded, named, named_by, has_room, was_owed, entry_for, held, same_mode}
 use Rattle.history.proofs.Answering.{entry_seat}
-use Rattle.frame.specs.Core.{
-  CoreView,
-  made_by,
-  places_behind,
-  start_of,
-  unmarked_at,
-  IsAdded,
-  IsAnswer,
-  IsAnswered,
-  IsRecorded,
-  IsStepped,
-  IsTold,
-  IsOf,
-  KeepsHolds,
-  LacksMemory,
-  NamesBelow,
-}
+use Rattle.frame.specs.Core.{CoreView, start_of, unmarked_at, IsAdded, IsAnswer, IsAnswered, IsRecorded, IsStepped, IsTold, IsOf, KeepsHolds, LacksMemory, NamesBelow}
 use Rattle.frame.specs.inner.Core.{IsEntered}
 use Rattle.frame.specs.Tidied.{HasTidied, WasTidied}
 use Rattle.frame.proofs.Telling.{marks_slept}
@@ -118,6 +102,12 @@ stepped v new i step e r made is =
       names = is.names;
       tidied = subst (λ j. IfOk r (λ answer. HasTidied j answer)) own is.tidied;
     }
+
+pub stepped_some : (v new : CoreView) (i : ℕ) (step : Step) (e : Entry) (r : Option Answer) →
+    entry_for (start_of v) v.entries i step ≡ Ok (Some e) → IfSome r (λ a. IsEntered v e (Ok a) new) →
+    IfSome r (λ a. IsStepped v i step (Ok a) new)
+stepped_some v new i step e None made is = tt
+stepped_some v new i step e (Some a) made is = stepped v new i step e (Ok a) made is
 
 -- one who waits on is told no more
 pub waited : (v new : CoreView) (i : ℕ) (step : Step) →

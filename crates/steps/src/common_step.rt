@@ -11,7 +11,6 @@ use history::entry::Mode;
 use history::step::Step;
 use history::text::behind;
 use streams::at_once::{behind_byte, behind_four};
-use streams::once::mode_of_once;
 use streams::seat::seat_of;
 
 /// A step whose line is read at once. It asks for 1, if it asks for an amount.
@@ -52,29 +51,7 @@ impl Common {
     }
 }
 
-/// Returns the acquire of 1 in a mode.
-#[inline(always)]
-fn acquire_in(mode: Mode) -> Common
-    ensures { step_of result ≡ Step.Acquire mode 1 }
-{
-    match mode {
-        Mode::X => Common::Acquire,
-        Mode::S => Common::AcquireShared,
-    }
-}
-
-/// Returns the release of 1 in a mode.
-#[inline(always)]
-fn give_in(mode: Mode) -> Common
-    ensures { step_of result ≡ Step.Give mode 1 }
-{
-    match mode {
-        Mode::X => Common::Give,
-        Mode::S => Common::GiveShared,
-    }
-}
-
-/// Reads an acquire of 1.
+/// Reads an acquire of 1 in X.
 #[inline(always)]
 fn acquire(text: &[u8]) -> Option<(Common, usize)>
     ensures { IfSome result (BeginsWith text.now) }
@@ -85,11 +62,11 @@ fn acquire(text: &[u8]) -> Option<(Common, usize)>
     }
     let name_end = behind_four(*b"acqu", text)?;
     let asked = behind_four(*b"ire ", name_end)?;
-    let (mode, left) = mode_of_once(asked)?;
-    Some((acquire_in(mode), left))
+    let rest = behind_four(*b"x 1\n", asked)?;
+    Some((Common::Acquire, rest.len()))
 }
 
-/// Reads a release of 1.
+/// Reads a release of 1 in X.
 #[inline(always)]
 fn give(text: &[u8]) -> Option<(Common, usize)>
     ensures { IfSome result (BeginsWith text.now) }
@@ -99,8 +76,19 @@ fn give(text: &[u8]) -> Option<(Common, usize)>
     }
     let name_end = behind_four(*b"give", text)?;
     let asked = behind_byte(b' ', name_end)?;
-    let (mode, left) = mode_of_once(asked)?;
-    Some((give_in(mode), left))
+    let rest = behind_four(*b"x 1\n", asked)?;
+    Some((Common::Give, rest.len()))
+}
+
+/// Reads an acquire or a release of 1 in S.
+#[inline(always)]
+fn shared(text: &[u8]) -> Option<(Common, usize)>
+    ensures { IfSome result (BeginsWith text.now) }
+{
+    match behind(b"acquire s 1\n", text) {
+        Some(rest) => Some((Common::AcquireShared, rest.len())),
+        None => Some((Common::GiveShared, behind(b"give s 1\n", text)?.len())),
+    }
 }
 
 /// Reads a retry.
@@ -157,6 +145,7 @@ fn common_words(text: &[u8]) -> Option<(Common, usize)>
         return Some(found);
     }
     match text.first()? {
+        b'a' | b'g' => shared(text),
         b't' => tries(text),
         b'e' | b'i' => ends_wait(text),
         _ => None,

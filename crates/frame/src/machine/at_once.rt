@@ -62,7 +62,7 @@ impl<H: Hooks + Drop> Core<H> {
 
     /// Returns whether the step of an idle seat is done at once past those who wait.
     #[inline(always)]
-    fn goes_past(&self, seat: u16, step: Step) -> bool
+    pub(super) fn goes_past(&self, seat: u16, step: Step) -> bool
         requires { seat < self.now.header.seats }
         ensures { IsTrue result → MakesAtOnce self.now seat step }
     {

@@ -1,71 +1,61 @@
 //! The most frequent steps that are not done at once: an acquire, a release and a retry. In each of their
 //! arms the entry is known.
 
-ghost use Rattle.std.specs.Prelude.{◌≡◌, ◌<◌, IsTrue, Some};
-ghost use Rattle.frame.specs.Below.{Acquire, Give, Look, could, held_back, is_seat, first_of, line};
+ghost use Rattle.std.specs.Prelude.{◌≡◌, ◌<◌, IfNone, IfSome, IsTrue, Ok, Some};
+ghost use Rattle.frame.specs.Below.{Look, could, held_back, is_seat, first_of, line};
 ghost use Rattle.frame.specs.inner.AtOnce.{IsIdle, may_acquire, queues};
 ghost use Rattle.frame.specs.Core.{counts_of, start_of, IsStepped};
 ghost use Rattle.frame.specs.inner.Core.{first_mode_of, ready_of};
 
-use super::Core;
+use super::{Core, entry_at_once};
 use crate::hooks::Hooks;
 use deciding::entries::{ended, plain};
 use history::arrival::Arrival;
 use history::entry::{End, Mode, Word};
-use history::fault::Fault;
 use history::step::{Answer, Step};
 
 impl<H: Hooks + Drop> Core<H> {
-    /// Performs an acquire: it succeeds, or joins the queue.
-    pub(super) fn acquire(&mut self, seat: u16, mode: Mode, n: u32) -> Result<Answer, Fault>
+    /// Performs an acquire, a release or a retry on a path of its own, on which the entry is known. `None`
+    /// changes nothing: the step takes the general path, `step_in_full`.
+    #[inline(always)]
+    pub fn step_of_kind(&mut self, seat: u16, step: Step) -> Option<Answer>
         requires { seat < self.old.header.seats }
-        ensures { IsStepped self.old seat (Acquire mode n) result self.new }
+        ensures done { IfSome result (λ answer. IsStepped self.old seat step (Ok answer) self.new) }
+        ensures none { IfNone result (self.new ≡ self.old) }
     {
-        let step = Step::Acquire(mode, n);
-        if !self.is_idle(seat) {
-            self.step_in_full(seat, step)
-        } else if self.queues(seat, step, mode, n) {
-            self.record(plain(seat, Word::Queued, mode, n))
-        } else if self.takes(seat, step, mode, n) {
-            self.record(plain(seat, Word::Got, mode, n))
-        } else {
-            self.step_in_full(seat, step)
+        if self.goes_past(seat, step) {
+            return self.answer(entry_at_once(seat, step));
         }
-    }
-
-    /// Performs a release, which names the head of the queue if that could go now.
-    pub(super) fn give(&mut self, seat: u16, mode: Mode, n: u32) -> Result<Answer, Fault>
-        requires { seat < self.old.header.seats }
-        ensures { IsStepped self.old seat (Give mode n) result self.new }
-    {
-        let step = Step::Give(mode, n);
-        if self.is_idle(seat) && self.gives(seat, step, mode, n) {
-            self.record(plain(seat, Word::Gave, mode, n))
-        } else {
-            self.step_in_full(seat, step)
+        match step {
+            Step::Look => self.look(seat),
+            Step::Acquire(mode, n) if self.is_idle(seat) && self.queues(seat, step, mode, n) => {
+                self.answer(plain(seat, Word::Queued, mode, n))
+            }
+            _ => None,
         }
     }
 
     /// Performs a waiter's retry. It acquires if it is the head of the queue and could; otherwise it keeps
-    /// waiting. A waiter that comes back from a condition takes the general path.
-    pub(super) fn look(&mut self, seat: u16) -> Result<Answer, Fault>
+    /// waiting. `None` changes nothing: nobody waits so, or it comes back from a condition.
+    #[inline(always)]
+    fn look(&mut self, seat: u16) -> Option<Answer>
         requires { seat < self.old.header.seats }
-        ensures { IsStepped self.old seat Look result self.new }
+        ensures done { IfSome result (λ answer. IsStepped self.old seat Look (Ok answer) self.new) }
+        ensures none { IfNone result (self.new ≡ self.old) }
     {
+        if self.queue.place_of(seat).is_none() {
+            return None;
+        }
         let Some(first) = self.queue.first() else {
-            return self.step_in_full(seat, Step::Look);
+            return None;
         };
-        if self.is_ready(seat, first) {
-            if first.back {
-                self.step_in_full(seat, Step::Look)
-            } else {
-                self.record(ended(seat, Word::Granted, first, End::None))
-            }
-        } else if self.queue.place_of(seat).is_some() {
+        if !self.is_ready(seat, first) {
             self.sleep(seat);
-            Ok(Answer::Sleep)
+            Some(Answer::Sleep)
+        } else if first.back {
+            None
         } else {
-            self.step_in_full(seat, Step::Look)
+            self.answer(ended(seat, Word::Granted, first, End::None))
         }
     }
 

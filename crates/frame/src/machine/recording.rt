@@ -64,6 +64,20 @@ impl<H: Hooks + Drop> Core<H> {
         let name = self.write(entry, before)?;
         Ok(Answer::Recorded(entry, name))
     }
+
+    /// As `record`. `None` changes nothing: the history had no room or no memory for the entry.
+    #[inline(always)]
+    pub(super) fn answer(&mut self, entry: Entry) -> Option<Answer>
+        requires { IsNext self.old entry }
+        ensures entered { IfSome result (λ answer. IsEntered self.old entry (Ok answer) self.new) }
+        ensures none { IfNone result (self.new ≡ self.old) }
+    {
+        match self.record_at_once(entry) {
+            Some(name) => Some(Answer::Recorded(entry, name)),
+            None => None,
+        }
+    }
+
     /// Records the entry of a step, and returns the waiter that it names. `None` changes nothing: the history
     /// had no room or no memory for it.
     #[inline(always)]

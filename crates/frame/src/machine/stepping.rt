@@ -15,6 +15,7 @@ use history::step::{Answer, Step};
 
 impl<H: Hooks + Drop> Core<H> {
     /// If the seat is in the queue, frees the cancelled nodes right before it.
+    #[inline(always)]
     fn tidy_before(&mut self, seat: u16)
         ensures same { self.new ≡ self.old }
         ensures tidied { WasTidied seat }
@@ -23,6 +24,7 @@ impl<H: Hooks + Drop> Core<H> {
     }
 
     /// Clears the mark of a seat that can't go now.
+    #[inline(always)]
     fn untell(&mut self, seat: u16)
         requires seat { seat < self.old.header.seats }
         requires waits { ready_of self.old ≢ Some seat }
@@ -71,18 +73,15 @@ impl<H: Hooks + Drop> Core<H> {
         }
     }
 
-    /// As [`step`](Core::step), for a step that is not done at once. The most frequent ones have a path of their
-    /// own, on which the entry is known.
-    #[inline(always)]
+    /// As [`step`](Core::step), for a step that is not done at once.
+    #[inline(never)]
     pub fn step_by_kind(&mut self, seat: u16, step: Step) -> Result<Answer, Fault>
         requires { seat < self.old.header.seats }
         ensures { IsStepped self.old seat step result self.new }
     {
-        match step {
-            Step::Acquire(mode, n) => self.acquire(seat, mode, n),
-            Step::Give(mode, n) => self.give(seat, mode, n),
-            Step::Look => self.look(seat),
-            _ => self.step_in_full(seat, step),
+        match self.step_of_kind(seat, step) {
+            Some(answer) => Ok(answer),
+            None => self.step_in_full(seat, step),
         }
     }
 

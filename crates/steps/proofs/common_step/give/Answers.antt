@@ -1,12 +1,9 @@
-use Rattle.std.proofs.Common.{ℕ, List, ◌++◌, codes, ap, ◌∙◌, arith}
-use Rattle.streams.proofs.AskingOnce.{asked_behind}
+use Rattle.std.proofs.Common.{ℕ, List, refl, ◌++◌, codes, ap, ◌∙◌, arith}
+use Rattle.streams.proofs.AskingOnce.{one_spelt}
 use Rattle.steps.proofs.common_step.give.Goals as goal
 
 pub returns : goal.returns
 returns c =
-    let named = c.in_ok-name_end.ensures ∙ ap (λ (t : List ℕ). codes "give" ++ t) c.in_ok-asked.ensures in
-    rw c.give_in.ensures (
-      omega arith,
-      asked_behind (codes "give") c.args.text.now _ (c.in_ok-mode.mode, c.in_ok-mode.left) named
-          c.in_ok-mode.ensures.found,
-    )
+    let asked = c.in_ok-asked.ensures ∙ ap (λ (t : List ℕ). codes " " ++ t) c.in_ok-rest.ensures in
+    let named = c.in_ok-name_end.ensures ∙ ap (λ (t : List ℕ). codes "give" ++ t) asked in
+    (omega arith, rw one_spelt (c.in_ok-rest.rest.now, named, refl))

@@ -1,4 +1,4 @@
-use Rattle.std.proofs.Common.{◌≡◌, Option, Some, None, Result, Ok, sym, subst, ap, ◌∙◌}
+use Rattle.std.proofs.Common.{◌≡◌, Option, Some, None, Result, Ok, sym, subst}
 use Rattle.frame.specs.Below.{Entry, Fault, entry_for}
 use Rattle.history.proofs.Marking.{sleeper_not_ready}
 use Rattle.frame.specs.Core.{start_of}

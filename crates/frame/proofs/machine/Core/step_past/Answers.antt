@@ -1,4 +1,4 @@
-use Rattle.std.proofs.Common.{◌≡◌, ◌∙◌, Some, Ok, ap, sym, subst}
+use Rattle.std.proofs.Common.{◌≡◌, Some, Ok, sym, subst}
 use Rattle.frame.specs.Below.{Entry, entry_for}
 use Rattle.frame.specs.inner.AtOnce.{MakesAtOnce}
 use Rattle.frame.specs.Core.{start_of}
