@@ -7,7 +7,7 @@ import re
 from dataclasses import dataclass, field
 
 HEAD = re.compile(r"(?m)^//! ?(.*)$")
-TYPE = re.compile(r"pub (struct|enum|trait) (\w+)")
+TYPE = re.compile(r"pub (struct|enum|trait|type) (\w+)")
 IMPL = re.compile(r"impl\b(?:<[^{]*?>)? (?:(?:\w+::)*(\w+)(?:<[^{]*?>)? for )?&?(\w+)")
 FUNCTION = re.compile(r"( *)(pub )?(?:const )?fn (\w+)")
 LINK = re.compile(r"\[([^\]]*)\]\([\w:]+\)|\[(`[^`\]]*`)\]")

@@ -4,7 +4,7 @@ ghost use Rattle.driver.specs.inner.Judged.{IsSound};
 
 use crate::choice::Choice;
 use crate::drawn::{legal_front, picture_of};
-use crate::explained::{entry_at, explained_at};
+use crate::explained::{entry_at, explained_at, front};
 use crate::judged::Judged;
 use crate::limits::UNCHOSEN;
 use crate::notation::Notation;
@@ -36,7 +36,7 @@ pub(crate) fn paged_text(
     let next = entry_at(&entries, legal.len() as u64);
     let first = choice.first(folded).min(legal.len() as u64);
     let (before, rest) = legal.split_at(first as usize);
-    let shown = crate::explained::front(rest, end.saturating_sub(first));
+    let shown = front(rest, end.saturating_sub(first));
     let Ok(state) = state_before(base, before) else {
         return Err(AllocError);
     };

@@ -7,7 +7,7 @@ use Rattle.word_lock.proofs.PointLaws.{before_refl, before_trans}
 use Rattle.monitor_fronts.specs.Room.{GivesUp, InRoom, MadeRoom, MonitorCall, at_point}
 use Rattle.monitor_fronts.specs.declared.room.WhenFull.{WhenFull}
 use Rattle.monitor_fronts.specs.declared.room.WhenFull.TheVariants.{Refuse, Trim}
-use Rattle.monitor_fronts.specs.Holding.{Adds, AddsIn, Gains, gained, holds, with_yes}
+use Rattle.monitor_fronts.specs.Holding.{Adds, AddsIn, gained, holds, with_yes}
 use Rattle.monitor_fronts.specs.Returned.{done_of, whether_of, without}
 use Rattle.monitor_fronts.proofs.Counting.{await_holds, of_lock, signal_keeps}
 use Rattle.monitor_fronts.proofs.Exactly.{acquire_gains, by_own, still, try_gains, waits_to_the_end}
@@ -47,33 +47,15 @@ in_room is Trim call old new r same later none each x = by x.ends
         (before_trans old.seen x.from new.seen begins
         (before_trans x.from back.full new.seen back.begins back.trim.after)))
 
--- an acquire adds a hold exactly where it says so
-pub acquires_gain : (w : WhenFull) (did : Deed → Type 0) (how : How) (old new : Shown)
-    (r : Result Entry Fault) → IsSame old new →
-    Acquires w did X 1 how old new r → Gains old (whether_of r) new
-acquires_gain w did how old new r same x = λ lock.
-    in_room (λ (from : Shown). λ (z : Result Entry Fault). holds new ≡ holds from + gained (whether_of z)) w _
-    old new r same (λ p b y. y) (λ f none b. (still old new X f same none).own)
-    (λ from z of at c. (acquire_gains did from new X how z (of_lock of lock) at c).own) x
-
--- and so does a try
-pub tries_gain : (w : WhenFull) (did : Deed → Type 0) (step : Step) (old new : Shown)
-    (r : Result Entry Fault) → IsSame old new → Steps w did step old new r →
-    step ≡ Try X 1 → Gains old (whether_of r) new
-tries_gain w did step old new r same x is = λ lock.
-    in_room (λ (from : Shown). λ (z : Result Entry Fault). holds new ≡ holds from + gained (whether_of z)) w _
-    old new r same (λ p b y. y) (λ f none b. (still old new X f same none).own)
-    (λ from z of at c. (try_gains did from new X z (of_lock of lock) at c).own)
-    (subst (λ (s : Step). Steps w did s old new r) is x)
-
 -- an acquire in a mode adds a hold there exactly where it says so, and none in the other
-pub acquires_add : (w : WhenFull) (did : Deed → Type 0) (m : Mode) (how : How) (old new : Shown)
-    (r : Result Entry Fault) → IsSame old new →
-    Acquires w did m 1 how old new r → AddsIn m old (whether_of r) new
-acquires_add w did m how old new r same x = λ lock.
+pub acquires_add : (w : WhenFull) (did : Deed → Type 0) (m : Mode) (n : ℕ) (how : How) (old new : Shown)
+    (r : Result Entry Fault) → IsSame old new → Acquires w did m n how old new r →
+    n ≡ 1 → AddsIn m old (whether_of r) new
+acquires_add w did m n how old new r same x is = λ lock.
     in_room (λ (from : Shown). λ (z : Result Entry Fault). Adds m from (whether_of z) new) w _ old new r same
     (λ p b y. record { own = y.own; others = y.others }) (λ f none b. still old new m f same none)
-    (λ from z of at c. acquire_gains did from new m how z (of_lock of lock) at c) x
+    (λ from z of at c. acquire_gains did from new m how z (of_lock of lock) at c)
+    (subst (λ (k : ℕ). Acquires w did m k how old new r) is x)
 
 pub tries_add : (w : WhenFull) (did : Deed → Type 0) (step : Step) (m : Mode) (old new : Shown)
     (r : Result Entry Fault) → IsSame old new → Steps w did step old new r →
@@ -141,12 +123,6 @@ same_told : (t : Result Bool Fault) → (t ≡ Ok false → ⊥) → gained (wit
 same_told (Err f) never = refl
 same_told (Ok true) never = refl
 same_told (Ok false) never = absurd (never refl)
-
-pub untimed_gain : (w : WhenFull) (did : Deed → Type 0) (how : How) (old new : Shown)
-    (r : Result Entry Fault) → (is_timed how → ⊥) → IsSame old new → Acquires w did X 1 how old new r →
-    gained (with_yes (done_of r)) ≡ gained (whether_of r)
-untimed_gain w did how old new r untimed same x =
-    same_told (whether_of r) (never_missed w did X 1 how old new r untimed same x)
 
 -- an acquire without a time limit, of which only is told that it got the lock
 pub untimed_adds : (w : WhenFull) (did : Deed → Type 0) (m : Mode) (how : How) (old new : Shown)

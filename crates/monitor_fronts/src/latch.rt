@@ -5,20 +5,19 @@ ghost use Rattle.history.specs.declared.entry.Mode.TheVariants.{S};
 ghost use Rattle.history.specs.declared.step.Step.TheVariants.{Give};
 ghost use Rattle.monitor.specs.Calling.{CanCall, Called};
 ghost use Rattle.monitor.specs.declared.how.How.TheVariants.{Interruptible, Timed};
-ghost use Rattle.monitor_fronts.specs.declared.room.WhenFull.TheVariants.{Trim};
 ghost use Rattle.monitor_fronts.specs.CountingDown.{CountsDown, FallsBy, IsOpen, WasShut};
 ghost use Rattle.monitor_fronts.specs.FrontCalls.{Acquires, LastsUntil, Steps};
 ghost use Rattle.monitor_fronts.specs.Holding.{gained, with_yes};
 ghost use Rattle.monitor_fronts.specs.Returned.{ReturnedAs, done_of, whether_of};
 
+use crate::front::Front;
 use crate::returned::{done, whether};
-use crate::room::{WhenFull, call_in_room, enter_in_room};
 use crate::until::milliseconds_left;
 use counting::latch::LatchHooks;
-use history::entry::{Entry, Mode};
+use history::entry::Mode;
 use history::fault::Fault;
 use history::step::Step;
-use monitor::{Empty, How, Monitor, Pass, Request};
+use monitor::{How, Pass};
 use permit::Parking;
 use std::sync::Wait;
 use std::time::Clock;
@@ -31,31 +30,9 @@ use std::time::Clock;
 ///
 /// The count never rises. `count_at point` is the count in a history, and `IsOpen pass` says that it is 0 in the history
 /// that the pass has seen.
-#[derive(Clone, Copy)]
-pub struct Latch<'m> {
-    pub monitor: &'m Monitor<LatchHooks>,
-    /// What a call does if it finds the history full.
-    pub when_full: WhenFull,
-}
+pub type Latch<'m> = Front<'m, LatchHooks>;
 
 impl<'m> Latch<'m> {
-    /// Returns a front over this monitor, which it borrows. A call that finds the history full folds it and
-    /// goes on ([`WhenFull::Trim`]).
-    pub fn of(monitor: &'m Monitor<LatchHooks>) -> Self
-        ensures monitor { result.monitor.now ≡ monitor.now }
-        ensures when_full { result.when_full ≡ Trim }
-    {
-        Latch::of_when_full(monitor, WhenFull::Trim)
-    }
-
-    /// The same. `when_full` says what a call does if it finds the history full.
-    pub fn of_when_full(monitor: &'m Monitor<LatchHooks>, when_full: WhenFull) -> Self
-        ensures monitor { result.monitor.now ≡ monitor.now }
-        ensures when_full { result.when_full ≡ when_full }
-    {
-        Latch { monitor, when_full }
-    }
-
     /// `CountDownLatch.await()`: waits until the count is 0. `Err(Interrupted)` where Java throws
     /// `InterruptedException`. After an `Ok` the count is 0 for good, since it never rises.
     pub fn await_zero<P: Parking, R: Wait + Clock>(
@@ -71,7 +48,7 @@ impl<'m> Latch<'m> {
         ensures open { IfOk result (λ _. IsOpen pass.new) }
         ensures falls { FallsBy 0 pass.old pass.new }
     {
-        done(self.acquire_as(rt, parking, pass, How::Interruptible))
+        done(self.acquire_as(rt, parking, pass, Mode::S, 1, How::Interruptible))
     }
 
     /// `CountDownLatch.await(timeout, unit)`: whether the count was 0 within `ms` milliseconds. `Ok(false)` says that
@@ -92,7 +69,7 @@ impl<'m> Latch<'m> {
             → WasShut pass.old pass.new }
         ensures falls { FallsBy 0 pass.old pass.new }
     {
-        whether(self.acquire_as(rt, parking, pass, How::Timed(ms)))
+        whether(self.acquire_as(rt, parking, pass, Mode::S, 1, How::Timed(ms)))
     }
 
     /// [`await_zero_for`](Latch::await_zero_for) until a moment on the clock of the parking, which
@@ -131,40 +108,6 @@ impl<'m> Latch<'m> {
         ensures counts { CountsDown pass.old (with_yes result) pass.new }
         ensures falls { FallsBy (gained (with_yes result)) pass.old pass.new }
     {
-        let step = Step::Give(Mode::S, 1);
-        done(enter_in_room(
-            self.monitor,
-            rt,
-            parking,
-            pass,
-            &mut Empty {},
-            step,
-            self.when_full,
-        ))
-    }
-
-    // An acquire, which makes room if this front trims.
-    fn acquire_as<P: Parking, R: Wait + Clock>(
-        &self,
-        rt: &R,
-        parking: &P,
-        pass: &mut Pass,
-        how: How,
-    ) -> Result<Entry, Fault>
-        requires can { CanCall self.now.monitor.now (P.seats parking.now) pass.old }
-        ensures called { Called pass.old pass.new }
-        ensures acquired { Acquires self.now.when_full (P.did parking.now) S 1 how pass.old pass.new result }
-    {
-        let request = Request::Acquire(Mode::S, 1);
-        call_in_room(
-            self.monitor,
-            rt,
-            parking,
-            pass,
-            &mut Empty {},
-            request,
-            how,
-            self.when_full,
-        )
+        done(self.enter(rt, parking, pass, Step::Give(Mode::S, 1)))
     }
 }

@@ -19,6 +19,7 @@
 //! folds, so on average a call that trims pays for as many entries as it makes.
 #![tactic(auto)]
 
+mod front;
 mod latch;
 mod lock;
 mod openings;
@@ -29,6 +30,7 @@ mod room;
 mod semaphore;
 mod until;
 
+pub use front::Front;
 pub use latch::Latch;
 pub use lock::ReentrantLock;
 pub use openings::{open_latch, open_lock, open_read_write_lock, open_semaphore};

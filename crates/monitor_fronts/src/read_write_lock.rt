@@ -1,26 +1,24 @@
 //! A lock that one writer or many readers have.
-ghost use Rattle.std.specs.Prelude.{◌≡◌, ◌<◌, false, true, IsOk};
+ghost use Rattle.std.specs.Prelude.{◌≡◌, ◌<◌, true, IsOk};
 ghost use Rattle.history.specs.Object.{is_lock};
 ghost use Rattle.history.specs.Phase.{waits};
 ghost use Rattle.history.specs.declared.entry.Mode.{Mode};
 ghost use Rattle.history.specs.declared.entry.Mode.TheVariants.{X, S};
 ghost use Rattle.history.specs.declared.step.Step.TheVariants.{Try, Give, Signal, SignalAll};
 ghost use Rattle.monitor.specs.Calling.{CanCall, Called};
-ghost use Rattle.monitor.specs.inner.Load.{is_signal};
 ghost use Rattle.monitor.specs.Stepping.{IsEntered};
 ghost use Rattle.monitor.specs.declared.how.How.TheVariants.{Plain, Interruptible, Timed};
-ghost use Rattle.monitor_fronts.specs.declared.room.WhenFull.TheVariants.{Trim};
 ghost use Rattle.monitor_fronts.specs.FrontCalls.{Acquires, Awaits, LastsUntil, Steps};
 ghost use Rattle.monitor_fronts.specs.Holding.{AddsIn, TakesIn, holds, with_yes};
 ghost use Rattle.monitor_fronts.specs.Returned.{ReturnedAs, done_of, whether_of};
 
+use crate::front::Front;
 use crate::returned::{done, whether};
-use crate::room::{WhenFull, call_in_room, enter_in_room};
 use crate::until::milliseconds_left;
-use history::entry::{Entry, Mode};
+use history::entry::Mode;
 use history::fault::Fault;
 use history::step::Step;
-use monitor::{Empty, How, Monitor, Pass, Request};
+use monitor::{How, Pass};
 use permit::Parking;
 use read_write::hooks::RwHooks;
 use std::sync::Wait;
@@ -32,31 +30,9 @@ use std::time::Clock;
 /// A call that finds the history full folds it and goes on, or returns `Err(HistoryFull)` if `when_full` says
 /// so. An unlock by an owner never lacks room. A lock and an unlock cost one entry each, and a lock that
 /// waits costs two.
-#[derive(Clone, Copy)]
-pub struct ReadWriteLock<'m> {
-    pub monitor: &'m Monitor<RwHooks>,
-    /// What a call does if it finds the history full.
-    pub when_full: WhenFull,
-}
+pub type ReadWriteLock<'m> = Front<'m, RwHooks>;
 
 impl<'m> ReadWriteLock<'m> {
-    /// Returns a front over this monitor, which it borrows. A call that finds the history full folds it and
-    /// goes on ([`WhenFull::Trim`]).
-    pub fn of(monitor: &'m Monitor<RwHooks>) -> Self
-        ensures monitor { result.monitor.now ≡ monitor.now }
-        ensures when_full { result.when_full ≡ Trim }
-    {
-        ReadWriteLock::of_when_full(monitor, WhenFull::Trim)
-    }
-
-    /// The same. `when_full` says what a call does if it finds the history full.
-    pub fn of_when_full(monitor: &'m Monitor<RwHooks>, when_full: WhenFull) -> Self
-        ensures monitor { result.monitor.now ≡ monitor.now }
-        ensures when_full { result.when_full ≡ when_full }
-    {
-        ReadWriteLock { monitor, when_full }
-    }
-
     /// `WriteLock.lock()`: waits until it has the lock. An interrupt doesn't end the wait.
     /// `Err(TooManyHolds)` where Java throws an `Error`.
     pub fn write_lock<P: Parking, R: Wait + Clock>(
@@ -71,7 +47,7 @@ impl<'m> ReadWriteLock<'m> {
             (Acquires self.now.when_full (P.did parking.now) X 1 Plain pass.old pass.new) result }
         ensures gains { AddsIn X pass.old (with_yes result) pass.new }
     {
-        done(self.acquire_as(rt, parking, pass, Mode::X, How::Plain))
+        done(self.acquire_as(rt, parking, pass, Mode::X, 1, How::Plain))
     }
 
     /// `WriteLock.lockInterruptibly()`: `Err(Interrupted)` where Java throws `InterruptedException`.
@@ -87,7 +63,7 @@ impl<'m> ReadWriteLock<'m> {
             (Acquires self.now.when_full (P.did parking.now) X 1 Interruptible pass.old pass.new) result }
         ensures gains { AddsIn X pass.old (with_yes result) pass.new }
     {
-        done(self.acquire_as(rt, parking, pass, Mode::X, How::Interruptible))
+        done(self.acquire_as(rt, parking, pass, Mode::X, 1, How::Interruptible))
     }
 
     /// `WriteLock.tryLock()`: whether it got the lock. It overtakes waiters, in a fair lock too, but not in a
@@ -123,7 +99,7 @@ impl<'m> ReadWriteLock<'m> {
             (Acquires self.now.when_full (P.did parking.now) X 1 (Timed ms) pass.old pass.new) result }
         ensures gains { AddsIn X pass.old result pass.new }
     {
-        whether(self.acquire_as(rt, parking, pass, Mode::X, How::Timed(ms)))
+        whether(self.acquire_as(rt, parking, pass, Mode::X, 1, How::Timed(ms)))
     }
 
     /// [`write_try_lock_for`](ReadWriteLock::write_try_lock_for) until a moment on the clock of the parking,
@@ -287,7 +263,7 @@ impl<'m> ReadWriteLock<'m> {
             (Acquires self.now.when_full (P.did parking.now) S 1 Plain pass.old pass.new) result }
         ensures gains { AddsIn S pass.old (with_yes result) pass.new }
     {
-        done(self.acquire_as(rt, parking, pass, Mode::S, How::Plain))
+        done(self.acquire_as(rt, parking, pass, Mode::S, 1, How::Plain))
     }
 
     /// `ReadLock.lockInterruptibly()`: `Err(Interrupted)` where Java throws `InterruptedException`.
@@ -303,7 +279,7 @@ impl<'m> ReadWriteLock<'m> {
             (Acquires self.now.when_full (P.did parking.now) S 1 Interruptible pass.old pass.new) result }
         ensures gains { AddsIn S pass.old (with_yes result) pass.new }
     {
-        done(self.acquire_as(rt, parking, pass, Mode::S, How::Interruptible))
+        done(self.acquire_as(rt, parking, pass, Mode::S, 1, How::Interruptible))
     }
 
     /// `ReadLock.tryLock()`: whether it got the lock. It overtakes waiters, in a fair lock too, but not in a
@@ -339,7 +315,7 @@ impl<'m> ReadWriteLock<'m> {
             (Acquires self.now.when_full (P.did parking.now) S 1 (Timed ms) pass.old pass.new) result }
         ensures gains { AddsIn S pass.old result pass.new }
     {
-        whether(self.acquire_as(rt, parking, pass, Mode::S, How::Timed(ms)))
+        whether(self.acquire_as(rt, parking, pass, Mode::S, 1, How::Timed(ms)))
     }
 
     /// [`read_try_lock_for`](ReadWriteLock::read_try_lock_for) until a moment on the clock of the parking,
@@ -375,87 +351,5 @@ impl<'m> ReadWriteLock<'m> {
         ensures loses { TakesIn S pass.old (with_yes result) pass.new }
     {
         done(self.monitor.release(rt, parking, pass, Mode::S, 1))
-    }
-
-    // An acquire, which makes room if this front trims.
-    fn acquire_as<P: Parking, R: Wait + Clock>(
-        &self,
-        rt: &R,
-        parking: &P,
-        pass: &mut Pass,
-        mode: Mode,
-        how: How,
-    ) -> Result<Entry, Fault>
-        requires can { CanCall self.now.monitor.now (P.seats parking.now) pass.old }
-        ensures called { Called pass.old pass.new }
-        ensures acquired { Acquires self.now.when_full (P.did parking.now) mode 1 how pass.old pass.new
-            result }
-        ensures gains { AddsIn mode pass.old (whether_of result) pass.new }
-    {
-        let request = Request::Acquire(mode, 1);
-        call_in_room(
-            self.monitor,
-            rt,
-            parking,
-            pass,
-            &mut Empty {},
-            request,
-            how,
-            self.when_full,
-        )
-    }
-
-    // An await, which makes room if this front trims.
-    fn wait_as<P: Parking, R: Wait + Clock>(
-        &self,
-        rt: &R,
-        parking: &P,
-        pass: &mut Pass,
-        condition: u8,
-        how: How,
-    ) -> Result<Entry, Fault>
-        requires can { CanCall self.now.monitor.now (P.seats parking.now) pass.old }
-        ensures called { Called pass.old pass.new }
-        ensures awaited { Awaits self.now.when_full (P.did parking.now) condition how pass.old pass.new
-            result }
-        ensures keeps { holds pass.new ≡ holds pass.old }
-    {
-        let request = Request::AwaitOn(condition);
-        call_in_room(
-            self.monitor,
-            rt,
-            parking,
-            pass,
-            &mut Empty {},
-            request,
-            how,
-            self.when_full,
-        )
-    }
-
-    // A step that doesn't wait, which makes room if this front trims.
-    fn enter<P: Parking, R: Wait + Clock>(
-        &self,
-        rt: &R,
-        parking: &P,
-        pass: &mut Pass,
-        step: Step,
-    ) -> Result<Entry, Fault>
-        requires can { CanCall self.now.monitor.now (P.seats parking.now) pass.old }
-        requires idle { waits step ≡ false }
-        ensures called { Called pass.old pass.new }
-        ensures entered { Steps self.now.when_full (P.did parking.now) step pass.old pass.new result }
-        ensures gains { (m : Mode) → step ≡ Try m 1 → AddsIn m pass.old (whether_of result) pass.new }
-        ensures keeps { is_signal step ≡ true → holds pass.new ≡ holds pass.old }
-    {
-        enter_in_room(
-            self.monitor,
-            rt,
-            parking,
-            pass,
-            &mut Empty {},
-            step,
-            self.when_full,
-        )
     }
 }

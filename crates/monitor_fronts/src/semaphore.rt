@@ -1,25 +1,23 @@
 //! Permits to acquire and release.
-ghost use Rattle.std.specs.Prelude.{◌≡◌, false};
 ghost use Rattle.history.specs.Phase.{waits};
 ghost use Rattle.history.specs.declared.entry.Mode.TheVariants.{S};
 ghost use Rattle.history.specs.declared.step.Step.TheVariants.{Try, Give, Drain};
 ghost use Rattle.monitor.specs.Calling.{CanCall, Called};
 ghost use Rattle.monitor.specs.declared.how.How.TheVariants.{Plain, Interruptible, Timed};
-ghost use Rattle.monitor_fronts.specs.declared.room.WhenFull.TheVariants.{Trim};
 ghost use Rattle.monitor_fronts.specs.FrontCalls.{Acquires, LastsUntil, Steps};
 ghost use Rattle.monitor_fronts.specs.Holding.{with_yes};
 ghost use Rattle.monitor_fronts.specs.Permits.{DrainsFree, DrainsPermits, GivesFree, GivesPermits};
 ghost use Rattle.monitor_fronts.specs.Permits.{TakesFree, TakesPermits};
 ghost use Rattle.monitor_fronts.specs.Returned.{ReturnedAs, done_of, number_of, whether_of};
 
+use crate::front::Front;
 use crate::returned::{done, number, whether};
-use crate::room::{WhenFull, call_in_room, enter_in_room};
 use crate::until::milliseconds_left;
 use counting::semaphore::SemaphoreHooks;
-use history::entry::{Entry, Mode};
+use history::entry::Mode;
 use history::fault::Fault;
 use history::step::Step;
-use monitor::{Empty, How, Monitor, Pass, Request};
+use monitor::{How, Pass};
 use permit::Parking;
 use std::sync::Wait;
 use std::time::Clock;
@@ -33,31 +31,9 @@ use std::time::Clock;
 ///
 /// A contract speaks of two numbers: `permits pass` is what the pass took less what it gave back, and `free_at point`
 /// is how many permits are free in a history.
-#[derive(Clone, Copy)]
-pub struct Semaphore<'m> {
-    pub monitor: &'m Monitor<SemaphoreHooks>,
-    /// What a call does if it finds the history full.
-    pub when_full: WhenFull,
-}
+pub type Semaphore<'m> = Front<'m, SemaphoreHooks>;
 
 impl<'m> Semaphore<'m> {
-    /// Returns a front over this monitor, which it borrows. A call that finds the history full folds it and
-    /// goes on ([`WhenFull::Trim`]).
-    pub fn of(monitor: &'m Monitor<SemaphoreHooks>) -> Self
-        ensures monitor { result.monitor.now ≡ monitor.now }
-        ensures when_full { result.when_full ≡ Trim }
-    {
-        Semaphore::of_when_full(monitor, WhenFull::Trim)
-    }
-
-    /// The same. `when_full` says what a call does if it finds the history full.
-    pub fn of_when_full(monitor: &'m Monitor<SemaphoreHooks>, when_full: WhenFull) -> Self
-        ensures monitor { result.monitor.now ≡ monitor.now }
-        ensures when_full { result.when_full ≡ when_full }
-    {
-        Semaphore { monitor, when_full }
-    }
-
     /// `Semaphore.acquire(permits)`: waits until `n` permits are free. `Err(Interrupted)` where Java throws
     /// `InterruptedException`.
     pub fn acquire<P: Parking, R: Wait + Clock>(
@@ -74,7 +50,7 @@ impl<'m> Semaphore<'m> {
         ensures takes { TakesPermits n pass.old (with_yes result) pass.new }
         ensures free { TakesFree n pass.old (with_yes result) pass.new }
     {
-        done(self.acquire_as(rt, parking, pass, n, How::Interruptible))
+        done(self.acquire_as(rt, parking, pass, Mode::S, n, How::Interruptible))
     }
 
     /// `Semaphore.acquireUninterruptibly(permits)`.
@@ -92,7 +68,7 @@ impl<'m> Semaphore<'m> {
         ensures takes { TakesPermits n pass.old (with_yes result) pass.new }
         ensures free { TakesFree n pass.old (with_yes result) pass.new }
     {
-        done(self.acquire_as(rt, parking, pass, n, How::Plain))
+        done(self.acquire_as(rt, parking, pass, Mode::S, n, How::Plain))
     }
 
     /// `Semaphore.tryAcquire(permits)`: whether `n` permits were free. It overtakes waiters, in a fair
@@ -131,7 +107,7 @@ impl<'m> Semaphore<'m> {
         ensures takes { TakesPermits n pass.old result pass.new }
         ensures free { TakesFree n pass.old result pass.new }
     {
-        whether(self.acquire_as(rt, parking, pass, n, How::Timed(ms)))
+        whether(self.acquire_as(rt, parking, pass, Mode::S, n, How::Timed(ms)))
     }
 
     /// [`try_acquire_for`](Semaphore::try_acquire_for) until a moment on the clock of the parking, which
@@ -189,55 +165,5 @@ impl<'m> Semaphore<'m> {
         ensures free { DrainsFree pass.old result pass.new }
     {
         number(self.enter(rt, parking, pass, Step::Drain))
-    }
-
-    // An acquire, which makes room if this front trims.
-    fn acquire_as<P: Parking, R: Wait + Clock>(
-        &self,
-        rt: &R,
-        parking: &P,
-        pass: &mut Pass,
-        n: u32,
-        how: How,
-    ) -> Result<Entry, Fault>
-        requires can { CanCall self.now.monitor.now (P.seats parking.now) pass.old }
-        ensures called { Called pass.old pass.new }
-        ensures acquired { Acquires self.now.when_full (P.did parking.now) S n how pass.old pass.new result }
-    {
-        let request = Request::Acquire(Mode::S, n);
-        call_in_room(
-            self.monitor,
-            rt,
-            parking,
-            pass,
-            &mut Empty {},
-            request,
-            how,
-            self.when_full,
-        )
-    }
-
-    // A step that doesn't wait, which makes room if this front trims.
-    fn enter<P: Parking, R: Wait + Clock>(
-        &self,
-        rt: &R,
-        parking: &P,
-        pass: &mut Pass,
-        step: Step,
-    ) -> Result<Entry, Fault>
-        requires can { CanCall self.now.monitor.now (P.seats parking.now) pass.old }
-        requires idle { waits step ≡ false }
-        ensures called { Called pass.old pass.new }
-        ensures entered { Steps self.now.when_full (P.did parking.now) step pass.old pass.new result }
-    {
-        enter_in_room(
-            self.monitor,
-            rt,
-            parking,
-            pass,
-            &mut Empty {},
-            step,
-            self.when_full,
-        )
     }
 }
