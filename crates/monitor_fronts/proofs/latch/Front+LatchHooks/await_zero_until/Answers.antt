@@ -1,5 +1,0 @@
-use Rattle.monitor_fronts.proofs.latch.Front+LatchHooks.await_zero_until.Goals as goal
-
-pub returns-clause-acquired : goal.returns-clause-acquired
-returns-clause-acquired g c =
-    (c.milliseconds_left-ms.result, c.milliseconds_left-ms.ensures, c.await_zero_for.ensures.acquired)

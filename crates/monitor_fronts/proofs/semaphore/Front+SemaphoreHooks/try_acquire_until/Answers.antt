@@ -1,5 +1,0 @@
-use Rattle.monitor_fronts.proofs.semaphore.Front+SemaphoreHooks.try_acquire_until.Goals as goal
-
-pub returns-clause-acquired : goal.returns-clause-acquired
-returns-clause-acquired g c =
-    (c.milliseconds_left-ms.result, c.milliseconds_left-ms.ensures, c.try_acquire_for.ensures.acquired)
