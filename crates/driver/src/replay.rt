@@ -64,7 +64,7 @@ fn answer_step<H: Hooks + Drop>(
     requires { seat < core.old.header.seats }
     ensures { OnOk result (IsStepLogged core.old tape.old seat step core.new tape.new) }
 {
-    let answer = core.step_by_kind(seat, step);
+    let answer = core.step(seat, step);
     keep(core, tape, seat, answer)
 }
 
@@ -79,30 +79,15 @@ fn at_once<H: Hooks + Drop>(
     requires { seat < core.old.header.seats }
     ensures { OnOk result (IsStepLogged core.old tape.old seat step core.new tape.new) }
 {
-    match core.step_at_once(seat, step) {
-        Some(name) => {
-            let entry = entry_at_once(seat, step);
-            keep(core, tape, seat, Ok(Answer::Recorded(entry, name)))
-        }
-        None => answer_step(core, tape, seat, step),
-    }
-}
-
-/// As `answer_step`, for a known step of the commonest kinds, while somebody waits.
-#[inline(always)]
-fn of_kind<H: Hooks + Drop>(
-    core: &mut Core<H>,
-    tape: &mut Tape,
-    seat: u16,
-    step: Step,
-) -> Result<(), AllocError>
-    requires { seat < core.old.header.seats }
-    ensures { OnOk result (IsStepLogged core.old tape.old seat step core.new tape.new) }
-{
-    match core.step_of_kind(seat, step) {
-        Some(answer) => keep(core, tape, seat, Ok(answer)),
-        None => answer_step(core, tape, seat, step),
-    }
+    let Some(name) = core.step_at_once(seat, step) else {
+        return answer_step(core, tape, seat, step);
+    };
+    keep(
+        core,
+        tape,
+        seat,
+        Ok(Answer::Recorded(entry_at_once(seat, step), name)),
+    )
 }
 
 // The next three are called for most steps of a lock that is asked for. Each knows its step.
@@ -111,7 +96,8 @@ fn queue<H: Hooks + Drop>(core: &mut Core<H>, tape: &mut Tape, seat: u16) -> Res
     requires { seat < core.old.header.seats }
     ensures { OnOk result (IsStepLogged core.old tape.old seat (Step.Acquire Mode.X 1) core.new tape.new) }
 {
-    of_kind(core, tape, seat, Step::Acquire(Mode::X, 1))
+    let answer = core.step_by_kind(seat, Step::Acquire(Mode::X, 1));
+    keep(core, tape, seat, answer)
 }
 
 #[inline(never)]
@@ -119,7 +105,7 @@ fn give<H: Hooks + Drop>(core: &mut Core<H>, tape: &mut Tape, seat: u16) -> Resu
     requires { seat < core.old.header.seats }
     ensures { OnOk result (IsStepLogged core.old tape.old seat (Step.Give Mode.X 1) core.new tape.new) }
 {
-    of_kind(core, tape, seat, Step::Give(Mode::X, 1))
+    at_once(core, tape, seat, Step::Give(Mode::X, 1))
 }
 
 #[inline(never)]
@@ -127,7 +113,8 @@ fn look<H: Hooks + Drop>(core: &mut Core<H>, tape: &mut Tape, seat: u16) -> Resu
     requires { seat < core.old.header.seats }
     ensures { OnOk result (IsStepLogged core.old tape.old seat Step.Look core.new tape.new) }
 {
-    of_kind(core, tape, seat, Step::Look)
+    let answer = core.step_by_kind(seat, Step::Look);
+    keep(core, tape, seat, answer)
 }
 
 /// Performs a common step, and keeps its line. In most arms the step is known.
