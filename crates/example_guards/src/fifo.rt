@@ -2,7 +2,7 @@
 //!
 //! All that was put stands in a journal. The lock keeps the invariant that what was taken is its beginning, and what
 //! waits is the rest. A ledger counts what was taken: who has the whole share knows the number of what it takes next.
-ghost use Rattle.std.specs.Prelude.{◌≡◌, ◌+◌, ◌<◌, IfNone, IfOk, IfSome};
+ghost use Rattle.std.specs.Prelude.{◌≡◌, ◌+◌, ◌<◌, IfErr, IfNone, IfOk, IfSome};
 ghost use Rattle.boxcar.specs.Table.{Shows};
 ghost use Rattle.example_guards.specs.Places.{IsInOrder, IsTaken};
 ghost use Rattle.guarded.specs.Guarding.{CanLock};
@@ -54,6 +54,8 @@ impl<K: Named + Ledger> Queue<K> {
         ensures item { IfOk result (λ receipt. receipt.value ≡ item) }
         ensures place { IfOk result (λ receipt. receipt.index ≡ self.old.journal.length) }
         ensures put { IfOk result (λ _. self.new.journal.length ≡ self.old.journal.length + 1) }
+        ensures stays { IfErr result (λ _. (self.new.waiting.items ≡ self.old.waiting.items)
+            × (self.new.journal.length ≡ self.old.journal.length)) }
         ensures taken { self.new.taken ≡ self.old.taken }
     {
         self.waiting.reserve(1)?;
@@ -73,6 +75,7 @@ impl<K: Named + Ledger> Queue<K> {
         ensures first { IfSome result (λ receipt. receipt.index ≡ mine.old.amount) }
         ensures counted { IfSome result (λ _. mine.new.amount ≡ mine.old.amount + 1) }
         ensures none { IfNone result ((self.old.taken ≡ self.old.journal.length) × (mine.new ≡ mine.old)) }
+        ensures journal { self.new.journal.length ≡ self.old.journal.length }
         ensures parts { mine.new.parts ≡ mine.old.parts }
     {
         let receipt = self.waiting.pop_front()?;
@@ -114,6 +117,8 @@ fn take<K: Named + Ledger, R: Wait + Clock>(
     ensures shows { IfOk result (λ taken. IfSome taken (Shows K.table)) }
     ensures first { IfOk result (λ taken. IfSome taken (λ receipt. receipt.index ≡ mine.old.amount)) }
     ensures counted { IfOk result (λ taken. IfSome taken (λ _. mine.new.amount ≡ mine.old.amount + 1)) }
+    ensures none { IfOk result (λ taken. IfNone taken (mine.new ≡ mine.old)) }
+    ensures stays { IfErr result (λ _. mine.new ≡ mine.old) }
     ensures parts { mine.new.parts ≡ mine.old.parts }
 {
     let mut guard = Mutex::lock(pass, queue, rt, parking)?;
