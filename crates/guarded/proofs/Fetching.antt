@@ -1,5 +1,5 @@
 -- What the calls of a pool leave of the free permits, and so of the items that one has.
-use Rattle.std.proofs.Common.{◌≡◌, ℕ, Bool, true, false, cond, List, [], ◌∷◌, length, Option, None, IfErr, Result, Ok, Err, sym, ap, ◌∙◌, subst, arith, ℤ, pos, ◌+ℤ◌, ◌-ℤ◌}
+use Rattle.std.proofs.Common.{◌≡◌, ℕ, Bool, true, false, cond, length, Option, None, Result, Ok, Err, sym, ap, ◌∙◌, subst, arith, ℤ, pos, ◌+ℤ◌, ◌-ℤ◌}
 use Rattle.std.proofs.lemmas.Int.{ints}
 use Rattle.guarded.specs.Below.{Entry, Fault, is_semaphore, Deed, LockId, is_timed, Moves, free_of, Shown, IsSound, IsSame, How, WhenFull, if_ok, is_done, whether_of}
 use Rattle.monitor_fronts.proofs.Permits.{Acquiring, Left, MayTell, PermitCall, Releasing, Trying, free_if, permits_left}
@@ -70,12 +70,6 @@ pub never_none : {A : Type 0} (n : ℕ) (how : How) (got : Option A) → (is_tim
     Answers (asks.Acquire n how) (yes_if_some (Ok got)) → ⊥
 never_none {A} n how got never none answers =
     never (subst (λ (z : Option A). Answers (asks.Acquire n how) (yes_if_some (Ok z))) none answers)
-
--- the item that comes back is the one that went out
-pub same_item : {A : Type 0} (items : List A) (item : A) (r : Result (Unit {0}) (A × Fault)) →
-    items ≡ item ∷ [] → IfErr r (λ e. items ≡ e.0 ∷ []) → IfErr r (λ e. e.0 ≡ item)
-same_item items item (Ok u) is back = tt
-same_item items item (Err e) is back = let q : e.0 ∷ [] ≡ item ∷ [] = sym back ∙ is in cc
 
 -- a drain leaves as many items on its shelf as it returns
 pub drained_items : {T I : Type 0} (fit : Shelf T I → Type 0) (x y : Shelf T I) (f g : ℤ) (r : Result ℕ Fault) →

@@ -1,13 +1,9 @@
 -- What the calls of readers leave of a pass's holds.
-use Rattle.std.proofs.Common.{◌≡◌, ℕ, ◌<◌, true, Option, Some, None, Result, Err, sym, ap, ◌∙◌, subst, arith}
-use Rattle.guarded.specs.Below.{Entry, How, Mode, X, S, Fault, counts, held, is_lock, opening, Deed, start_at, holds_of, IsLook, Shown, IsSound, IsSame, WhenFull, holds, whether_of}
+use Rattle.std.proofs.Common.{◌≡◌, ℕ, ◌<◌, ap, subst, arith}
+use Rattle.guarded.specs.Below.{Mode, X, S, counts, held, opening, start_at, holds_of, IsLook, Shown, IsSound, holds}
 use Rattle.history.proofs.GoodFolds.{owned_behind}
 use Rattle.monitor.proofs.Loads.{true_holds}
-use Rattle.monitor_fronts.proofs.Counting.{of_lock}
-use Rattle.monitor_fronts.proofs.Exactly.{acquire_gains, still, try_gains}
-use Rattle.monitor_fronts.proofs.MakingRoom.{in_room}
-use Rattle.guarded.specs.Prelude.{GainsReads, reads, IsFull, Slot, Empty, Full, Lent}
-use Rattle.guarded.specs.inner.Reading.{reading_of}
+use Rattle.guarded.specs.Prelude.{reads, IsFull, Slot, Empty, Full, Lent}
 use Rattle.guarded.specs.inner.Stowed.{Lies}
 
 -- a look leaves a pass's holds
@@ -34,25 +30,3 @@ value_lies inv p Empty shows some none lies never =
     let had = ap (λ (j : ℕ). held (start_at s) s.entries j X) same in
     let writes = writer.1 in
     omega (arith, had, writes, away)
-
--- a call that failed and recorded nothing adds none
-still_reads : (old new : Shown) (f : Fault) → IsSame old new → new.mine ≡ old.mine → GainsReads old (Err f) new
-still_reads old new f same mine =
-    let adds = still old new S f same mine in record { reads = adds.own; writes = adds.others }
-
--- a call of a reader adds the read holds that it returns
-pub reading_gains : (did : Deed → Type 0) (w : WhenFull) (a : Option How) (old new : Shown) (r : Result Entry Fault) →
-    is_lock old.lock.header.object ≡ true → IsSame old new → reading_of did a w old r new →
-    GainsReads old (whether_of r) new
-reading_gains did w (Some how) old new r lock same made =
-    in_room (λ (from : Shown). λ (s : Result Entry Fault). GainsReads from (whether_of s) new) w _ old new r same
-    (λ p. λ b. λ x. record { reads = x.reads; writes = x.writes })
-    (λ f. λ mine. λ b. still_reads old new f same mine)
-    (λ from. λ s. λ of. λ at. λ one. let adds = acquire_gains did from new S how s (of_lock of lock) at one in
-    record { reads = adds.own; writes = adds.others }) made
-reading_gains did w None old new r lock same made =
-    in_room (λ (from : Shown). λ (s : Result Entry Fault). GainsReads from (whether_of s) new) w _ old new r same
-    (λ p. λ b. λ x. record { reads = x.reads; writes = x.writes })
-    (λ f. λ mine. λ b. still_reads old new f same mine)
-    (λ from. λ s. λ of. λ at. λ one. let adds = try_gains did from new S s (of_lock of lock) at one in
-    record { reads = adds.own; writes = adds.others }) made

@@ -1,15 +1,18 @@
 -- What the calls of a lock ask of its monitor, and what they return.
 use Rattle.std.specs.Prelude.{◌≡◌, ℕ, Bool, true, false, Option, Some, None, Result, Ok, Err, List, All}
-use Rattle.guarded.specs.Below.{Entry, X, Fault, Object, header_of, blank, opening_passes, holds, Step, Try, IsCallIn, IsEnteredIn, signal_step, Shown, IsEntered, How, IsAcquire, InRoom, AwaitOn, WhenFull, done_of, whether_of, Deed}
-use Rattle.guarded.specs.Full.{Call}
+use Rattle.guarded.specs.Below.{Entry, Mode, Fault, Object, header_of, blank, opening_passes, holds, Step, Try, IsCallIn, IsEnteredIn, signal_step, Shown, IsEntered, How, IsAcquire, InRoom, AwaitOn, WhenFull, done_of, whether_of, Deed}
 use Rattle.guarded.specs.Stowed.{MutexView}
 
--- the calls of the monitor
-abbrev pub acquires : (Deed → Type 0) → How → Call
-acquires did how w old reply new = InRoom w (λ o a n. IsAcquire did o X 1 how a n) old reply new
+-- a call's reply, with the pass before and after it, by what the lock does if its history is full
+abbrev pub Call : Type 1
+Call = WhenFull → Shown → Result Entry Fault → Shown → Type 0
 
-abbrev pub tries : (Deed → Type 0) → Call
-tries did w old reply new = IsEnteredIn w did old (Try X 1) reply new
+-- the calls of the monitor, for a hold in a mode
+abbrev pub acquires : (Deed → Type 0) → Mode → How → Call
+acquires did m how w old reply new = InRoom w (λ o a n. IsAcquire did o m 1 how a n) old reply new
+
+abbrev pub tries : (Deed → Type 0) → Mode → Call
+tries did m w old reply new = IsEnteredIn w did old (Try m 1) reply new
 
 abbrev pub awaits : (Deed → Type 0) → ℕ → How → Call
 awaits did condition how w old reply new = IsCallIn w did old (AwaitOn condition) how reply new

@@ -41,7 +41,7 @@ pub use Rattle.monitor.specs.contracts.pass.Pass.{the_row}
 pub use Rattle.monitor_fronts.specs.declared.room.WhenFull.{WhenFull}
 pub use Rattle.monitor_fronts.specs.declared.room.WhenFull.TheVariants.{Trim}
 pub use Rattle.monitor_fronts.specs.FrontCalls.{AreLeft, LastsUntil}
-pub use Rattle.monitor_fronts.specs.Holding.{holds, gained, with_yes, Takes}
+pub use Rattle.monitor_fronts.specs.Holding.{holds, gained, with_yes, Adds, Takes}
 pub use Rattle.monitor_fronts.specs.Permits.{if_ok, DrainsFree}
 pub use Rattle.monitor_fronts.specs.Returned.{whether_of, is_done, done_of, number_of}
 pub use Rattle.monitor_fronts.specs.Room.{InRoom, IsEnteredIn, IsCallIn, signal_step}

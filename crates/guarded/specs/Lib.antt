@@ -2,7 +2,6 @@ pub mod Prelude
 pub mod Below
 pub mod Stowed
 pub mod Guarding
-pub mod Full
 pub mod Asking
 pub mod GuardLending
 pub mod Reading

@@ -3,8 +3,7 @@ use Rattle.std.specs.Prelude.{◌≡◌, ◌⊎◌, ℕ, List, length, Bool, tru
 use Rattle.guarded.specs.Below.{Entry, S, Fault, OutOfMemory, Drain, Give, Try, is_timed, IsCallIn, IsEnteredIn, Shown, How, Acquire, WhenFull, number_of, Deed}
 use Rattle.guarded.specs.declared.asking.PoolCall.{PoolCall}
 use Rattle.guarded.specs.declared.asking.PoolCall.TheVariants as asks
-use Rattle.guarded.specs.Asking.{CallReturns}
-use Rattle.guarded.specs.Full.{Call}
+use Rattle.guarded.specs.Asking.{Call, CallReturns}
 
 -- the calls of the monitor
 abbrev pub fetches : (Deed → Type 0) → ℕ → How → Call

@@ -3,9 +3,9 @@
 pub use Rattle.guarded.specs.declared.slot.Slot.{Slot}
 pub use Rattle.guarded.specs.declared.slot.Slot.TheVariants.{Empty, Full, Lent}
 pub use Rattle.guarded.specs.Asking.{awaits, CallReturns, yes_if_some}
-pub use Rattle.guarded.specs.Guarding.{StillOwns}
+pub use Rattle.guarded.specs.Guarding.{StillOwns, HasWaited}
 pub use Rattle.guarded.specs.Pooling.{gives_back, drains, Answers}
-pub use Rattle.guarded.specs.Reading.{reads, AsksToRead, GainsReads, Saw, Sees}
+pub use Rattle.guarded.specs.Reading.{reads, Sees}
 pub use Rattle.guarded.specs.Shelved.{Lies, IsOfSemaphore}
 pub use Rattle.guarded.specs.Stowed.{IsStowed, Rests, IsFull, Kept, MutexView, mutex_view}
 pub use Rattle.guarded.specs.Waiting.{Owner, owner, AWait, WaitsWhile, Waited, WaitFailed, AwaitsUntil, HasCome, TimeWasUp}

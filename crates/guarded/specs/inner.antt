@@ -2,5 +2,4 @@
 pub mod Asking
 pub mod Lending
 pub mod Pooling
-pub mod Reading
 pub mod Stowed

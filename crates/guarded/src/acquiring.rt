@@ -215,7 +215,7 @@ impl<T: Drop, I: Keeps<T>> Pool<T, I> {
             pass.old pass.new (with_yes result) }
     {
         match self.acquire(rt, parking, pass, 1) {
-            Ok(items) => Ok(only(items)),
+            Ok(items) => Ok(only::<T, I>(items)),
             Err(fault) => Err(fault),
         }
     }
@@ -234,7 +234,7 @@ impl<T: Drop, I: Keeps<T>> Pool<T, I> {
             self.now.when_full (tries_fetch (P.did parking.now) 1) pass.old pass.new (yes_if_some result) }
     {
         match self.try_acquire(rt, parking, pass, 1) {
-            Ok(Some(items)) => Ok(Some(only(items))),
+            Ok(Some(items)) => Ok(Some(only::<T, I>(items))),
             Ok(None) => Ok(None),
             Err(fault) => Err(fault),
         }
@@ -255,7 +255,7 @@ impl<T: Drop, I: Keeps<T>> Pool<T, I> {
             (fetches (P.did parking.now) 1 (Timed ms)) pass.old pass.new (yes_if_some result) }
     {
         match self.try_acquire_for(rt, parking, pass, 1, ms) {
-            Ok(Some(items)) => Ok(Some(only(items))),
+            Ok(Some(items)) => Ok(Some(only::<T, I>(items))),
             Ok(None) => Ok(None),
             Err(fault) => Err(fault),
         }
@@ -297,30 +297,11 @@ impl<T: Drop, I: Keeps<T>> Pool<T, I> {
     {
         pass.is_true();
         match list_of(self.alloc, item) {
-            Ok(items) => self.release_only(rt, parking, pass, items),
+            Ok(items) => match self.release(rt, parking, pass, items) {
+                Ok(()) => Ok(()),
+                Err((items, fault)) => Err((only::<T, I>(items), fault)),
+            },
             Err(item) => Err((item, Fault::OutOfMemory)),
-        }
-    }
-
-    // The same with the item in a list.
-    fn release_only<P: Parking, R: Wait + Clock>(
-        &self,
-        rt: &R,
-        parking: &P,
-        pass: &mut Pass,
-        items: LinkedList<T>,
-    ) -> Result<(), (T, Fault)>
-        requires can { CanCall self.now.lock (P.seats parking.now) pass.old }
-        requires one { length items ≡ 1 }
-        requires kept { All I.invariant items }
-        ensures called { Called pass.old pass.new }
-        ensures back { IfErr result (λ e. items ≡ e.0 ∷ []) }
-        ensures returned { CallReturns self.now.when_full (gives_back (P.did parking.now) 1) pass.old pass.new
-            (without_items result) }
-    {
-        match self.release(rt, parking, pass, items) {
-            Ok(()) => Ok(()),
-            Err((items, fault)) => Err((only(items), fault)),
         }
     }
 }
@@ -341,9 +322,11 @@ fn list_of<T>(alloc: Global, item: T) -> Result<LinkedList<T>, T>
 }
 
 // The one item of a list.
-fn only<T: Drop>(items: LinkedList<T>) -> T
-    requires { length items ≡ 1 }
-    ensures { items ≡ result ∷ [] }
+fn only<T: Drop, I: Keeps<T>>(items: LinkedList<T>) -> T
+    requires one { length items ≡ 1 }
+    requires kept { All I.invariant items }
+    ensures is { items ≡ result ∷ [] }
+    ensures kept { I.invariant result }
 {
     let mut items = items;
     let Some(item) = items.pop_front() else {

@@ -2,9 +2,9 @@
 ghost use Rattle.std.specs.Prelude.{◌≡◌, ◌≢◌, ◌+◌, ◌<◌, IfErr, IfOk, Ok, true, false, not};
 ghost use Rattle.std.specs.Borrow.{sem};
 ghost use Rattle.std.specs.Fn.{FnReturnsAt};
-ghost use Rattle.guarded.specs.Below.{X, Interrupted, Give, Called, moment_after, IsSame, Plain, Interruptible, Timed, LastsUntil, gained, holds, showed};
+ghost use Rattle.guarded.specs.Below.{X, Interrupted, Give, moment_after, Plain, Interruptible, Timed, LastsUntil, Adds, holds, showed};
 ghost use Rattle.guarded.specs.Asking.{IsRecorded, CallReturns, acquires, awaits, signals};
-ghost use Rattle.guarded.specs.Guarding.{GuardReturns, GuardReturnsDone, Owns, StillOwns};
+ghost use Rattle.guarded.specs.Guarding.{GuardReturns, GuardReturnsDone, HasUnlocked, HasWaited, Owns, StillOwns};
 ghost use Rattle.guarded.specs.Reading.{Sees};
 ghost use Rattle.guarded.specs.Stowed.{IsFull, Kept};
 ghost use Rattle.guarded.specs.Waiting.{AwaitsUntil, HasCome, TimeWasUp, WaitFailed, Waited, WaitsWhile, owner};
@@ -12,6 +12,7 @@ ghost use Rattle.guarded.specs.declared.slot.Slot.TheVariants.{Full};
 
 use crate::{Any, Keeps, Mutex, Slot};
 use frame::hooks::Hooks;
+use history::entry::Mode;
 use history::fault::Fault;
 use monitor::{How, Pass, moment_after};
 use monitor_fronts::{done, milliseconds_left};
@@ -76,10 +77,7 @@ impl<T: Drop, P: Parking, R: Wait + Clock, I: Keeps<T>, H: Hooks + Drop> Guard<'
     pub fn wait(&mut self, condition: u8) -> Result<bool, Fault>
         requires guards { Owns (P.seats self.old.parking.now) self.old }
         requires kept { Kept I.invariant self.old.slot }
-        ensures same_reference { self.new.pass.ghost_name ≡ self.old.pass.ghost_name }
-        ensures stays { StillOwns (P.seats self.new.parking.now) self.old self.new }
-        ensures kept { Kept I.invariant self.new.slot }
-        ensures keeps { holds self.new.pass.now ≡ holds self.old.pass.now }
+        ensures stays { HasWaited (P.seats self.new.parking.now) I.invariant self.old self.new }
         ensures value { IfErr result (λ fault. fault ≢ Interrupted → self.new.slot ≡ self.old.slot) }
         ensures awaited { GuardReturns (awaits (P.did self.old.parking.now) condition Interruptible)
             self.old self.new result }
@@ -94,10 +92,7 @@ impl<T: Drop, P: Parking, R: Wait + Clock, I: Keeps<T>, H: Hooks + Drop> Guard<'
     pub fn wait_for(&mut self, condition: u8, ms: u32) -> Result<bool, Fault>
         requires guards { Owns (P.seats self.old.parking.now) self.old }
         requires kept { Kept I.invariant self.old.slot }
-        ensures same_reference { self.new.pass.ghost_name ≡ self.old.pass.ghost_name }
-        ensures stays { StillOwns (P.seats self.new.parking.now) self.old self.new }
-        ensures kept { Kept I.invariant self.new.slot }
-        ensures keeps { holds self.new.pass.now ≡ holds self.old.pass.now }
+        ensures stays { HasWaited (P.seats self.new.parking.now) I.invariant self.old self.new }
         ensures value { IfErr result (λ fault. fault ≢ Interrupted → self.new.slot ≡ self.old.slot) }
         ensures awaited { GuardReturns (awaits (P.did self.old.parking.now) condition (Timed ms))
             self.old self.new result }
@@ -112,10 +107,7 @@ impl<T: Drop, P: Parking, R: Wait + Clock, I: Keeps<T>, H: Hooks + Drop> Guard<'
     pub fn wait_until(&mut self, condition: u8, moment: u64) -> Result<bool, Fault>
         requires guards { Owns (P.seats self.old.parking.now) self.old }
         requires kept { Kept I.invariant self.old.slot }
-        ensures same_reference { self.new.pass.ghost_name ≡ self.old.pass.ghost_name }
-        ensures stays { StillOwns (P.seats self.new.parking.now) self.old self.new }
-        ensures kept { Kept I.invariant self.new.slot }
-        ensures keeps { holds self.new.pass.now ≡ holds self.old.pass.now }
+        ensures stays { HasWaited (P.seats self.new.parking.now) I.invariant self.old self.new }
         ensures value { IfErr result (λ fault. fault ≢ Interrupted → self.new.slot ≡ self.old.slot) }
         ensures awaited { LastsUntil (P.did self.old.parking.now) moment (λ how.
             CallReturns self.old.lock.now.when_full (awaits (P.did self.old.parking.now) condition how)
@@ -130,10 +122,7 @@ impl<T: Drop, P: Parking, R: Wait + Clock, I: Keeps<T>, H: Hooks + Drop> Guard<'
     pub fn wait_uninterruptibly(&mut self, condition: u8) -> Result<bool, Fault>
         requires guards { Owns (P.seats self.old.parking.now) self.old }
         requires kept { Kept I.invariant self.old.slot }
-        ensures same_reference { self.new.pass.ghost_name ≡ self.old.pass.ghost_name }
-        ensures stays { StillOwns (P.seats self.new.parking.now) self.old self.new }
-        ensures kept { Kept I.invariant self.new.slot }
-        ensures keeps { holds self.new.pass.now ≡ holds self.old.pass.now }
+        ensures stays { HasWaited (P.seats self.new.parking.now) I.invariant self.old self.new }
         ensures value { IfErr result (λ fault. fault ≢ Interrupted → self.new.slot ≡ self.old.slot) }
         ensures awaited { GuardReturns (awaits (P.did self.old.parking.now) condition Plain)
             self.old self.new result }
@@ -153,10 +142,7 @@ impl<T: Drop, P: Parking, R: Wait + Clock, I: Keeps<T>, H: Hooks + Drop> Guard<'
         requires guards { Owns (P.seats self.old.parking.now) self.old }
         requires kept { Kept I.invariant self.old.slot }
         requires callable { F.IsAlwaysCallable predicate }
-        ensures same_reference { self.new.pass.ghost_name ≡ self.old.pass.ghost_name }
-        ensures stays { StillOwns (P.seats self.new.parking.now) self.old self.new }
-        ensures kept { Kept I.invariant self.new.slot }
-        ensures keeps { holds self.new.pass.now ≡ holds self.old.pass.now }
+        ensures stays { HasWaited (P.seats self.new.parking.now) I.invariant self.old self.new }
         ensures over { IfOk result (λ _. Sees (FnReturnsAt F.Fn predicate) self.new.slot false) }
         ensures waited { IfOk result (λ _. Waited (WaitsWhile (FnReturnsAt F.Fn predicate) (CallReturns
             self.old.lock.now.when_full (awaits (P.did self.old.parking.now) condition Interruptible)))
@@ -186,10 +172,7 @@ impl<T: Drop, P: Parking, R: Wait + Clock, I: Keeps<T>, H: Hooks + Drop> Guard<'
         requires guards { Owns (P.seats self.old.parking.now) self.old }
         requires kept { Kept I.invariant self.old.slot }
         requires callable { F.IsAlwaysCallable predicate }
-        ensures same_reference { self.new.pass.ghost_name ≡ self.old.pass.ghost_name }
-        ensures stays { StillOwns (P.seats self.new.parking.now) self.old self.new }
-        ensures kept { Kept I.invariant self.new.slot }
-        ensures keeps { holds self.new.pass.now ≡ holds self.old.pass.now }
+        ensures stays { HasWaited (P.seats self.new.parking.now) I.invariant self.old self.new }
         ensures over { IfOk result (λ is_over. Sees (FnReturnsAt F.Fn predicate) self.new.slot (not is_over)) }
         ensures in_time { result ≡ Ok false → TimeWasUp (P.did self.old.parking.now) ms }
         ensures waited { IfOk result (λ _. (begun : _) × P.did self.old.parking.now (showed begun) × Waited
@@ -216,10 +199,7 @@ impl<T: Drop, P: Parking, R: Wait + Clock, I: Keeps<T>, H: Hooks + Drop> Guard<'
         requires guards { Owns (P.seats self.old.parking.now) self.old }
         requires kept { Kept I.invariant self.old.slot }
         requires callable { F.IsAlwaysCallable predicate }
-        ensures same_reference { self.new.pass.ghost_name ≡ self.old.pass.ghost_name }
-        ensures stays { StillOwns (P.seats self.new.parking.now) self.old self.new }
-        ensures kept { Kept I.invariant self.new.slot }
-        ensures keeps { holds self.new.pass.now ≡ holds self.old.pass.now }
+        ensures stays { HasWaited (P.seats self.new.parking.now) I.invariant self.old self.new }
         ensures over { IfOk result (λ is_over. Sees (FnReturnsAt F.Fn predicate) self.new.slot (not is_over)) }
         ensures in_time { result ≡ Ok false → HasCome (P.did self.old.parking.now) moment }
         ensures waited { IfOk result (λ _. Waited (WaitsWhile (FnReturnsAt F.Fn predicate)
@@ -246,7 +226,6 @@ impl<T: Drop, P: Parking, R: Wait + Clock, I: Keeps<T>, H: Hooks + Drop> Guard<'
     /// value. This is `Condition.signal()`.
     pub fn signal(&mut self, condition: u8) -> Result<(), Fault>
         requires guards { Owns (P.seats self.old.parking.now) self.old }
-        ensures same_reference { self.new.pass.ghost_name ≡ self.old.pass.ghost_name }
         ensures stays { StillOwns (P.seats self.new.parking.now) self.old self.new }
         ensures keeps { holds self.new.pass.now ≡ holds self.old.pass.now }
         ensures signalled { GuardReturnsDone (signals (P.did self.old.parking.now) false condition) self.old
@@ -262,7 +241,6 @@ impl<T: Drop, P: Parking, R: Wait + Clock, I: Keeps<T>, H: Hooks + Drop> Guard<'
     /// is `Condition.signalAll()`.
     pub fn signal_all(&mut self, condition: u8) -> Result<(), Fault>
         requires guards { Owns (P.seats self.old.parking.now) self.old }
-        ensures same_reference { self.new.pass.ghost_name ≡ self.old.pass.ghost_name }
         ensures stays { StillOwns (P.seats self.new.parking.now) self.old self.new }
         ensures keeps { holds self.new.pass.now ≡ holds self.old.pass.now }
         ensures signalled { GuardReturnsDone (signals (P.did self.old.parking.now) true condition) self.old
@@ -277,22 +255,20 @@ impl<T: Drop, P: Parking, R: Wait + Clock, I: Keeps<T>, H: Hooks + Drop> Guard<'
     /// `ReentrantLock.lock()` by its owner.
     pub fn again(&mut self) -> Result<bool, Fault>
         requires guards { Owns (P.seats self.old.parking.now) self.old }
-        ensures same_reference { self.new.pass.ghost_name ≡ self.old.pass.ghost_name }
         ensures stays { StillOwns (P.seats self.new.parking.now) self.old self.new }
-        ensures gains { holds self.new.pass.now ≡ holds self.old.pass.now + gained result }
-        ensures acquired { GuardReturns (acquires (P.did self.old.parking.now) Plain) self.old self.new
+        ensures adds { Adds X self.old.pass.now result self.new.pass.now }
+        ensures acquired { GuardReturns (acquires (P.did self.old.parking.now) X Plain) self.old self.new
             result }
         ensures value { self.new.slot ≡ self.old.slot }
     {
         let pass = &mut *self.pass;
-        self.lock.again(self.rt, self.parking, pass)
+        self.lock.again(self.rt, self.parking, pass, Mode::X)
     }
 
     /// Releases one of several holds. It can't fail.
     pub fn leave(&mut self)
         requires guards { Owns (P.seats self.old.parking.now) self.old }
         requires several { 1 < holds self.old.pass.now }
-        ensures same_reference { self.new.pass.ghost_name ≡ self.old.pass.ghost_name }
         ensures stays { StillOwns (P.seats self.new.parking.now) self.old self.new }
         ensures loses { holds self.new.pass.now + 1 ≡ holds self.old.pass.now }
         ensures recorded { IsRecorded (P.did self.old.parking.now) self.old.pass.now (Give X 1)
@@ -308,10 +284,7 @@ impl<T: Drop, P: Parking, R: Wait + Clock, I: Keeps<T>, H: Hooks + Drop> Guard<'
         requires guards { Owns (P.seats self.parking.now) self }
         requires last { holds self.pass.now ≡ 1 }
         requires kept { Kept I.invariant self.slot }
-        ensures free { holds self.exit.0.now ≡ 0 }
-        ensures called { Called self.entry.pass.now self.exit.0.now }
-        ensures recorded { IsRecorded (P.did self.entry.parking.now) self.entry.pass.now (Give X 1)
-            self.exit.0.now }
+        ensures unlocks { HasUnlocked (P.did self.entry.parking.now) self.entry.pass.now self.exit.0.now }
     {}
 }
 
@@ -321,10 +294,7 @@ impl<T: Drop, P: Parking, R: Wait + Clock, I: Keeps<T>, H: Hooks + Drop> Drop
         requires guards { Owns (P.seats self.parking.now) self }
         requires last { holds self.pass.now ≡ 1 }
         requires kept { Kept I.invariant self.slot }
-        ensures free { holds self.exit.0.now ≡ 0 }
-        ensures called { Called self.entry.pass.now self.exit.0.now }
-        ensures recorded { IsRecorded (P.did self.entry.parking.now) self.entry.pass.now (Give X 1)
-            self.exit.0.now }
+        ensures unlocks { HasUnlocked (P.did self.entry.parking.now) self.entry.pass.now self.exit.0.now }
     {
         let Guard {
             pass,

@@ -1,12 +1,10 @@
 //! How a pass comes to hold a lock that guards a value.
-ghost use Rattle.std.specs.Prelude.{◌≡◌, IfOk};
+ghost use Rattle.std.specs.Prelude.{IfOk};
 ghost use Rattle.std.specs.Borrow.{sem, RestsIfErr};
-ghost use Rattle.guarded.specs.Below.{the_row, Plain, Interruptible, Timed, LastsUntil, holds, with_yes};
+ghost use Rattle.guarded.specs.Below.{X, the_row, Plain, Interruptible, Timed, LastsUntil, with_yes};
 ghost use Rattle.guarded.specs.Asking.{acquires, tries};
-ghost use Rattle.guarded.specs.Guarding.{CanLock, HasLocked, NotLocked, Owns, yes_unless_missed};
-ghost use Rattle.guarded.specs.Stowed.{Kept};
+ghost use Rattle.guarded.specs.Guarding.{CanLock, HasLocked, NotLocked, yes_unless_missed};
 
-use crate::asking::Asked;
 use crate::{Guard, Keeps, Mutex, TryLockFault};
 use frame::hooks::Hooks;
 use history::fault::Fault;
@@ -32,12 +30,10 @@ impl<T: Drop, I: Keeps<T>, H: Hooks + Drop> Mutex<T, I, H> {
     ) -> Result<Guard<'a, T, P, R, I, H>, Fault>
         requires can { CanLock lock.now (P.seats parking.now) pass.old }
         ensures* not_locked { sem 𝓛 (RestsIfErr the_row pass.entry (λ guard. guard.pass.ghost_name) result
-            (NotLocked lock.now.when_full (acquires (P.did parking.now) Plain) pass.old (with_yes result))) }
-        ensures same_reference { IfOk result (λ guard. guard.pass.ghost_name ≡ pass.entry.ghost_name) }
-        ensures guards { IfOk result (λ guard. Owns (P.seats guard.parking.now) guard) }
-        ensures locked { IfOk result
-            (HasLocked lock.now.when_full (acquires (P.did parking.now) Plain) pass.old) }
-        ensures kept { IfOk result (λ guard. Kept I.invariant guard.slot) }
+            (NotLocked lock.now.when_full (acquires (P.did parking.now) X Plain)
+            pass.old (with_yes result))) }
+        ensures locked { IfOk result (HasLocked P.seats I.invariant lock.now.when_full
+            (acquires (P.did parking.now) X Plain) pass.entry) }
     {
         let slot = lock.take(rt, parking, pass, How::Plain)?;
         Ok(Guard {
@@ -59,13 +55,10 @@ impl<T: Drop, I: Keeps<T>, H: Hooks + Drop> Mutex<T, I, H> {
     ) -> Result<Guard<'a, T, P, R, I, H>, Fault>
         requires can { CanLock lock.now (P.seats parking.now) pass.old }
         ensures* not_locked { sem 𝓛 (RestsIfErr the_row pass.entry (λ guard. guard.pass.ghost_name) result
-            (NotLocked lock.now.when_full (acquires (P.did parking.now) Interruptible)
+            (NotLocked lock.now.when_full (acquires (P.did parking.now) X Interruptible)
             pass.old (with_yes result))) }
-        ensures same_reference { IfOk result (λ guard. guard.pass.ghost_name ≡ pass.entry.ghost_name) }
-        ensures guards { IfOk result (λ guard. Owns (P.seats guard.parking.now) guard) }
-        ensures locked { IfOk result
-            (HasLocked lock.now.when_full (acquires (P.did parking.now) Interruptible) pass.old) }
-        ensures kept { IfOk result (λ guard. Kept I.invariant guard.slot) }
+        ensures locked { IfOk result (HasLocked P.seats I.invariant lock.now.when_full
+            (acquires (P.did parking.now) X Interruptible) pass.entry) }
     {
         let slot = lock.take(rt, parking, pass, How::Interruptible)?;
         Ok(Guard {
@@ -87,13 +80,12 @@ impl<T: Drop, I: Keeps<T>, H: Hooks + Drop> Mutex<T, I, H> {
     ) -> Result<Guard<'a, T, P, R, I, H>, TryLockFault>
         requires can { CanLock lock.now (P.seats parking.now) pass.old }
         ensures* not_locked { sem 𝓛 (RestsIfErr the_row pass.entry (λ guard. guard.pass.ghost_name) result
-            (NotLocked lock.now.when_full (tries (P.did parking.now)) pass.old (yes_unless_missed result))) }
-        ensures same_reference { IfOk result (λ guard. guard.pass.ghost_name ≡ pass.entry.ghost_name) }
-        ensures guards { IfOk result (λ guard. Owns (P.seats guard.parking.now) guard) }
-        ensures locked { IfOk result (HasLocked lock.now.when_full (tries (P.did parking.now)) pass.old) }
-        ensures kept { IfOk result (λ guard. Kept I.invariant guard.slot) }
+            (NotLocked lock.now.when_full (tries (P.did parking.now) X)
+            pass.old (yes_unless_missed result))) }
+        ensures locked { IfOk result (HasLocked P.seats I.invariant lock.now.when_full
+            (tries (P.did parking.now) X) pass.entry) }
     {
-        let slot = lock.try_take(rt, parking, pass, Asked::Try)?;
+        let slot = lock.try_take(rt, parking, pass, None)?;
         Ok(Guard {
             pass,
             slot,
@@ -115,15 +107,12 @@ impl<T: Drop, I: Keeps<T>, H: Hooks + Drop> Mutex<T, I, H> {
     ) -> Result<Guard<'a, T, P, R, I, H>, TryLockFault>
         requires can { CanLock lock.now (P.seats parking.now) pass.old }
         ensures* not_locked { sem 𝓛 (RestsIfErr the_row pass.entry (λ guard. guard.pass.ghost_name) result
-            (NotLocked lock.now.when_full (acquires (P.did parking.now) (Timed ms))
+            (NotLocked lock.now.when_full (acquires (P.did parking.now) X (Timed ms))
             pass.old (yes_unless_missed result))) }
-        ensures same_reference { IfOk result (λ guard. guard.pass.ghost_name ≡ pass.entry.ghost_name) }
-        ensures guards { IfOk result (λ guard. Owns (P.seats guard.parking.now) guard) }
-        ensures locked { IfOk result
-            (HasLocked lock.now.when_full (acquires (P.did parking.now) (Timed ms)) pass.old) }
-        ensures kept { IfOk result (λ guard. Kept I.invariant guard.slot) }
+        ensures locked { IfOk result (HasLocked P.seats I.invariant lock.now.when_full
+            (acquires (P.did parking.now) X (Timed ms)) pass.entry) }
     {
-        let slot = lock.try_take(rt, parking, pass, Asked::Acquire(How::Timed(ms)))?;
+        let slot = lock.try_take(rt, parking, pass, Some(How::Timed(ms)))?;
         Ok(Guard {
             pass,
             slot,
@@ -145,12 +134,9 @@ impl<T: Drop, I: Keeps<T>, H: Hooks + Drop> Mutex<T, I, H> {
         requires can { CanLock lock.now (P.seats parking.now) pass.old }
         ensures* not_locked { sem 𝓛 (RestsIfErr the_row pass.entry (λ guard. guard.pass.ghost_name)
             result (λ last. LastsUntil (P.did parking.now) moment (λ how. NotLocked lock.now.when_full
-            (acquires (P.did parking.now) how) pass.old (yes_unless_missed result) last))) }
-        ensures same_reference { IfOk result (λ guard. guard.pass.ghost_name ≡ pass.entry.ghost_name) }
-        ensures guards { IfOk result (λ guard. Owns (P.seats guard.parking.now) guard) }
-        ensures locked { IfOk result (λ guard. LastsUntil (P.did parking.now) moment
-            (λ how. HasLocked lock.now.when_full (acquires (P.did parking.now) how) pass.old guard)) }
-        ensures kept { IfOk result (λ guard. Kept I.invariant guard.slot) }
+            (acquires (P.did parking.now) X how) pass.old (yes_unless_missed result) last))) }
+        ensures locked { IfOk result (λ guard. LastsUntil (P.did parking.now) moment (λ how. HasLocked P.seats
+            I.invariant lock.now.when_full (acquires (P.did parking.now) X how) pass.entry guard)) }
     {
         let ms = milliseconds_left(rt, parking, moment);
         Mutex::try_lock_for(pass, lock, rt, parking, ms)

@@ -1,13 +1,12 @@
 //! A reentrant lock that guards a value.
-ghost use Rattle.std.specs.Prelude.{◌≡◌, ◌≢◌, ◌<◌, ◌≤◌, ◌+◌, All, IfOk, IfErr, IfSome, Err, true};
-ghost use Rattle.guarded.specs.Below.{header_of, counts, start_on, IsInRange, X, Interrupted, OutOfMemory, Lock, NonFair, Give, CanCall, Called, is_timed, Plain, Closes, IsMissing, MissingPass, was_refused, IsSame, Trim, gained, holds};
+ghost use Rattle.std.specs.Prelude.{◌≡◌, ◌≢◌, ◌<◌, ◌≤◌, ◌+◌, All, IfOk, IfErr, IfSome, Err};
+ghost use Rattle.guarded.specs.Below.{header_of, counts, start_on, IsInRange, X, Interrupted, OutOfMemory, Lock, NonFair, Give, CanCall, Called, is_timed, Plain, Closes, IsMissing, MissingPass, IsSame, Trim, Adds, holds, whether_of};
 ghost use Rattle.guarded.specs.Asking.{IsRecorded, CallReturns, Opened, acquires, awaits};
-ghost use Rattle.guarded.specs.inner.Asking.{IsTake, LetsAllGo, call_of, gained_by};
+ghost use Rattle.guarded.specs.inner.Asking.{asks};
 ghost use Rattle.guarded.specs.inner.Stowed.{Carries, MayLie};
-ghost use Rattle.guarded.specs.Guarding.{CanLock, Guards, Locked, NotLocked, missed_as_no};
+ghost use Rattle.guarded.specs.Guarding.{CanLock, Guards, HasUnlocked, Locked, NotLocked, missed_as_no};
 ghost use Rattle.guarded.specs.Stowed.{Kept, Rests};
 
-use crate::asking::Asked;
 use crate::options::{CAP, CONDITIONS};
 use crate::{Any, Keeps, Options, Slot, TryLockFault, View};
 use frame::hooks::Hooks;
@@ -195,39 +194,35 @@ impl<T: Drop, I: Keeps<T>, H: Hooks + Drop> Mutex<T, I, H> {
 
 /// The parts of all calls.
 impl<T: Drop, I: Keeps<T>, H: Hooks + Drop> Mutex<T, I, H> {
-    // A call. The slot has the value exactly if the pass holds the lock.
+    // A call for a hold in a mode: an acquire that waits so, or a try. The slot has the value, or stands for it, exactly
+    // if the pass holds the lock.
     pub(crate) fn call<P: Parking, R: Wait + Clock>(
         &self,
         rt: &R,
         parking: &P,
         pass: &mut Pass,
         slot: &mut Slot<T, I>,
-        asked: Asked,
+        mode: Mode,
+        how: Option<How>,
     ) -> Result<Entry, Fault>
         requires can { CanCall self.now.lock (P.seats parking.now) pass.old }
         requires carries { Carries (holds pass.old) slot.old }
-        requires fit { LetsAllGo asked → MayLie I.invariant slot.old }
         ensures called { Called pass.old pass.new }
-        ensures made { call_of (P.did parking.now) asked self.now.when_full pass.old result pass.new }
-        ensures gains { holds pass.new ≡ holds pass.old + gained_by asked result }
+        ensures made { asks (P.did parking.now) mode how self.now.when_full pass.old result pass.new }
+        ensures adds { Adds mode pass.old (whether_of result) pass.new }
         ensures carries { Carries (holds pass.new) slot.new }
         ensures fit { MayLie I.invariant slot.old → MayLie I.invariant slot.new }
-        ensures stays { was_refused result ≡ true → slot.new ≡ slot.old }
     {
         let monitor = &self.monitor;
         let when_full = self.when_full;
-        match asked {
-            Asked::Acquire(how) => {
-                let request = Request::Acquire(Mode::X, 1);
+        match how {
+            Some(how) => {
+                let request = Request::Acquire(mode, 1);
                 call_in_room(monitor, rt, parking, pass, slot, request, how, when_full)
             }
-            Asked::Try => {
-                let step = Step::Try(Mode::X, 1);
+            None => {
+                let step = Step::Try(mode, 1);
                 enter_in_room(monitor, rt, parking, pass, slot, step, when_full)
-            }
-            Asked::Await(condition, how) => {
-                let request = Request::AwaitOn(condition);
-                call_in_room(monitor, rt, parking, pass, slot, request, how, when_full)
             }
         }
     }
@@ -238,18 +233,17 @@ impl<T: Drop, I: Keeps<T>, H: Hooks + Drop> Mutex<T, I, H> {
         rt: &R,
         parking: &P,
         pass: &mut Pass,
-        asked: Asked,
+        how: Option<How>,
     ) -> Result<Slot<T, I>, TryLockFault>
         requires can { CanLock self.now (P.seats parking.now) pass.old }
-        requires takes { IsTake asked }
         ensures locked { IfOk result (λ slot.
-            Locked self.now.when_full (call_of (P.did parking.now) asked) pass.old slot pass.new) }
+            Locked self.now.when_full (asks (P.did parking.now) X how) pass.old slot pass.new) }
         ensures kept { IfOk result (λ slot. Kept I.invariant slot) }
         ensures not_locked { IfErr result (λ fault. NotLocked
-            self.now.when_full (call_of (P.did parking.now) asked) pass.old (missed_as_no fault) pass.new) }
+            self.now.when_full (asks (P.did parking.now) X how) pass.old (missed_as_no fault) pass.new) }
     {
         let mut slot = Slot::Empty;
-        let reply = self.call(rt, parking, pass, &mut slot, asked);
+        let reply = self.call(rt, parking, pass, &mut slot, Mode::X, how);
         match whether(reply) {
             Ok(true) => Ok(slot),
             Ok(false) => Err(TryLockFault::Missed),
@@ -268,12 +262,12 @@ impl<T: Drop, I: Keeps<T>, H: Hooks + Drop> Mutex<T, I, H> {
         requires can { CanLock self.now (P.seats parking.now) pass.old }
         requires untimed { is_timed how → ⊥ }
         ensures locked { IfOk result (λ slot.
-            Locked self.now.when_full (acquires (P.did parking.now) how) pass.old slot pass.new) }
+            Locked self.now.when_full (acquires (P.did parking.now) X how) pass.old slot pass.new) }
         ensures kept { IfOk result (λ slot. Kept I.invariant slot) }
         ensures not_locked { IfErr result (λ fault.
-            NotLocked self.now.when_full (acquires (P.did parking.now) how) pass.old (Err fault) pass.new) }
+            NotLocked self.now.when_full (acquires (P.did parking.now) X how) pass.old (Err fault) pass.new) }
     {
-        match self.try_take(rt, parking, pass, Asked::Acquire(how)) {
+        match self.try_take(rt, parking, pass, Some(how)) {
             Ok(slot) => Ok(slot),
             Err(TryLockFault::Failed(fault)) => Err(fault),
             Err(TryLockFault::Missed) => unreachable!(),
@@ -315,9 +309,7 @@ impl<T: Drop, I: Keeps<T>, H: Hooks + Drop> Mutex<T, I, H> {
         requires guards { Guards self.now (P.seats parking.now) pass.old slot }
         requires last { holds pass.old ≡ 1 }
         requires kept { Kept I.invariant slot }
-        ensures called { Called pass.old pass.new }
-        ensures recorded { IsRecorded (P.did parking.now) pass.old (Give X 1) pass.new }
-        ensures free { holds pass.new ≡ 0 }
+        ensures unlocks { HasUnlocked (P.did parking.now) pass.old pass.new }
     {
         let mut slot = slot;
         self.give(rt, parking, pass, &mut slot);
@@ -343,26 +335,28 @@ impl<T: Drop, I: Keeps<T>, H: Hooks + Drop> Mutex<T, I, H> {
         ensures keeps { holds pass.new ≡ holds pass.old }
         ensures stays { IfErr result (λ fault. fault ≢ Interrupted → slot.new ≡ slot.old) }
     {
-        whether(self.call(rt, parking, pass, slot, Asked::Await(condition, how)))
+        let (request, when_full) = (Request::AwaitOn(condition), self.when_full);
+        whether(call_in_room(&self.monitor, rt, parking, pass, slot, request, how, when_full))
     }
 
-    // One more hold. The value stays in the guard.
+    // One more hold in a mode, for the owner. The value stays in the guard.
     pub(crate) fn again<P: Parking, R: Wait + Clock>(
         &self,
         rt: &R,
         parking: &P,
         pass: &mut Pass,
+        mode: Mode,
     ) -> Result<bool, Fault>
         requires can { CanCall self.now.lock (P.seats parking.now) pass.old }
         requires has { 0 < holds pass.old }
         ensures same { IsSame pass.old pass.new }
-        ensures acquired { CallReturns self.now.when_full (acquires (P.did parking.now) Plain) pass.old
+        ensures acquired { CallReturns self.now.when_full (acquires (P.did parking.now) mode Plain) pass.old
             pass.new result }
-        ensures gains { holds pass.new ≡ holds pass.old + gained result }
+        ensures adds { Adds mode pass.old result pass.new }
     {
         let mut lent = Slot::Lent(PhantomData);
-        let asked = Asked::Acquire(How::Plain);
-        whether(self.call(rt, parking, pass, &mut lent, asked))
+        let how = Some(How::Plain);
+        whether(self.call(rt, parking, pass, &mut lent, mode, how))
     }
 
     // Releases one of several holds. The value stays in the guard.

@@ -1,9 +1,10 @@
 //! How a pass comes to read a value that a read-write lock guards, and a reader's side of it.
-ghost use Rattle.std.specs.Prelude.{◌≡◌, ◌<◌, ◌+◌, IfOk};
+ghost use Rattle.std.specs.Prelude.{◌≡◌, ◌<◌, IfOk};
 ghost use Rattle.std.specs.Borrow.{sem, RestsIfErr};
-ghost use Rattle.guarded.specs.Below.{the_row, Plain, Interruptible, Timed, IsLook, LastsUntil, gained, with_yes};
+ghost use Rattle.guarded.specs.Below.{S, the_row, Plain, Interruptible, Timed, IsLook, LastsUntil, with_yes};
+ghost use Rattle.guarded.specs.Asking.{acquires, tries};
 ghost use Rattle.guarded.specs.Guarding.{CanLock, yes_unless_missed};
-ghost use Rattle.guarded.specs.Reading.{AsksToRead, EndsReading, GivesRead, Reads, ReadsBy, Saw, reads, reads_by, tries_read};
+ghost use Rattle.guarded.specs.Reading.{AsksToRead, EndsReading, HasRead, Reads, Saw, StillReads, reads};
 
 use crate::{Any, Keeps, RwMutex, Shared, TryLockFault};
 use history::fault::Fault;
@@ -71,13 +72,9 @@ impl<'a, T: Drop, P: Parking, R: Wait + Clock, I: Keeps<T>> ReadGuard<'a, T, P, 
     /// Reads once more: the pass has one more read hold. This is `ReadLock.lock()` by a reader.
     pub fn again(&mut self) -> Result<(), Fault>
         requires reads { Reads (P.seats self.old.parking.now) self.old }
-        ensures same_reference { self.new.pass.ghost_name ≡ self.old.pass.ghost_name }
-        ensures same_lock { (self.new.lock.now ≡ self.old.lock.now)
-            × (self.new.parking.now ≡ self.old.parking.now) }
-        ensures reads { Reads (P.seats self.new.parking.now) self.new }
-        ensures asked { AsksToRead self.old.lock.now.when_full (reads_by (P.did self.old.parking.now) Plain)
+        ensures stays { StillReads (P.seats self.new.parking.now) self.old self.new }
+        ensures asked { AsksToRead self.old.lock.now.when_full (acquires (P.did self.old.parking.now) S Plain)
             self.old.pass.now (with_yes result) self.new.pass.now }
-        ensures value { self.new.share ≡ self.old.share }
     {
         let lock = self.lock;
         let pass = &mut *self.pass;
@@ -88,14 +85,8 @@ impl<'a, T: Drop, P: Parking, R: Wait + Clock, I: Keeps<T>> ReadGuard<'a, T, P, 
     pub fn leave(&mut self) -> Result<(), Fault>
         requires reads { Reads (P.seats self.old.parking.now) self.old }
         requires several { 1 < reads self.old.pass.now }
-        ensures same_reference { self.new.pass.ghost_name ≡ self.old.pass.ghost_name }
-        ensures same_lock { (self.new.lock.now ≡ self.old.lock.now)
-            × (self.new.parking.now ≡ self.old.parking.now) }
-        ensures reads { Reads (P.seats self.new.parking.now) self.new }
-        ensures ends { EndsReading (P.did self.old.parking.now) self.old.pass.now self.new.pass.now }
-        ensures given { GivesRead (P.did self.old.parking.now) self.old.pass.now result self.new.pass.now }
-        ensures loses { reads self.new.pass.now + gained (with_yes result) ≡ reads self.old.pass.now }
-        ensures value { self.new.share ≡ self.old.share }
+        ensures stays { StillReads (P.seats self.new.parking.now) self.old self.new }
+        ensures ends { EndsReading (P.did self.old.parking.now) self.old.pass.now result self.new.pass.now }
     {
         let lock = self.lock;
         let pass = &mut *self.pass;
@@ -106,9 +97,7 @@ impl<'a, T: Drop, P: Parking, R: Wait + Clock, I: Keeps<T>> ReadGuard<'a, T, P, 
     /// another call. No call of this crate leaves it there, but no contract says so. This is `ReadLock.unlock()`.
     pub fn unread(self) -> Result<(), Fault>
         requires reads { Reads (P.seats self.parking.now) self }
-        ensures ends { EndsReading (P.did self.entry.parking.now) self.entry.pass.now self.exit.0.now }
-        ensures given { GivesRead (P.did self.entry.parking.now) self.entry.pass.now result self.exit.0.now }
-        ensures loses { reads self.exit.0.now + gained (with_yes result) ≡ reads self.entry.pass.now }
+        ensures ends { EndsReading (P.did self.entry.parking.now) self.entry.pass.now result self.exit.0.now }
     {
         let ReadGuard {
             pass,
@@ -136,7 +125,8 @@ impl<T: Drop, P: Parking, R: Wait + Clock, I: Keeps<T>, S: Drop> Drop
     for ReadGuard<'_, T, P, R, I, S> {
     fn drop(self)
         requires reads { Reads (P.seats self.parking.now) self }
-        ensures ends { EndsReading (P.did self.entry.parking.now) self.entry.pass.now self.exit.0.now }
+        ensures ends { (told : _) × EndsReading (P.did self.entry.parking.now) self.entry.pass.now told
+            self.exit.0.now }
     {
         let ReadGuard {
             pass,
@@ -166,12 +156,10 @@ impl<T: Drop, I: Keeps<T>> RwMutex<T, I> {
     ) -> Result<ReadGuard<'a, T, P, R, I>, Fault>
         requires can { CanLock lock.now (P.seats parking.now) pass.old }
         ensures* not_read { sem 𝓛 (RestsIfErr the_row pass.entry (λ guard. guard.pass.ghost_name) result
-            (AsksToRead lock.now.when_full (reads_by (P.did parking.now) Plain) pass.old (with_yes result))) }
-        ensures same_reference { IfOk result (λ guard. guard.pass.ghost_name ≡ pass.entry.ghost_name) }
-        ensures reads { IfOk result (λ guard. Reads (P.seats guard.parking.now) guard) }
-        ensures asked { IfOk result (λ guard. ReadsBy lock.now.when_full (reads_by (P.did parking.now) Plain)
-            pass.old guard.pass.now) }
-        ensures saw { IfOk result (λ guard. Saw I.invariant guard.pass.now guard.share) }
+            (AsksToRead lock.now.when_full (acquires (P.did parking.now) S Plain)
+            pass.old (with_yes result))) }
+        ensures read { IfOk result (HasRead P.seats I.invariant lock.now.when_full
+            (acquires (P.did parking.now) S Plain) pass.entry) }
     {
         lock.mutex.read_by(rt, parking, pass, How::Plain)?;
         Ok(ReadGuard::of(pass, lock, rt, parking))
@@ -187,13 +175,10 @@ impl<T: Drop, I: Keeps<T>> RwMutex<T, I> {
     ) -> Result<ReadGuard<'a, T, P, R, I>, Fault>
         requires can { CanLock lock.now (P.seats parking.now) pass.old }
         ensures* not_read { sem 𝓛 (RestsIfErr the_row pass.entry (λ guard. guard.pass.ghost_name) result
-            (AsksToRead lock.now.when_full (reads_by (P.did parking.now) Interruptible) pass.old
-            (with_yes result))) }
-        ensures same_reference { IfOk result (λ guard. guard.pass.ghost_name ≡ pass.entry.ghost_name) }
-        ensures reads { IfOk result (λ guard. Reads (P.seats guard.parking.now) guard) }
-        ensures asked { IfOk result (λ guard. ReadsBy lock.now.when_full
-            (reads_by (P.did parking.now) Interruptible) pass.old guard.pass.now) }
-        ensures saw { IfOk result (λ guard. Saw I.invariant guard.pass.now guard.share) }
+            (AsksToRead lock.now.when_full (acquires (P.did parking.now) S Interruptible)
+            pass.old (with_yes result))) }
+        ensures read { IfOk result (HasRead P.seats I.invariant lock.now.when_full
+            (acquires (P.did parking.now) S Interruptible) pass.entry) }
     {
         let how = How::Interruptible;
         lock.mutex.read_by(rt, parking, pass, how)?;
@@ -210,13 +195,10 @@ impl<T: Drop, I: Keeps<T>> RwMutex<T, I> {
     ) -> Result<ReadGuard<'a, T, P, R, I>, TryLockFault>
         requires can { CanLock lock.now (P.seats parking.now) pass.old }
         ensures* not_read { sem 𝓛 (RestsIfErr the_row pass.entry (λ guard. guard.pass.ghost_name) result
-            (AsksToRead lock.now.when_full (tries_read (P.did parking.now)) pass.old
-            (yes_unless_missed result))) }
-        ensures same_reference { IfOk result (λ guard. guard.pass.ghost_name ≡ pass.entry.ghost_name) }
-        ensures reads { IfOk result (λ guard. Reads (P.seats guard.parking.now) guard) }
-        ensures asked { IfOk result (λ guard. ReadsBy lock.now.when_full (tries_read (P.did parking.now))
-            pass.old guard.pass.now) }
-        ensures saw { IfOk result (λ guard. Saw I.invariant guard.pass.now guard.share) }
+            (AsksToRead lock.now.when_full (tries (P.did parking.now) S)
+            pass.old (yes_unless_missed result))) }
+        ensures read { IfOk result (HasRead P.seats I.invariant lock.now.when_full
+            (tries (P.did parking.now) S) pass.entry) }
     {
         lock.mutex.try_read_by(rt, parking, pass, None)?;
         Ok(ReadGuard::of(pass, lock, rt, parking))
@@ -234,13 +216,10 @@ impl<T: Drop, I: Keeps<T>> RwMutex<T, I> {
     ) -> Result<ReadGuard<'a, T, P, R, I>, TryLockFault>
         requires can { CanLock lock.now (P.seats parking.now) pass.old }
         ensures* not_read { sem 𝓛 (RestsIfErr the_row pass.entry (λ guard. guard.pass.ghost_name) result
-            (AsksToRead lock.now.when_full (reads_by (P.did parking.now) (Timed ms)) pass.old
-            (yes_unless_missed result))) }
-        ensures same_reference { IfOk result (λ guard. guard.pass.ghost_name ≡ pass.entry.ghost_name) }
-        ensures reads { IfOk result (λ guard. Reads (P.seats guard.parking.now) guard) }
-        ensures asked { IfOk result (λ guard. ReadsBy lock.now.when_full
-            (reads_by (P.did parking.now) (Timed ms)) pass.old guard.pass.now) }
-        ensures saw { IfOk result (λ guard. Saw I.invariant guard.pass.now guard.share) }
+            (AsksToRead lock.now.when_full (acquires (P.did parking.now) S (Timed ms))
+            pass.old (yes_unless_missed result))) }
+        ensures read { IfOk result (HasRead P.seats I.invariant lock.now.when_full
+            (acquires (P.did parking.now) S (Timed ms)) pass.entry) }
     {
         let how = Some(How::Timed(ms));
         lock.mutex.try_read_by(rt, parking, pass, how)?;
@@ -259,12 +238,9 @@ impl<T: Drop, I: Keeps<T>> RwMutex<T, I> {
         requires can { CanLock lock.now (P.seats parking.now) pass.old }
         ensures* not_read { sem 𝓛 (RestsIfErr the_row pass.entry (λ guard. guard.pass.ghost_name) result
             (λ last. LastsUntil (P.did parking.now) moment (λ how. AsksToRead lock.now.when_full
-            (reads_by (P.did parking.now) how) pass.old (yes_unless_missed result) last))) }
-        ensures same_reference { IfOk result (λ guard. guard.pass.ghost_name ≡ pass.entry.ghost_name) }
-        ensures reads { IfOk result (λ guard. Reads (P.seats guard.parking.now) guard) }
-        ensures asked { IfOk result (λ guard. LastsUntil (P.did parking.now) moment (λ how.
-            ReadsBy lock.now.when_full (reads_by (P.did parking.now) how) pass.old guard.pass.now)) }
-        ensures saw { IfOk result (λ guard. Saw I.invariant guard.pass.now guard.share) }
+            (acquires (P.did parking.now) S how) pass.old (yes_unless_missed result) last))) }
+        ensures read { IfOk result (λ guard. LastsUntil (P.did parking.now) moment (λ how. HasRead P.seats
+            I.invariant lock.now.when_full (acquires (P.did parking.now) S how) pass.entry guard)) }
     {
         let ms = milliseconds_left(rt, parking, moment);
         RwMutex::try_read_for(pass, lock, rt, parking, ms)

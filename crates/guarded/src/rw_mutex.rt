@@ -1,15 +1,16 @@
 //! A reentrant read-write lock that guards a value.
 ghost use Rattle.std.specs.Prelude.{◌≡◌, ◌≤◌, All, IfOk, IfErr, IfSome};
 ghost use Rattle.std.specs.Borrow.{sem, RestsIfErr};
-ghost use Rattle.guarded.specs.Below.{header_of, counts, start_on, IsInRange, OutOfMemory, X, Give, ReadWrite, NonFair, Called, the_row, Plain, Interruptible, Timed, Closes, IsMissing, MissingPass, Trim, LastsUntil, holds, with_yes};
-ghost use Rattle.guarded.specs.Asking.{IsRecorded, Opened, acquires, tries};
-ghost use Rattle.guarded.specs.Guarding.{CanLock, GuardReturns, HasLocked, NotLocked, Owns, StillOwns, yes_unless_missed};
-ghost use Rattle.guarded.specs.Reading.{GainsReads, reads, reads_by};
+ghost use Rattle.guarded.specs.Below.{header_of, counts, start_on, IsInRange, OutOfMemory, X, S, ReadWrite, NonFair, the_row, Plain, Interruptible, Timed, Closes, IsMissing, MissingPass, Trim, LastsUntil, Adds, holds, with_yes};
+ghost use Rattle.guarded.specs.Asking.{Opened, acquires, tries};
+ghost use Rattle.guarded.specs.Guarding.{CanLock, GuardReturns, HasLocked, HasUnlocked, NotLocked, Owns, StillOwns, yes_unless_missed};
+ghost use Rattle.guarded.specs.Reading.{reads};
 ghost use Rattle.guarded.specs.Stowed.{IsFull, Kept, Rests};
 ghost use Rattle.guarded.specs.declared.slot.Slot.TheVariants.{Full};
 
 use crate::shared::unshared;
 use crate::{Any, Guard, Keeps, Mutex, Options, Shared, Sharing, Slot, TryLockFault, View};
+use history::entry::Mode;
 use history::fault::Fault;
 use history::header::Policy;
 use monitor::{CloseFault, Closed, Monitor, Pass};
@@ -226,12 +227,10 @@ impl<T: Drop, I: Keeps<T>> RwMutex<T, I> {
     ) -> Result<Guard<'a, Shared<T>, P, R, Sharing<I>, RwHooks>, Fault>
         requires can { CanLock lock.now (P.seats parking.now) pass.old }
         ensures* not_locked { sem 𝓛 (RestsIfErr the_row pass.entry (λ guard. guard.pass.ghost_name) result
-            (NotLocked lock.now.when_full (acquires (P.did parking.now) Plain) pass.old (with_yes result))) }
-        ensures same_reference { IfOk result (λ guard. guard.pass.ghost_name ≡ pass.entry.ghost_name) }
-        ensures guards { IfOk result (λ guard. Owns (P.seats guard.parking.now) guard) }
-        ensures locked { IfOk result
-            (HasLocked lock.now.when_full (acquires (P.did parking.now) Plain) pass.old) }
-        ensures kept { IfOk result (λ guard. Kept I.invariant guard.slot) }
+            (NotLocked lock.now.when_full (acquires (P.did parking.now) X Plain)
+            pass.old (with_yes result))) }
+        ensures locked { IfOk result (HasLocked P.seats I.invariant lock.now.when_full
+            (acquires (P.did parking.now) X Plain) pass.entry) }
     {
         Mutex::lock(pass, &lock.mutex, rt, parking)
     }
@@ -246,13 +245,10 @@ impl<T: Drop, I: Keeps<T>> RwMutex<T, I> {
     ) -> Result<Guard<'a, Shared<T>, P, R, Sharing<I>, RwHooks>, Fault>
         requires can { CanLock lock.now (P.seats parking.now) pass.old }
         ensures* not_locked { sem 𝓛 (RestsIfErr the_row pass.entry (λ guard. guard.pass.ghost_name) result
-            (NotLocked lock.now.when_full (acquires (P.did parking.now) Interruptible)
+            (NotLocked lock.now.when_full (acquires (P.did parking.now) X Interruptible)
             pass.old (with_yes result))) }
-        ensures same_reference { IfOk result (λ guard. guard.pass.ghost_name ≡ pass.entry.ghost_name) }
-        ensures guards { IfOk result (λ guard. Owns (P.seats guard.parking.now) guard) }
-        ensures locked { IfOk result
-            (HasLocked lock.now.when_full (acquires (P.did parking.now) Interruptible) pass.old) }
-        ensures kept { IfOk result (λ guard. Kept I.invariant guard.slot) }
+        ensures locked { IfOk result (HasLocked P.seats I.invariant lock.now.when_full
+            (acquires (P.did parking.now) X Interruptible) pass.entry) }
     {
         Mutex::lock_interruptibly(pass, &lock.mutex, rt, parking)
     }
@@ -267,11 +263,10 @@ impl<T: Drop, I: Keeps<T>> RwMutex<T, I> {
     ) -> Result<Guard<'a, Shared<T>, P, R, Sharing<I>, RwHooks>, TryLockFault>
         requires can { CanLock lock.now (P.seats parking.now) pass.old }
         ensures* not_locked { sem 𝓛 (RestsIfErr the_row pass.entry (λ guard. guard.pass.ghost_name) result
-            (NotLocked lock.now.when_full (tries (P.did parking.now)) pass.old (yes_unless_missed result))) }
-        ensures same_reference { IfOk result (λ guard. guard.pass.ghost_name ≡ pass.entry.ghost_name) }
-        ensures guards { IfOk result (λ guard. Owns (P.seats guard.parking.now) guard) }
-        ensures locked { IfOk result (HasLocked lock.now.when_full (tries (P.did parking.now)) pass.old) }
-        ensures kept { IfOk result (λ guard. Kept I.invariant guard.slot) }
+            (NotLocked lock.now.when_full (tries (P.did parking.now) X)
+            pass.old (yes_unless_missed result))) }
+        ensures locked { IfOk result (HasLocked P.seats I.invariant lock.now.when_full
+            (tries (P.did parking.now) X) pass.entry) }
     {
         Mutex::try_lock(pass, &lock.mutex, rt, parking)
     }
@@ -288,13 +283,10 @@ impl<T: Drop, I: Keeps<T>> RwMutex<T, I> {
     ) -> Result<Guard<'a, Shared<T>, P, R, Sharing<I>, RwHooks>, TryLockFault>
         requires can { CanLock lock.now (P.seats parking.now) pass.old }
         ensures* not_locked { sem 𝓛 (RestsIfErr the_row pass.entry (λ guard. guard.pass.ghost_name) result
-            (NotLocked lock.now.when_full (acquires (P.did parking.now) (Timed ms))
+            (NotLocked lock.now.when_full (acquires (P.did parking.now) X (Timed ms))
             pass.old (yes_unless_missed result))) }
-        ensures same_reference { IfOk result (λ guard. guard.pass.ghost_name ≡ pass.entry.ghost_name) }
-        ensures guards { IfOk result (λ guard. Owns (P.seats guard.parking.now) guard) }
-        ensures locked { IfOk result
-            (HasLocked lock.now.when_full (acquires (P.did parking.now) (Timed ms)) pass.old) }
-        ensures kept { IfOk result (λ guard. Kept I.invariant guard.slot) }
+        ensures locked { IfOk result (HasLocked P.seats I.invariant lock.now.when_full
+            (acquires (P.did parking.now) X (Timed ms)) pass.entry) }
     {
         Mutex::try_lock_for(pass, &lock.mutex, rt, parking, ms)
     }
@@ -311,12 +303,9 @@ impl<T: Drop, I: Keeps<T>> RwMutex<T, I> {
         requires can { CanLock lock.now (P.seats parking.now) pass.old }
         ensures* not_locked { sem 𝓛 (RestsIfErr the_row pass.entry (λ guard. guard.pass.ghost_name)
             result (λ last. LastsUntil (P.did parking.now) moment (λ how. NotLocked lock.now.when_full
-            (acquires (P.did parking.now) how) pass.old (yes_unless_missed result) last))) }
-        ensures same_reference { IfOk result (λ guard. guard.pass.ghost_name ≡ pass.entry.ghost_name) }
-        ensures guards { IfOk result (λ guard. Owns (P.seats guard.parking.now) guard) }
-        ensures locked { IfOk result (λ guard. LastsUntil (P.did parking.now) moment
-            (λ how. HasLocked lock.now.when_full (acquires (P.did parking.now) how) pass.old guard)) }
-        ensures kept { IfOk result (λ guard. Kept I.invariant guard.slot) }
+            (acquires (P.did parking.now) X how) pass.old (yes_unless_missed result) last))) }
+        ensures locked { IfOk result (λ guard. LastsUntil (P.did parking.now) moment (λ how. HasLocked P.seats
+            I.invariant lock.now.when_full (acquires (P.did parking.now) X how) pass.entry guard)) }
     {
         Mutex::try_lock_until(pass, &lock.mutex, rt, parking, moment)
     }
@@ -356,15 +345,14 @@ impl<'a, T: Drop, P: Parking, R: Wait + Clock, I: Keeps<T>> Guard<
     /// of the write lock.
     pub fn read(&mut self) -> Result<bool, Fault>
         requires guards { Owns (P.seats self.old.parking.now) self.old }
-        ensures same_reference { self.new.pass.ghost_name ≡ self.old.pass.ghost_name }
         ensures stays { StillOwns (P.seats self.new.parking.now) self.old self.new }
-        ensures returned { GuardReturns (reads_by (P.did self.old.parking.now) Plain)
+        ensures returned { GuardReturns (acquires (P.did self.old.parking.now) S Plain)
             self.old self.new result }
-        ensures gains { GainsReads self.old.pass.now result self.new.pass.now }
+        ensures adds { Adds S self.old.pass.now result self.new.pass.now }
         ensures value { self.new.slot ≡ self.old.slot }
     {
         let pass = &mut *self.pass;
-        self.lock.read_too(self.rt, self.parking, pass)
+        self.lock.again(self.rt, self.parking, pass, Mode::S)
     }
 
     /// Unlocks now, and keeps the read holds: a writer becomes a reader, and no other writer comes in
@@ -374,10 +362,7 @@ impl<'a, T: Drop, P: Parking, R: Wait + Clock, I: Keeps<T>> Guard<
         requires guards { Owns (P.seats self.parking.now) self }
         requires last { holds self.pass.now ≡ 1 }
         requires kept { Kept I.invariant self.slot }
-        ensures free { holds self.exit.0.now ≡ 0 }
+        ensures unlocks { HasUnlocked (P.did self.entry.parking.now) self.entry.pass.now self.exit.0.now }
         ensures reads { reads self.exit.0.now ≡ reads self.entry.pass.now }
-        ensures called { Called self.entry.pass.now self.exit.0.now }
-        ensures recorded { IsRecorded (P.did self.entry.parking.now) self.entry.pass.now (Give X 1)
-            self.exit.0.now }
     {}
 }

@@ -4,7 +4,6 @@ pub use Rattle.counting.specs.Semaphore
 pub use Rattle.deciding.specs.Balance
 pub use Rattle.frame.specs.Core
 pub use Rattle.guarded.specs.Asking
-pub use Rattle.guarded.specs.Full
 pub use Rattle.guarded.specs.Guarding
 pub use Rattle.guarded.specs.LentItems
 pub use Rattle.guarded.specs.Pooling

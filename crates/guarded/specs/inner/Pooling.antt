@@ -4,7 +4,7 @@ use Rattle.guarded.specs.Below.{Fault, is_done, Deed}
 use Rattle.guarded.specs.declared.asking.PoolCall.{PoolCall}
 use Rattle.guarded.specs.declared.asking.PoolCall.TheVariants as asks
 use Rattle.guarded.specs.declared.shelf.Shelf.{Shelf}
-use Rattle.guarded.specs.Full.{Call}
+use Rattle.guarded.specs.Asking.{Call}
 use Rattle.guarded.specs.Pooling.{Answers, fetches, gives_back, tries_fetch}
 
 abbrev pub pool_call : (Deed → Type 0) → PoolCall → Call

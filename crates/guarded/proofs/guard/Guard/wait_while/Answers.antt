@@ -1,8 +1,8 @@
-use Rattle.std.proofs.Common.{rules, ◌≡◌, true, false, sym, ◌∙◌}
+use Rattle.std.proofs.Common.{rules, ◌≡◌, true, false, sym}
 use Rattle.std.proofs.lemmas.Fn.{says_at}
 use Rattle.monitor.specs.declared.how.How.TheVariants.{Interruptible}
 use Rattle.guarded.specs.Prelude.{CallReturns, awaits, MutexView, owner}
-use Rattle.guarded.proofs.Calling.{stays_on}
+use Rattle.guarded.proofs.Calling.{waits_on}
 use Rattle.guarded.proofs.Waits.{then_failed, waited_again}
 use Rattle.guarded.proofs.guard.Guard.wait_while.Goals as goal
 
@@ -16,13 +16,10 @@ loop-preserved g c =
     let is : c.predicate.result ≡ true = search rules in (
       tt,
       tt,
-      c.wait.ensures.same_reference ∙ c.loop.invariant.2,
-      stays_on c.loop.invariant.3 c.wait.ensures.stays,
-      c.wait.ensures.kept,
-      c.wait.ensures.keeps ∙ c.loop.invariant.5,
+      waits_on c.loop.invariant.2 c.wait.ensures.stays,
       waited_again _ (λ (m : MutexView) (place : _). CallReturns m.when_full
           (awaits (g.P.Parking.did place) c.args.condition Interruptible)) _
-          c.loop.invariant.3.same_lock c.loop.invariant.3.same_parking c.loop.invariant.6
+          c.loop.invariant.2.stays.same_lock c.loop.invariant.2.stays.same_parking c.loop.invariant.3
           (c.value.result.now, sym c.value.ensures.value, says_at g.F.Fn c.predicate.ensures is)
           c.in_ok-wait.field-0 c.in_ok-wait.ensures.awaited,
     )
@@ -33,7 +30,7 @@ returns-in_err-wait-clause-failed g c =
     let failed = then_failed _ (λ (m : MutexView) (place : _). CallReturns m.when_full
     (awaits (g.P.Parking.did place) c.args.condition Interruptible))
     (owner c.wait.new.self.pass.now c.wait.new.self.slot)
-    c.loop.invariant.3.same_lock c.loop.invariant.3.same_parking c.loop.invariant.6
+    c.loop.invariant.2.stays.same_lock c.loop.invariant.2.stays.same_parking c.loop.invariant.3
     (c.value.result.now, sym c.value.ensures.value, says_at g.F.Fn c.predicate.ensures is)
     c.in_err-wait.field-0.0 c.in_err-wait.ensures.awaited in
     search rules

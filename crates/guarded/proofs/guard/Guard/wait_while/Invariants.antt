@@ -1,15 +1,12 @@
-use Rattle.std.proofs.Common.{◌≡◌}
 use Rattle.std.specs.Fn.{FnReturnsAt}
-use Rattle.guarded.specs.Below.{Interruptible, holds}
-use Rattle.guarded.specs.Prelude.{CallReturns, awaits, StillOwns, Kept, Waited, WaitsWhile, owner}
+use Rattle.guarded.specs.Below.{Interruptible}
+use Rattle.guarded.specs.Prelude.{CallReturns, awaits, HasWaited, Waited, WaitsWhile, owner}
 use Rattle.guarded.proofs.guard.Guard.wait_while.Given as goal
 
 abbrev pub invariant-loop : goal.invariant-loop
 invariant-loop g l =
     (goal.iterator-loop g).can_next l.iterator' × (goal.iterator-loop g).is_finite l.iterator'
-    × (l.self.pass.ghost_name ≡ l.initial.self.pass.ghost_name)
-    × StillOwns (g.P.Parking.seats l.self.parking.now) l.fn.self l.self
-    × Kept g.I.Keeps.invariant l.self.slot × (holds l.self.pass.now ≡ holds l.fn.self.pass.now)
+    × HasWaited (g.P.Parking.seats l.self.parking.now) g.I.Keeps.invariant l.fn.self l.self
     × Waited
     (WaitsWhile (FnReturnsAt g.F.Fn l.fn.predicate) (CallReturns l.fn.self.lock.now.when_full
     (awaits (g.P.Parking.did l.fn.self.parking.now) l.fn.condition Interruptible)))

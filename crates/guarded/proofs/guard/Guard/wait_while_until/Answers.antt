@@ -1,7 +1,7 @@
-use Rattle.std.proofs.Common.{rules, ◌≡◌, true, false, sym, ◌∙◌, subst, arith}
+use Rattle.std.proofs.Common.{rules, ◌≡◌, true, false, sym, subst, arith}
 use Rattle.std.proofs.lemmas.Fn.{says_at}
 use Rattle.guarded.specs.Prelude.{MutexView, AwaitsUntil, HasCome, owner}
-use Rattle.guarded.proofs.Calling.{stays_on}
+use Rattle.guarded.proofs.Calling.{waits_on}
 use Rattle.guarded.proofs.Waits.{has_come, then_failed, waited_again}
 use Rattle.guarded.proofs.guard.Guard.wait_while_until.Goals as goal
 
@@ -17,7 +17,7 @@ returns-then-left-eq0-clause-over g c =
 
 pub returns-then-left-eq0-clause-in_time : goal.returns-then-left-eq0-clause-in_time
 returns-then-left-eq0-clause-in_time g c = λ _.
-    subst (λ (place : _). HasCome (g.P.Parking.did place) c.args.moment) c.loop.invariant.3.same_parking
+    subst (λ (place : _). HasCome (g.P.Parking.did place) c.args.moment) c.loop.invariant.2.stays.same_parking
     (has_come (g.P.Parking.did c.loop.self.parking.now) c.args.moment c.milliseconds_left-left.result
     c.milliseconds_left-left.ensures c.if-left-eq0.true)
 
@@ -26,13 +26,10 @@ loop-preserved g c =
     let is : c.predicate.result ≡ true = search rules in (
       tt,
       tt,
-      c.wait_for.ensures.same_reference ∙ c.loop.invariant.2,
-      stays_on c.loop.invariant.3 c.wait_for.ensures.stays,
-      c.wait_for.ensures.kept,
-      c.wait_for.ensures.keeps ∙ c.loop.invariant.5,
+      waits_on c.loop.invariant.2 c.wait_for.ensures.stays,
       waited_again _ (λ (m : MutexView) (place : _). AwaitsUntil (g.P.Parking.did place) m.when_full
           c.args.condition c.args.moment) _
-          c.loop.invariant.3.same_lock c.loop.invariant.3.same_parking c.loop.invariant.6
+          c.loop.invariant.2.stays.same_lock c.loop.invariant.2.stays.same_parking c.loop.invariant.3
           (c.value.result.now, sym c.value.ensures.value, says_at g.F.Fn c.predicate.ensures is)
           c.in_ok-wait_for.field-0 (
             c.milliseconds_left-left.result,
@@ -48,7 +45,7 @@ returns-in_err-wait_for-clause-failed g c =
     let failed = then_failed _ (λ (m : MutexView) (place : _). AwaitsUntil (g.P.Parking.did place) m.when_full
     c.args.condition c.args.moment)
     (owner c.wait_for.new.self.pass.now c.wait_for.new.self.slot)
-    c.loop.invariant.3.same_lock c.loop.invariant.3.same_parking c.loop.invariant.6
+    c.loop.invariant.2.stays.same_lock c.loop.invariant.2.stays.same_parking c.loop.invariant.3
     (c.value.result.now, sym c.value.ensures.value, says_at g.F.Fn c.predicate.ensures is)
     c.in_err-wait_for.field-0.0 (
       c.milliseconds_left-left.result,
