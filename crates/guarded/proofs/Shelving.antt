@@ -109,9 +109,10 @@ shelved P i k l turn free told here there here' there' traded lies here_meets th
     left_by P here there here' there' k l free here_meets there_meets traded lies semaphore (told semaphore)
     (given_by turn.step) brings (turn.free lies.semaphore)
 
--- what holds of each item holds of the one item of a list, and the other way round
-pub of_one : {T : Type 0} (P : T → Type 0) (items : List T) (x : T) → items ≡ x ∷ [] → All P items → P x
-of_one P items x is all = All-head P x [] (All-same P (x ∷ []) items (sym is) all)
+-- what holds of each item holds of the first item of a list; what holds of an item holds of each in a list of it alone
+pub of_first : {T : Type 0} (P : T → Type 0) (items : List T) (x : T) (rest : List T) → items ≡ x ∷ rest →
+    All P items → P x
+of_first P items x rest is all = All-head P x rest (All-same P (x ∷ rest) items (sym is) all)
 
 pub in_one : {T : Type 0} (P : T → Type 0) (items : List T) (x : T) → items ≡ x ∷ [] → P x → All P items
 in_one P items x is meets = All-same P items (x ∷ []) is (All-cons P x [] meets (All-nil P))
