@@ -296,12 +296,13 @@ impl<T: Drop, I: Keeps<T>> Pool<T, I> {
             pass.new result }
     {
         pass.is_true();
-        match list_of(self.alloc, item) {
-            Ok(items) => match self.release(rt, parking, pass, items) {
-                Ok(()) => Ok(()),
-                Err((items, fault)) => Err((only::<T, I>(items), fault)),
-            },
-            Err(item) => Err((item, Fault::OutOfMemory)),
+        let items = match list_of(self.alloc, item) {
+            Ok(items) => items,
+            Err(item) => return Err((item, Fault::OutOfMemory)),
+        };
+        match self.release(rt, parking, pass, items) {
+            Ok(()) => Ok(()),
+            Err((items, fault)) => Err((only::<T, I>(items), fault)),
         }
     }
 }
