@@ -2,8 +2,8 @@ use Rattle.monitor_fronts.proofs.Owning.{read_takes}
 use Rattle.guarded.proofs.Calling.{is_of_lock}
 use Rattle.guarded.proofs.mutex.Mutex.end_reading.Goals as goal
 
-pub returns-clause-ends : goal.returns-clause-ends
-returns-clause-ends g c =
+pub returns : goal.returns
+returns g c =
     record {
       called = c.enter.ensures.called;
       given = (c.enter.result, c.enter.ensures.entered, c.done.ensures);
