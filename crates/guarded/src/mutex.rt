@@ -336,7 +336,16 @@ impl<T: Drop, I: Keeps<T>, H: Hooks + Drop> Mutex<T, I, H> {
         ensures stays { IfErr result (λ fault. fault ≢ Interrupted → slot.new ≡ slot.old) }
     {
         let (request, when_full) = (Request::AwaitOn(condition), self.when_full);
-        whether(call_in_room(&self.monitor, rt, parking, pass, slot, request, how, when_full))
+        whether(call_in_room(
+            &self.monitor,
+            rt,
+            parking,
+            pass,
+            slot,
+            request,
+            how,
+            when_full,
+        ))
     }
 
     // One more hold in a mode, for the owner. The value stays in the guard.
