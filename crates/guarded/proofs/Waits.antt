@@ -1,7 +1,7 @@
 -- Waits one after another.
 use Rattle.std.proofs.Common.{◌≡◌, ◌-◌, ◌^◌, ◌≤◌, min, ℕ, suc, Bool, true, Result, Ok, Err, subst, arith}
 use Rattle.std.specs.Result.{IfErr, IfOk}
-use Rattle.guarded.specs.Below.{AreLeft, Deed, Fault, How, LastsUntil, Shown, Timed, moment_after, showed}
+use Rattle.guarded.specs.Below.{AreLeft, Deed, Fault, Shown, moment_after, showed}
 use Rattle.guarded.specs.Prelude.{Sees, HasCome, Owner, TimeWasUp, WaitFailed, Waited, WaitsWhile}
 
 -- one call more, of a guard whose lock and parking are still those of the first
@@ -50,9 +50,3 @@ module _ (did : Deed → Type 0) (begun ms end : ℕ) (shown : did (showed begun
       IfErr r (λ e. (from : ℕ) × did (showed from) × p (moment_after from ms) e)
   err_since p (Ok a) so = tt
   err_since {A} {E} p (Err e) so = (begun, shown, subst (λ (m : ℕ). p m e) is so)
-
--- what is so of a result in the milliseconds that are left until a moment
-pub ok_until : {A E : Type 0} (did : Deed → Type 0) (end ms : ℕ) (p : How → A → Type 0) (r : Result A E) →
-    AreLeft did end ms → IfOk r (p (Timed ms)) → IfOk r (λ a. LastsUntil did end (λ how. p how a))
-ok_until did end ms p (Ok a) left so = (ms, left, so)
-ok_until did end ms p (Err e) left so = tt
