@@ -518,7 +518,7 @@ def check_people(tests):
 def check_short_holds(tests):
     """Holds as short as what the recorder adds to them are as long as the program's own clock says: the medians of 200
     mutexes, since a busy machine disturbs some. If it disturbs one clock alone, both are asked again."""
-    for case in ("holds_of_60_nanoseconds", "holds_of_a_microsecond"):
+    for case in ("holds_of_60_nanoseconds", "holds_of_a_microsecond", "holds_of_100_nanoseconds_between_other_code"):
         told, is_near = [], False
         while not is_near and len(told) < 8:
             folder = tests.histories(f"times-{case}-{len(told)}")

@@ -148,7 +148,7 @@ static inline void enter_elsewhere(thread_t *me) {
 
 static inline void leave(thread_t *me) {
     atomic_store_explicit(&me->in, NULL, memory_order_release);
-    if (unlikely(--me->busy == 0 && me->has_posts)) run_posts(me);
+    if (likely(--me->busy == 0) && unlikely(me->has_posts)) run_posts(me);
 }
 
 /* When a wait ends by itself. `at` NULL: never. */
@@ -205,7 +205,7 @@ typedef struct {
     _Atomic uint64_t user; /* the id of its thread, or 0 */
     thread_t *thread;
     uint64_t order; /* of sleepers: who came first */
-    uint64_t since; /* when its hold began, if holds are timed */
+    uint64_t since; /* when its hold began, in ticks, if holds are timed */
     uint32_t holds, reads;
     uint8_t state, condition, how;
 } seat_t;
@@ -365,7 +365,9 @@ static inline uint16_t index_of(const object_t *object, const seat_t *seat) {
 
 extern bool is_timed; /* AQS_TIMES: holds are timed too, and calls are counted */
 
-extern uint64_t added_to_hold; /* by the clock and the recorder. Each hold is told without it */
+extern bool has_ticks; /* if holds are timed */
+extern uint64_t tick; /* in 2^-32 nanoseconds */
+extern uint64_t added_to_hold; /* in ticks, by the clock and the recorder. Each hold is told without it */
 
 enum { SLEEP = 2 }; /* what a thread waits for, beside AQS_MODE_EXCLUSIVE and AQS_MODE_SHARED */
 enum { LONGEST = 10 };
@@ -417,9 +419,9 @@ void end_sleep(thread_t *me, object_t *object);
 COLD void count_one_call(object_t *object, const thread_t *me);
 COLD void end_hold(object_t *object, seat_t *seat, uint64_t end);
 uint64_t least_hold(void);
+void begin_timing(void);
 void forget_times(object_t *object);
 void forget_waits(void);
-void begin_longest(thread_t *me);
 bool waits_now(bytes_t *waits);
 void add_times(const object_t *object, const bytes_t *waits, line_t *line, bytes_t *buckets);
 void add_holders(const object_t *object, const bytes_t *waits, bytes_t *holders);
@@ -433,12 +435,24 @@ static inline void count_call(object_t *object, const thread_t *me) {
     if (unlikely(is_timed)) count_one_call(object, me);
 }
 
+/* What holds are timed by: the processor's own clock, if the system trusts it. No memory is read for it. */
+static inline uint64_t ticks(void) {
+#ifdef __x86_64__
+    if (likely(has_ticks)) {
+        __builtin_ia32_lfence();
+        return __builtin_ia32_rdtsc();
+    }
+#endif
+    return nanoseconds();
+}
+static inline uint64_t in_nanoseconds(uint64_t count) { return (uint64_t)((unsigned __int128)count * tick >> 32); }
+
 /* The time, if holds are timed. Whoever unlocks reads it first of all: before it looks at the object, of which another
    processor may have the memory. */
-static inline uint64_t time_of_end(void) { return unlikely(is_timed) ? nanoseconds() : 0; }
+static inline uint64_t time_of_end(void) { return likely(has_ticks) || is_timed ? ticks() : 0; }
 
 static inline void begin_hold(seat_t *seat) {
-    if (unlikely(is_timed)) seat->since = nanoseconds() + added_to_hold;
+    if (likely(has_ticks) || is_timed) seat->since = ticks();
 }
 
 /* Conditions --------------------------------------------------------------------------------------------- */

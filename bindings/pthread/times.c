@@ -9,8 +9,37 @@
 #include <sys/prctl.h>
 #include <unistd.h>
 
-bool is_timed;
-uint64_t added_to_hold;
+bool is_timed, has_ticks;
+uint64_t tick = UINT64_C(1) << 32, added_to_hold;
+
+/* The beginning of a small file of the system's. */
+static ssize_t read_small(const char *path, char *text, size_t room) {
+    int file = open(path, O_RDONLY | O_CLOEXEC);
+    ssize_t size = file < 0 ? 0 : read(file, text, room);
+    if (file >= 0) close(file);
+    return size;
+}
+
+/* What both clocks show at a time: the nearest of some looks, since the thread may be stopped in one. */
+static void read_clocks(uint64_t *at, uint64_t *count) {
+    uint64_t least = UINT64_MAX;
+    for (int i = 0; i < 10; i++) {
+        uint64_t before = ticks(), now = nanoseconds(), took = ticks() - before;
+        if (took < least) least = took, *at = now, *count = before;
+    }
+}
+
+/* Finds out what a tick is, and what is added to a hold. */
+void begin_timing(void) {
+    uint64_t from, from_tick, to, to_tick;
+    char clock[4];
+    has_ticks = read_small("/sys/devices/system/clocksource/clocksource0/current_clocksource", clock, 4) == 4
+        && memcmp(clock, "tsc\n", 4) == 0;
+    read_clocks(&from, &from_tick);
+    added_to_hold = least_hold();
+    read_clocks(&to, &to_tick);
+    tick = ((to - from) << 32) / (to_tick - from_tick);
+}
 
 static unsigned bucket_of(uint64_t took) {
     unsigned bucket = took ? 63 - (unsigned)__builtin_clzll(took) : 0;
@@ -37,7 +66,8 @@ COLD void count_one_call(object_t *object, const thread_t *me) {
 }
 
 COLD void end_hold(object_t *object, seat_t *seat, uint64_t end) {
-    add_time(&object->hold_times, end > seat->since ? end - seat->since : 0);
+    uint64_t since = seat->since + added_to_hold;
+    add_time(&object->hold_times, end > since ? in_nanoseconds(end - since) : 0);
     seat->since = 0;
 }
 
@@ -200,7 +230,7 @@ static void say_buckets(const char *what, uint32_t serial, const uint64_t bucket
 
 /* Times of waits and holds, with those that aren't over. The thread is in the object. */
 void add_times(const object_t *object, const bytes_t *waits, line_t *line, bytes_t *out) {
-    uint64_t waited[BUCKETS] = {0}, held[BUCKETS] = {0}, now = nanoseconds();
+    uint64_t waited[BUCKETS] = {0}, held[BUCKETS] = {0}, now = ticks();
     const wait_of_t *wait = (const wait_of_t *)waits->at, *end = wait + waits->size / sizeof *wait;
     line->waits = sum_of(object->wait_times, waited);
     line->holds = sum_of(object->hold_times, held);
@@ -212,7 +242,7 @@ void add_times(const object_t *object, const bytes_t *waits, line_t *line, bytes
     for (uint16_t i = 0; object->core && i < usable(object->core); i++) {
         const seat_t *seat = &object->core->seats[i];
         uint64_t since = seat->since;
-        if (seat->user && since && since < now) add_one(&line->holds, held, now - since);
+        if (seat->user && since && since < now) add_one(&line->holds, held, in_nanoseconds(now - since));
     }
     say_buckets("waits", object->serial, waited, out);
     say_buckets("holds", object->serial, held, out);
@@ -249,9 +279,7 @@ void name_threads(void) {
         char path[60], name[NAME_SIZE + 1] = "";
         if (!at->is_live) continue;
         snprintf(path, sizeof path, "/proc/self/task/%u/comm", at->tid);
-        int file = open(path, O_RDONLY | O_CLOEXEC);
-        ssize_t size = file < 0 ? 0 : read(file, name, NAME_SIZE);
-        if (file >= 0) close(file);
+        ssize_t size = read_small(path, name, NAME_SIZE);
         if (size < 2) continue;
         name[size - 1] = 0;
         memcpy(at->name, name, NAME_SIZE);

@@ -509,7 +509,7 @@ __attribute__((constructor(101))) static void begin_recording(void) {
     if (readlink("/proc/self/exe", program, sizeof program - 1) < 0) program[0] = 0;
     fstat(2, &errors_at_start);
     watch_threads();
-    if (is_timed) added_to_hold = least_hold();
+    if (is_timed) begin_timing();
     watch_forks();
     watch_signal(SIGUSR2, ask);
     watch_signal(SIGTERM, write_and_end);

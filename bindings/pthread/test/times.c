@@ -11,6 +11,7 @@
 #include <stdint.h>
 #include <stdlib.h>
 #include <string.h>
+#include <sys/mman.h>
 #include <sys/prctl.h>
 
 static pthread_mutex_t first = PTHREAD_MUTEX_INITIALIZER;
@@ -160,7 +161,7 @@ static void mutexes_of_many_threads_are_gone(void) {
 
 /* Short holds -------------------------------------------------------------------------------------------- */
 
-enum { BLOCKS = 200, HOLDS = 1000 };
+enum { BLOCKS = 200, HOLDS = 1000, CODE = 64 << 10 };
 
 static uint64_t now(void) {
     struct timespec time;
@@ -173,10 +174,20 @@ static __attribute__((noinline)) void work(unsigned amount) {
     for (unsigned i = 0; i < amount; i++) steps++;
 }
 
+/* Other code between two holds: more than a processor keeps beside the recorder's. Each piece returns at once. */
+static char *code;
+static void run_other_code(void) {
+#ifdef __x86_64__
+    for (size_t i = 0; code && i < CODE; i += 64) ((void (*)(void))(code + i))();
+#endif
+}
+
 /* How long works of an amount take together by the program's own clock, which adds so much to each. */
 static uint64_t time_of(unsigned amount, uint64_t added) {
     uint64_t sum = 0;
     for (int i = 0; i < HOLDS; i++) {
+        run_other_code();
+        now();
         uint64_t from = now();
         work(amount);
         uint64_t took = now() - from;
@@ -200,16 +211,18 @@ static int is_longer(const void *a, const void *b) {
 }
 
 /* Each mutex has a block of holds. Before each block the same work is timed without a lock. Says the median. */
-static void short_holds(uint64_t nanoseconds) {
+static void short_holds(uint64_t nanoseconds, char *other_code) {
     static pthread_mutex_t mutexes[BLOCKS];
     static uint64_t times[BLOCKS];
     uint64_t added = least_time_of(0, 0);
     unsigned amount = 1;
     while (least_time_of(amount, added) < nanoseconds) amount += 1 + amount / 16;
+    code = other_code;
     for (int block = 0; block < BLOCKS; block++) {
         CHECK(pthread_mutex_init(&mutexes[block], NULL) == 0);
         times[block] = time_of(amount, added);
         for (int i = 0; i < HOLDS; i++) {
+            run_other_code();
             pthread_mutex_lock(&mutexes[block]);
             work(amount);
             pthread_mutex_unlock(&mutexes[block]);
@@ -219,8 +232,16 @@ static void short_holds(uint64_t nanoseconds) {
     printf("%.1f\n", (double)times[BLOCKS / 2] / HOLDS);
 }
 
-static void holds_of_60_nanoseconds(void) { short_holds(60); }
-static void holds_of_a_microsecond(void) { short_holds(1000); }
+static void holds_of_60_nanoseconds(void) { short_holds(60, NULL); }
+static void holds_of_a_microsecond(void) { short_holds(1000, NULL); }
+
+static void holds_of_100_nanoseconds_between_other_code(void) {
+    void *memory = mmap(NULL, CODE, PROT_READ | PROT_WRITE, MAP_PRIVATE | MAP_ANONYMOUS, -1, 0);
+    CHECK(memory != MAP_FAILED);
+    memset(memory, 0xc3, CODE);
+    CHECK(mprotect(memory, CODE, PROT_READ | PROT_EXEC) == 0);
+    short_holds(100, memory);
+}
 
 /* Circles ------------------------------------------------------------------------------------------------ */
 
@@ -422,6 +443,7 @@ static const struct {
     CASE(an_owner_that_ended_is_replaced),
     CASE(holds_of_60_nanoseconds),
     CASE(holds_of_a_microsecond),
+    CASE(holds_of_100_nanoseconds_between_other_code),
     CASE(calls_without_end),
     CASE(calls_of_two_threads_without_end),
 };
