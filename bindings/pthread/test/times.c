@@ -161,7 +161,7 @@ static void mutexes_of_many_threads_are_gone(void) {
 
 /* Short holds -------------------------------------------------------------------------------------------- */
 
-enum { BLOCKS = 200, HOLDS = 1000, CODE = 64 << 10 };
+enum { BLOCKS = 200, FEW_BLOCKS = 20, HOLDS = 1000, CODE = 64 << 10 };
 
 static uint64_t now(void) {
     struct timespec time;
@@ -217,8 +217,9 @@ static void short_holds(uint64_t nanoseconds, char *other_code) {
     uint64_t added = least_time_of(0, 0);
     unsigned amount = 1;
     while (least_time_of(amount, added) < nanoseconds) amount += 1 + amount / 16;
+    int blocks = other_code ? FEW_BLOCKS : BLOCKS;
     code = other_code;
-    for (int block = 0; block < BLOCKS; block++) {
+    for (int block = 0; block < blocks; block++) {
         CHECK(pthread_mutex_init(&mutexes[block], NULL) == 0);
         times[block] = time_of(amount, added);
         for (int i = 0; i < HOLDS; i++) {
@@ -228,8 +229,8 @@ static void short_holds(uint64_t nanoseconds, char *other_code) {
             pthread_mutex_unlock(&mutexes[block]);
         }
     }
-    qsort(times, BLOCKS, sizeof *times, is_longer);
-    printf("%.1f\n", (double)times[BLOCKS / 2] / HOLDS);
+    qsort(times, (size_t)blocks, sizeof *times, is_longer);
+    printf("%.1f\n", (double)times[blocks / 2] / HOLDS);
 }
 
 static void holds_of_60_nanoseconds(void) { short_holds(60, NULL); }
