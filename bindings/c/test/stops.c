@@ -371,22 +371,23 @@ static void seats_everywhere(void) {
 
 /* Forks ------------------------------------------------------------------------------------------------ */
 
-/* Whether a fork waits for no turn any more. */
-static atomic_bool forks_now;
+/* Whether the child is there. Until then the stopped thread stays where it is. */
+static atomic_bool has_forked;
 static player_t forker; /* of which the id alone is used */
 
 /* Where a release is stopped that begins when the fork waits no more, or NULL. */
 static uint8_t *begins_at;
 
-static void fork_now(void) {
-    atomic_store(&forks_now, true);
+static void note_fork(void) { atomic_store(&has_forked, true); }
+
+static void begin_now(void) {
     if (!begins_at) return;
     set(begins_at, false);
     ask(&players[0], SEM_release, 1, 0);
     ends_soon(&players[0], &is_stopped);
 }
 static __attribute__((constructor(101))) void before_the_library(void) {
-    CHECK(pthread_atfork(fork_now, NULL, NULL) == 0);
+    CHECK(pthread_atfork(begin_now, note_fork, NULL) == 0);
 }
 
 /* In the child, which has this thread alone, the semaphore is between two turns: a look ends, and a close finds
@@ -430,9 +431,9 @@ static void close_semaphore(const char *last) {
 /* A thread is stopped, and another forks: it waits for a turn or for the numbers, or it need not. */
 static void fork_beside(void) {
     pthread_t thread;
-    atomic_store(&forker.id, 0), atomic_store(&forks_now, false);
+    atomic_store(&forker.id, 0), atomic_store(&has_forked, false);
     CHECK(pthread_create(&thread, NULL, fork_and_close, NULL) == 0);
-    while (!atomic_load(&forks_now) && (atomic_load(&forker.id) == 0 || !sleeps(&forker))) usleep(10);
+    while (!atomic_load(&has_forked) && (atomic_load(&forker.id) == 0 || !sleeps(&forker))) usleep(10);
     unset();
     CHECK(pthread_join(thread, NULL) == 0);
 }
