@@ -21,6 +21,7 @@ ANSWERS = str(OUT / "answers")
 FORKS = str(OUT / "forks")
 TIMES = str(OUT / "times")
 RECORD = str(OUT / "aqs-record")
+CLOCK = pathlib.Path("/sys/devices/system/clocksource/clocksource0/current_clocksource")
 LIBRARY = str(OUT / "libaqs_pthread.so")
 LEFT = "aqs: not recorded, left to glibc: 1 robust mutexes, 1 objects shared among processes, 1 barriers"
 # Threads, rounds, and more words.
@@ -517,9 +518,12 @@ def check_people(tests):
 
 def check_short_holds(tests):
     """Holds as short as what the recorder adds to them are as long as the program's own clock says: the medians of many
-    mutexes, since a busy machine disturbs some. If it disturbs one clock alone, both are asked again."""
-    for case, mutexes in (("holds_of_60_nanoseconds", 200), ("holds_of_a_microsecond", 200),
-                          ("holds_of_100_nanoseconds_between_other_code", 20)):
+    mutexes, since a busy machine disturbs some. If it disturbs one clock alone, both are asked again. Other code between
+    the holds puts the system's clock out of the processor's caches, so there the processor's own is asked for."""
+    cases = {"holds_of_60_nanoseconds": 200, "holds_of_a_microsecond": 200}
+    if CLOCK.exists() and CLOCK.read_text() == "tsc\n":
+        cases["holds_of_100_nanoseconds_between_other_code"] = 20
+    for case, mutexes in cases.items():
         told, is_near = [], False
         while not is_near and len(told) < 8:
             folder = tests.histories(f"times-{case}-{len(told)}")
