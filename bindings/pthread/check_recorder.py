@@ -165,9 +165,9 @@ def check_what_is_recorded(tests):
     seats = [re.findall(r"(?m)^\d+ (\d+) gave s 1$", text) for text in texts if " rw " in text.split("\n")[0]]
     is_good = seats == [["0", "1", "0"], ["0"]]
     tests.count("a reader gives back the seat that it has", is_good, str(seats))
-    folder = first_process(tests.histories("record-one_signal_and_a_broadcast"))
+    folder = first_process(tests.histories("record-two_signals_and_a_broadcast"))
     signals = [re.findall(r"(?m)^\d+ \d+ (signal|signalall) 0 (\d+)$", text) for text in texts_of(folder)]
-    is_good = signals == [[("signal", "1"), ("signalall", "4")]]
+    is_good = signals == [[*[("signal", "1")] * 2, ("signalall", "4")]]
     tests.count("a signal wakes one thread, and a broadcast those that are left", is_good, str(signals))
     lines = index_of(first_process(tests.histories("record-waits_take_a_known_time")))
     is_good = [(line.waits, line.sleeps) for line in lines] == [(1, 1)]

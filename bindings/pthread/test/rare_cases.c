@@ -1019,19 +1019,32 @@ static void memory_lacks_for_conditions(void) {
     join(gives);
 }
 
-/* The owner wakes one of five threads, and then the others. Nothing of that is left. */
-static void one_signal_and_a_broadcast(void) {
+static void allow_one(void) {
+    CHECK(pthread_mutex_lock(&mutex) == 0);
+    int before = woken;
+    allowed = 1;
+    CHECK(!pthread_cond_signal(&condition) && !pthread_mutex_unlock(&mutex));
+    wait_for_woken(before + 1);
+}
+
+static void *wait_twice(void *nothing) {
+    wait_until_allowed(nothing);
+    while (is_done < 2) usleep(1000); /* another waits by then */
+    return wait_until_allowed(nothing);
+}
+
+/* The owner wakes one of five threads, which waits again after the second. It wakes that one when the mutex has more
+   seats, and then the others. Nothing of that is left. */
+static void two_signals_and_a_broadcast(void) {
     enum { THREADS = 5 };
     pthread_t threads[THREADS];
     for (int i = 0; i < THREADS; i++) {
-        threads[i] = started(wait_until_allowed, NULL);
-        while (is_done <= i) usleep(1000);
+        threads[i] = started(i ? wait_until_allowed : wait_twice, NULL);
+        while (is_done <= i + (i > 0)) usleep(1000);
         use_mutex(); /* it sleeps now */
+        if (i == 0) allow_one();
     }
-    CHECK(pthread_mutex_lock(&mutex) == 0);
-    allowed = 1;
-    CHECK(!pthread_cond_signal(&condition) && !pthread_mutex_unlock(&mutex));
-    wait_for_woken(1);
+    allow_one();
     CHECK(pthread_mutex_lock(&mutex) == 0);
     allowed = THREADS - 1;
     CHECK(!pthread_cond_broadcast(&condition) && !pthread_mutex_unlock(&mutex));
@@ -1234,7 +1247,7 @@ static const struct {
     CASE(a_reader_has_another_seat),
     CASE(destroyed_mutexes_leave_no_memory),
     CASE(memory_lacks_for_conditions),
-    CASE(one_signal_and_a_broadcast),
+    CASE(two_signals_and_a_broadcast),
     CASE(child_wakes_its_own_thread),
     CASE(child_of_an_owner_that_signalled),
     CASE(child_of_a_process_that_did_much),
