@@ -239,6 +239,7 @@ static void numbers(void) {
     CHECK(number == 77);
     IS(aqs_lock_lock(few), AQS_OK);
     IS(aqs_cond_timedwait(&first, few, 1), AQS_NO_SUCH_CONDITION);
+    CHECK(!first.lock_); /* another lock may come next */
     aqs_object_give_condition(object, 1);
     aqs_object_give_condition(object, 1);
     aqs_object_give_condition(object, 200);
