@@ -599,6 +599,24 @@ static void wait_with_two(uint8_t *at, bool is_trace) {
     for (int number = 0; number < AQS_CONDITIONS; number++) CHECK(many.object_.users_[number] == 0);
 }
 
+/* A wait on a condition is stopped at this place before it sleeps, and another thread takes the only number of its
+   lock. One of them has it. */
+static void wait_beside_a_taker(uint8_t *at) {
+    uint8_t number;
+    lock = &one;
+    play_lines(LOCK, "0 lock = OK");
+    set(at, false);
+    ask(&players[0], LOCK_timedawait, 0, 1000 * LIMIT);
+    ends_soon(&players[0], &is_stopped);
+    aqs_status_t taken = aqs_object_take_condition(aqs_lock_object(&one), &number);
+    unset();
+    if (taken != AQS_OK) IS(aqs_cond_signal(&conds[0]), AQS_OK);
+    if (!ends(&players[0], LIMIT)) FAIL("it doesn't end");
+    IS(players[0].status, taken == AQS_OK ? AQS_NO_SUCH_CONDITION : AQS_OK);
+    if (taken == AQS_OK) aqs_object_give_condition(aqs_lock_object(&one), number);
+    play_lines(LOCK, "0 unlock = OK");
+}
+
 static void conditions_everywhere(void) {
     play_name = "aqs_cond_timedwait";
     count_of_places = 0;
@@ -607,7 +625,8 @@ static void conditions_everywhere(void) {
     IS(aqs_lock_init(&one, &(aqs_options_t){.threads = 4, .conditions = 1}), AQS_OK);
     wait_with_two((uint8_t *)aqs_cond_timedwait, true);
     for (int i = 0; i < count_of_places; i++) {
-        if (is_over(places[i])) wait_with_two(places[i], false), count++;
+        if (!is_over(places[i])) continue;
+        wait_with_two(places[i], false), wait_beside_a_taker(places[i]), count++;
     }
     CHECK(count > 100);
     aqs_lock_close(&many), aqs_lock_close(&one);
