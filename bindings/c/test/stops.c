@@ -192,9 +192,9 @@ static long naps_of(const player_t *it) {
     return strtol(found + strlen(before), NULL, 10);
 }
 
-/* A thread that seeks a seat sleeps for a while at a time. Waits until its call has ended, or it has looked in vain, or
-   is the one that stopped. Returns whether it ended. */
-static bool finds_a_seat(const player_t *it) {
+/* A thread that seeks a seat, or waits for a fork, sleeps for a while at a time. Waits until its call has ended, or it
+   has looked in vain, or is the one that stopped. Returns whether it ended. */
+static bool ends_before_naps(const player_t *it) {
     for (long before = naps_of(it); naps_of(it) < before + 3; usleep(100)) {
         if (!atomic_load(&it->in_call)) return true;
         if (atomic_load(&who_stopped) == atomic_load(&it->id)) return false;
@@ -209,7 +209,7 @@ static int make_others(kind_t kind, const stop_t *row, int begun, bool is_for_go
     for (;; begun++) {
         if (begun > 0) {
             bool seeks = row->also == SEEKS && atomic_load(&is_stopped);
-            if (is_for_good ? !ends(other, LIMIT) : seeks ? !finds_a_seat(other) : !ends_soon(other, NULL)) {
+            if (is_for_good ? !ends(other, LIMIT) : seeks ? !ends_before_naps(other) : !ends_soon(other, NULL)) {
                 if (is_for_good) FAIL("%s doesn't end", row->others[begun - 1]);
                 return begun;
             }
@@ -375,14 +375,22 @@ static void seats_everywhere(void) {
 static atomic_bool has_forked;
 static player_t forker; /* of which the id alone is used */
 
-/* Where a release is stopped that begins when the fork waits no more, or NULL. */
+/* Where a release is stopped that begins when the fork waits no more, or NULL. Or whether it is traced from there. */
 static uint8_t *begins_at;
+static bool begins_traced;
+
+/* Whether a release that is stopped before its turn goes on when another fork waits no more. It makes no turn then. */
+static bool goes_on_in_a_fork;
 
 static void note_fork(void) { atomic_store(&has_forked, true); }
 
 static void begin_now(void) {
+    if (goes_on_in_a_fork && !atomic_load(&goes_on) && atomic_load(&players[0].in_call)) {
+        atomic_store(&who_stopped, 0), unset();
+        if (ends_before_naps(&players[0])) FAIL("a turn is made in a fork");
+    }
     if (!begins_at) return;
-    set(begins_at, false);
+    set(begins_at, begins_traced);
     ask(&players[0], SEM_release, 1, 0);
     ends_soon(&players[0], &is_stopped);
 }
@@ -477,13 +485,17 @@ static void fork_beside_number(uint8_t *at) {
 }
 
 /* A process forks, and a release that another thread begins then is stopped at this place. */
-static void begin_in_a_fork(uint8_t *at, bool is_new) {
+static void begin_in_a_fork(uint8_t *at, bool is_new, bool is_again) {
     pthread_t thread;
     open_semaphore(is_new);
     begins_at = at;
     CHECK(pthread_create(&thread, NULL, fork_and_close, NULL) == 0);
     CHECK(pthread_join(thread, NULL) == 0);
     begins_at = NULL;
+    while (is_again && atomic_load(&players[0].in_call) && !atomic_load(&is_stopped)) usleep(10);
+    goes_on_in_a_fork = is_again;
+    if (is_again) fork_beside();
+    goes_on_in_a_fork = false;
     unset();
     close_semaphore("0 getvalue = 1");
 }
@@ -511,7 +523,7 @@ static void forks_everywhere(void) {
         play_line = shown;
         fork_at(places[i], is_new);
         play_line = shown;
-        if (!is_new || i < BEGINNING) begin_in_a_fork(places[i], is_new);
+        if (!is_new || i < BEGINNING) begin_in_a_fork(places[i], is_new, false);
     }
     play_name = "a fork beside a thread that wakes", play_line = shown;
     count_of_places = 0;
@@ -527,6 +539,18 @@ static void forks_everywhere(void) {
     take_two((uint8_t *)aqs_thread_self, true);
     for (int i = 0; i < count_of_places; i++) {
         if (is_own(places[i])) fork_beside_number(places[i]);
+    }
+}
+
+static void two_forks_everywhere(void) {
+    char shown[60];
+    play_name = "a release beside two forks", play_line = shown;
+    count_of_places = 0;
+    begins_traced = true, begin_in_a_fork((uint8_t *)aqs_sem_release, false, false), begins_traced = false;
+    for (int i = 0; i < count_of_places && is_own(places[i]); i++) { /* until the proved library makes its turn */
+        snprintf(shown, sizeof shown, "stopped at %p", (void *)places[i]);
+        play_line = shown;
+        begin_in_a_fork(places[i], false, true);
     }
 }
 
@@ -640,6 +664,7 @@ int main(void) {
     numbers_everywhere();
     seats_everywhere();
     forks_everywhere();
+    two_forks_everywhere();
     openings_everywhere();
     conditions_everywhere();
     for (size_t i = 0; i < sizeof rows / sizeof rows[0]; i++) stop_everywhere(&rows[i]);
