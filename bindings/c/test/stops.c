@@ -374,6 +374,7 @@ static void seats_everywhere(void) {
 /* Whether the child is there. Until then the stopped thread stays where it is. */
 static atomic_bool has_forked;
 static player_t forker; /* of which the id alone is used */
+static atomic_bool is_looked_at; /* then it doesn't end */
 
 /* Where a release is stopped that begins when the fork waits no more, or NULL. Or whether it is traced from there. */
 static uint8_t *begins_at;
@@ -419,6 +420,7 @@ static void *fork_and_close(void *none) {
     }
     CHECK(waitpid(child, &status, 0) == child);
     if (!WIFEXITED(status) || WEXITSTATUS(status) != 0) FAIL("a child ends with status %d", status);
+    while (atomic_load(&is_looked_at)) usleep(10);
     return none;
 }
 
@@ -439,9 +441,10 @@ static void close_semaphore(const char *last) {
 /* A thread is stopped, and another forks: it waits for a turn or for the numbers, or it need not. */
 static void fork_beside(void) {
     pthread_t thread;
-    atomic_store(&forker.id, 0), atomic_store(&has_forked, false);
+    atomic_store(&forker.id, 0), atomic_store(&has_forked, false), atomic_store(&is_looked_at, true);
     CHECK(pthread_create(&thread, NULL, fork_and_close, NULL) == 0);
     while (!atomic_load(&has_forked) && (atomic_load(&forker.id) == 0 || !sleeps(&forker))) usleep(10);
+    atomic_store(&is_looked_at, false);
     unset();
     CHECK(pthread_join(thread, NULL) == 0);
 }
