@@ -646,6 +646,52 @@ static void a_signal_comes_as_the_owner_leaves(void) {
     }
 }
 
+/* Where a thread that signals is stopped before an atomic instruction of its call, the owner unlocks. */
+static atomic_int owned_for, unlocked_for;
+
+static void on_trap_of_signal(int number, siginfo_t *info, void *context) {
+    enum { LOCK_PREFIX = 0xf0 };
+    greg_t *now = ((ucontext_t *)context)->uc_mcontext.gregs;
+    (void)number, (void)info;
+    if (*(unsigned char *)now[REG_RIP] != LOCK_PREFIX || ++instruction != wanted) return;
+    now[REG_EFL] &= ~(greg_t)TRAPS;
+    asked_for++;
+    while (unlocked_for < asked_for) sched_yield();
+}
+
+/* It locks when the waiter sleeps again. */
+static void *unlock_each(void *nothing) {
+    while (!is_past_end) {
+        CHECK(pthread_mutex_lock(&mutex) == 0);
+        owned_for++;
+        while (asked_for < owned_for && !is_past_end) sched_yield();
+        CHECK(pthread_mutex_unlock(&mutex) == 0);
+        unlocked_for++;
+        while (answered_for < unlocked_for && !is_past_end) usleep(100);
+    }
+    return nothing;
+}
+
+/* A signal without the mutex, beside an owner who unlocks, is not lost. */
+static void the_owner_unlocks_as_a_signal_comes(void) {
+    struct sigaction traps = {.sa_sigaction = on_trap_of_signal, .sa_flags = SA_SIGINFO};
+    CHECK(sigaction(SIGTRAP, &traps, NULL) == 0);
+    pthread_t answers = started(answer_each, NULL);
+    while (!is_done) usleep(1000);
+    pthread_t unlocks = started(unlock_each, NULL);
+    for (wanted = 1; !is_past_end; wanted++) {
+        while (owned_for < wanted) usleep(100);
+        instruction = 0;
+        trace();
+        CHECK(pthread_cond_signal(&condition) == 0);
+        trace_no_more();
+        is_past_end = instruction < wanted;
+    }
+    join(unlocks);
+    join(answers);
+    printf("all answered\n");
+}
+
 /* More threads wait than an object of the core has seats. Their owner wakes them all at once, or one by one, or a
    thread that doesn't own the mutex wakes them all. */
 static int opened;
@@ -1234,6 +1280,7 @@ static const struct {
     CASE(has_locks_of_other_kinds),
     CASE(trylock_beside_signals),
     CASE(a_signal_comes_as_the_owner_leaves),
+    CASE(the_owner_unlocks_as_a_signal_comes),
     CASE(an_owner_wakes_many),
     CASE(children_wait_together),
     CASE(children_fork),
