@@ -143,6 +143,8 @@ def check_rare_cases(tests):
     case = [RARE_CASES, "main_thread_is_cancelled"]
     told = ran([RECORD, "-o", folder, "-e", "0", "--", *case]), ran(case, LD_PRELOAD=LIBRARY)
     tests.count("it ends if nothing is written meanwhile, or at all", told == ((0, "", ""),) * 2, str(told))
+    told = ran([RECORD, "-o", folder, "--", RARE_CASES, "destroyed_mutexes_leave_no_memory"], AQS_TIMES="1")
+    tests.count("the times of their holds are gone too", told[:2] == (0, "no more memory\n"), str(told))
     told = ran([RECORD, "-o", folder, "--", RARE_CASES, "a_child_with_our_memory_ends"])
     tests.count("the end of such a child isn't its parent's", "left to glibc: 2 spinlocks\n" in told[2], str(told))
     told = ran([RECORD, "-o", "/proc/none/such", "--", RARE_CASES, "standard_error_is_another_file"])

@@ -995,6 +995,7 @@ static void wait_with_a_new_mutex(void) {
     pthread_mutex_t own;
     CHECK(!pthread_mutex_init(&own, NULL) && !pthread_mutex_lock(&own));
     CHECK(pthread_cond_timedwait(&condition, &own, &past) == ETIMEDOUT);
+    CHECK(pthread_mutex_timedlock(&own, &past) == ETIMEDOUT);
     CHECK(!pthread_mutex_unlock(&own) && !pthread_mutex_destroy(&own));
 }
 
@@ -1002,9 +1003,9 @@ static void wait_with_a_new_mutex(void) {
 static void destroyed_mutexes_leave_no_memory(void) {
     for (int i = 0; i < 1000; i++) wait_with_a_new_mutex();
     long before = resident();
-    for (int i = 0; i < 40000; i++) wait_with_a_new_mutex();
+    for (int i = 0; i < 20000; i++) wait_with_a_new_mutex();
     long more = resident() - before;
-    if (more < 2000) printf("no more memory\n");
+    if (more < 1000) printf("no more memory\n");
     else printf("%ld kB more\n", more);
 }
 
