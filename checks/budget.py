@@ -12,6 +12,8 @@ same commit, or raises the bound and writes why in a line.
   a reader must believe of it.
 - `wide lines`: lines of sources above 110 columns, imports apart.
 - `bodies twice`: bodies of three lines and more that stand in two places, tests apart.
+- `weak orderings`: steps on a shared word, or imports, that name another ordering than `Ordering::SeqCst`. Such a step
+  may be right on this processor and lose a wake on another.
 
 The last line is 'N passed, M failed'.
 """
@@ -28,6 +30,7 @@ TABLE = "checks/budget.txt"
 COLUMNS, LEAST = 110, 3
 GENERATED = re.compile(r"(?s)<!-- made by [^\n]*-->.*?(?=<!-- end -->|\Z)")
 IMPORT = re.compile(r"\s*(?:ghost use|use|pub use|//)")
+WEAK = re.compile(r"\bOrdering(?:::(?!SeqCst\b)| as\b)")
 
 
 def tracked(top, *patterns):
@@ -141,6 +144,15 @@ def twice(top):
             yield f"{places[1]}: its body is that of {places[0]}"
 
 
+def weak(top):
+    """Returns where an ordering of a step on a shared word is not the strongest."""
+    for path, _ in sources(top):
+        if path.suffix == ".rt":
+            for number, line in enumerate(path.read_text(encoding="utf-8").splitlines(), 1):
+                if WEAK.search(line.partition("//")[0]):
+                    yield f"{path.relative_to(top)}:{number}: {line.strip()}"
+
+
 def table(top):
     """Returns the bounds: name, number, why."""
     for line in (top / TABLE).read_text(encoding="utf-8").splitlines():
@@ -153,7 +165,7 @@ def counted(top):
     """Returns a function from the name of a number to the number and to where it comes from."""
     pages, found = words(top), sources(top)
     specs, known = Specs(top), lengths(top)
-    wides, twins = [*wide(top)], [*twice(top)]
+    listed_by = {"wide lines": wide, "bodies twice": twice, "weak orderings": weak}
 
     def number(name):
         if name == "crates":
@@ -169,10 +181,9 @@ def counted(top):
             return sum(pages.get(it, (0, 0))[0] for it in listed), [it for it in listed if it not in pages]
         if name.startswith("reach of "):
             return reach(top, name.removeprefix("reach of "), specs, known), []
-        if name == "wide lines":
-            return len(wides), wides
-        if name == "bodies twice":
-            return len(twins), twins
+        if name in listed_by:
+            places = [*listed_by[name](top)]
+            return len(places), places
         raise LookupError(f"{name}: no such number")
 
     return number

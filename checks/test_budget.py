@@ -80,6 +80,13 @@ class Counting(unittest.TestCase):
         places = ["crates/one/src/lib.rt:4: its body is that of crates/one/src/again.rt:4"]
         self.assertEqual(self.number("bodies twice"), (1, places))
 
+    def test_a_weaker_ordering_by_each_of_its_names(self):
+        lines = ["word.load(Ordering::SeqCst)", "word.load(Ordering::Relaxed)", "// as Ordering::Relaxed is"]
+        lines += ["use std::sync::atomic::Ordering::{Acquire, Release};", "use std::sync::atomic::Ordering as Order;"]
+        (self.top / "crates/one/src/words.rt").write_text("\n".join(lines), encoding="utf-8")
+        places = [f"crates/one/src/words.rt:{number}: {lines[number - 1]}" for number in (2, 4, 5)]
+        self.assertEqual(self.number("weak orderings"), (3, places))
+
     def test_a_number_that_nobody_counts(self):
         self.assertRaises(LookupError, self.number, "crate")
 
