@@ -294,7 +294,13 @@ def outputs(program, words, text, wanted, folder):
     out.write_bytes(b"before")
     half = to(out, preexec_fn=lambda: stops_after(len(wanted) // 2))
     yield "a file is as it was when writing fails half way", half == unwritten and holds(b"before")
-    if words != ["explain"]:
+    unread = run(program, [*words, "-o", str(out), str(folder)])
+    if words == ["explain"]:
+        told = (unread[0], out.read_bytes(), unread[2])
+        yield "an input that is not read", unread[1] == b"" and is_unread(words, folder, told)
+    else:
+        yield "a file is as it was after an input that is not read", unread == READ_FAILED and holds(b"before")
+        out.write_bytes(b"before")
         yield "a file is as it was after a fault", to(out, b"")[0] == 3 and holds(b"before")
     (folder / "out.0.part").write_bytes(b"mine")
     yield "a file beside it stays", to(out) == fine and (folder / "out.0.part").read_bytes() == b"mine"
