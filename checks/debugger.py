@@ -16,6 +16,7 @@ MOST = 12  # touches of the words by a call that goes on and ends
 SLEEPS = 20  # of one call that end at once
 BUSY = 2.0  # seconds of the processor after which a thread is said to run on and on
 ROUNDS = 2**31
+FOR_EVER = 2**63 - 1  # seconds of a sleep without a limit
 STACK = 2**23  # bytes of a thread's stack, which ends where its own variables are
 
 TRACE_ME, PEEK_TEXT, PEEK_USER, POKE_DATA, POKE_USER, CONT, STEP, GET_REGISTERS, TO_SYSTEM = 0, 1, 3, 5, 6, 7, 9, 12, 24
@@ -23,7 +24,7 @@ SET_OPTIONS, OPTIONS = 0x4200, 0x100000 | 0x80 | 0x10 | 0x8 | 0x1  # end with th
 SECCOMP, ALL = 7, 0x40000000
 NANOSLEEP, CLOCK_NANOSLEEP, FUTEX, YIELD = 35, 230, 202, 24
 WAKES, PRIVATE = {1, 10}, 127  # the other operations of a futex are sleeps
-RAX, RDX, RSI, RDI, CALL = 80, 96, 104, 112, 120  # places of registers
+R10, RAX, RDX, RSI, RDI, CALL = 56, 80, 96, 104, 112, 120  # places of registers
 DEBUG = 848  # the place of the first debug register
 TOUCH = 0b1011  # of eight bytes
 NO_RANDOM, NO_NEW_PRIVILEGES, SET_SECCOMP = 0x40000, 38, 22
@@ -98,12 +99,12 @@ class Thread:
 
 
 class Process:
-    """The program, with its threads by their numbers. Two functions hear of each call that begins, by its number, and
-    of each that ends, with what came of it."""
+    """The program, with its threads by their numbers. Three functions hear of each call that begins, by its number, of
+    each that ends, with what came of it, and of each sleep, with the seconds after which it ends."""
 
     def __init__(self, program, mode, count):
         self.words, self.waited, self.used, self.looks = [], None, None, 0
-        self.begins = self.ends = lambda *_: None
+        self.begins = self.ends = self.sleeps = lambda *_: None
         self.pid = os.fork()
         if self.pid == 0:
             become([program, mode, str(ROUNDS)])
@@ -196,7 +197,8 @@ class Process:
 
     def falls_asleep(self, thread):
         """Lets a thread go to sleep at a word, and returns whether it does."""
-        thread.at = ptrace(PEEK_USER, thread.tid, RDI)
+        thread.at, time_at = ptrace(PEEK_USER, thread.tid, RDI), ptrace(PEEK_USER, thread.tid, R10)
+        self.sleeps(self.threads.index(thread), ptrace(PEEK_TEXT, thread.tid, time_at) if time_at else FOR_EVER)
         ptrace(TO_SYSTEM, thread.tid)
         while not os.waitpid(thread.tid, ALL | os.WNOHANG)[0]:
             if self.is_asleep(thread.tid):

@@ -11,31 +11,33 @@ often. At z the thread has to be asleep. A thread that sleeps can't go on, so it
 everybody goes on until all calls have ended, or nobody is awake.
 
 A play fails if a thread sleeps for good, if two have the lock, if the calls at a seat ended as in no order of them, if
-a thread runs on and on, or if it touches the words often and ends all the same. With words, the rows are played that
+a thread runs on and on, if it touches the words often and ends all the same, or if the system is told another limit of
+a sleep than the call has. With words, the rows are played that
 have one of them. The last line is 'N passed, M failed'.
 """
 import os
 import sys
 
-from debugger import MOST, Process, Wrong
+from debugger import FOR_EVER, MOST, Process, Wrong
 
 LOCKS = """
 0<2 0<3; 0 1>50 0<7 1<4; 0 1 2 0 2z; 0 1 0!1 2 0 1z; 0 1 0!2 2 0 1z; 0! 1 0 1; 0 0! 1 0 1; 0 1! 0 1;
 0 1! 0 0 1 0; 0 1! 0 2 1 2; 0 1! 2 1 0; 0 1 2! 0 2; 0 1 2! 0 1 2; 0 1 2! 0 3 2 3; 0 1 0! 1 0; 0 1 0! 2 0;
 0 1 0! 2 3 0 1 2; 0 1 2 0! 1 0; 0 1 0 1! 2 1; 0 1 2 0 1! 3 1; 0 1~ 0 1 2! 1 0 2 0; 0 1 2! 0! 2 0;
-0 1 2 0! 1! 0 1
+0 1 2 0! 1! 0 1; 0 1! 0! 1 0
 """
 SEATS = """
 3<2 4<4 4<2 3<4 6<4 6<2 7<4 7<2; 0>500 4<5 0<8 4<4 6<4; 0! 4 0; 1! 6 1; 1! 4 1; 2! 4 2; 2! 6 2; 0! 6 0 4 0;
 1! 4 6 1; 1! 6 4 1; 4 0! 6 0; 4 0! 3 1 0; 4 0! 3 6 0; 4 1! 6 1; 6 1! 4 1; 6 0! 4 0; 0 4 0! 6 0; 1 6 1! 4 1;
 0 6 4 0; 0 1 4 0 1; 0 1 6 0 1 0z 4; 0 1! 4 0 1; 4! 0 4; 4! 1 4; 4! 2 4; 4! 6 4; 4! 5 4; 4! 3 4; 4 4! 3 4; 6! 1 6;
 6! 4 6; 6! 7 6; 6 7! 4 7; 6 7! 6 7; 6 7! 8 7; 6 7! 1 7; 4 3! 6 3; 4 6 3! 7 3; 0 4! 6 4 0;
-0 6! 4 6 0; 2~ 2z 4 2; 0! 4! 0 4; 1! 6! 1 6; 4! 6! 4 6
+0 6! 4 6 0; 2~ 2z 4 2; 0! 4! 0 4; 1! 6! 1 6; 4! 6! 4 6; 0! 4 0 4<4 0
 """
 
 ROWS = {name: [it.strip() for it in text.split(";")] for name, text in (("locks", LOCKS), ("seats", SEATS))}
 FEW, LAST = 6, 12  # the first and the last touches after which a thread is stopped
 MANY = 10**6  # touches: more than any call's
+DAY = 24 * 60 * 60  # seconds after which the park of thread 2 ends
 PUT_BACK, TAKEN = 0, 1  # what comes of a call at a lock
 FALSE, TRUE, PERMIT, DEADLINE, INTERRUPTED = range(5)  # and at a seat
 
@@ -56,6 +58,11 @@ class Lock:
         if came == TAKEN and self.holder is not None:
             raise Wrong(f"threads {self.holder} and {number} have the lock")
         self.holder = number if came == TAKEN else self.holder
+
+    def sleeps(self, number, seconds):
+        """Looks how long a thread may sleep."""
+        if seconds != FOR_EVER:
+            raise Wrong(f"thread {number} sleeps for {seconds} seconds")
 
     def goes_on(self, number):
         """Whether a thread that is at a mark has to go on in the end."""
@@ -111,6 +118,10 @@ class Seat:
         if not self.states:
             raise Wrong(f"call {number} ends with {came}, as in no order of the calls")
 
+    def sleeps(self, number, seconds):
+        if seconds > DAY if number == 2 else seconds != FOR_EVER:
+            raise Wrong(f"thread {number} sleeps for {seconds} seconds")
+
     def goes_on(self, number):
         return False
 
@@ -153,7 +164,7 @@ class Plays:
             self.process = Process(self.program, self.mode, self.kind.threads)
         self.process.words = self.words
         self.process.clear()
-        self.process.begins, self.process.ends = model.begin, model.end
+        self.process.begins, self.process.ends, self.process.sleeps = model.begin, model.end, model.sleeps
 
     def drain(self, model):
         """Lets threads go on that are awake, until there are none."""

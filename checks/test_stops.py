@@ -6,7 +6,7 @@ import tempfile
 import unittest
 
 import stops
-from debugger import Wrong, acted_on
+from debugger import FOR_EVER, Wrong, acted_on
 
 # Four threads at a lock of one word: 0 is free, 1 taken, and 2 taken while threads may sleep.
 LOCK = r"""
@@ -110,6 +110,16 @@ class Seats(unittest.TestCase):
         for asleep, signal in ((1, 6), (0, 4)):
             with self.assertRaises(Wrong):
                 self.seat(asleep, signal, (signal, 0)).check([asleep])
+
+
+class Sleeps(unittest.TestCase):
+    def test_the_park_of_one_thread_has_a_limit_and_no_other_sleep_has(self):
+        stops.Lock().sleeps(0, FOR_EVER)
+        stops.Seat().sleeps(1, FOR_EVER)
+        stops.Seat().sleeps(2, stops.DAY - 1)
+        for kind, number, seconds in ((stops.Lock, 0, 1), (stops.Seat, 1, stops.DAY), (stops.Seat, 2, FOR_EVER)):
+            with self.assertRaises(Wrong):
+                kind().sleeps(number, seconds)
 
 
 @unittest.skipUnless(shutil.which("gcc") and os.uname().machine == "x86_64", "no gcc for x86-64")
