@@ -26,8 +26,10 @@ COPIES = (
 )
 # Of Java only the list of statuses: other numbers follow it.
 JAVA = r"static final int OK = 0,[^;]*;"
-NUMBERED = ["history/src/fault.rt", "aqs_c/src/answers.rt", "aqs_c/src/calls.rt", "aqs_c/src/opening.rt",
-            "aqs_c/src/steps.rt"]
+NUMBERED = ["history/src/entry.rt", "history/src/fault.rt", "aqs_c/src/answers.rt", "aqs_c/src/calls.rt",
+            "aqs_c/src/opening.rt", "aqs_c/src/steps.rt"]
+# Enums of which a variant's place is its number (`entry.end as u8`).
+BY_PLACE = ("End", "Mode")
 
 # The constants of each enum begin so.
 FAMILIES = {
@@ -119,6 +121,8 @@ def numbers_of(path, text):
     pairs = re.findall(r"\b(\w+)::(\w+)(?:\(_\))? => (\d+),", text)
     made = re.findall(r"\b(\d+) => (?:\{[^=]*?)?Some\((\w+)::(\w+)", text)
     pairs += [(of, name, number) for number, of, name in made]
+    for of, body in re.findall(r"pub enum (\w+) \{\n(.*?)\n\}", text, re.S):
+        pairs += [(of, name, at) for at, name in enumerate(re.findall(r"(?m)^    (\w+),", body)) if of in BY_PLACE]
     found = {}
     for of, name, number in pairs:
         if of in FAMILIES:
