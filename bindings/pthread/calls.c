@@ -657,8 +657,7 @@ typedef struct {
     bool has_seat;
 } permit_wait_t;
 
-/* The thread was cancelled in its park: the wait ends, and a permit that came in the same moment goes
-   back. */
+/* The thread was cancelled in its park: the wait ends without a permit, also if one came in the same moment. */
 static void stop_waiting_for_permit(void *with) {
     permit_wait_t *wait = with;
     object_t *object = wait->object;
@@ -672,8 +671,6 @@ static void stop_waiting_for_permit(void *with) {
         forget_park(me);
         next_turn(object, wait->seat, STOPPED, &answer);
         seat_at(object, wait->seat)->state = IDLE;
-        if (answer.kind == AQS_IS_ENTRY && answer.word == AQS_WORD_GRANTED)
-            one_step(object, seat_at(object, wait->seat), AQS_STEP_GIVE, AQS_MODE_SHARED);
         unclaim(object, seat_at(object, wait->seat));
     }
     if (wait->request.waits) end_wait(me, object);
