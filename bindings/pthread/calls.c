@@ -446,7 +446,7 @@ static int lock_rwlock(object_t *object, uint8_t mode, bool tries, deadline_t de
     if (request.waits) end_wait(me, object);
     if (!error) got_rwlock(object, me, index, mode);
     else if (!own) leave_seat(object, me, seat_at(object, index));
-    if (error) tend(object, me);
+    if (error || request.waits) tend(object, me); /* it may have been the last in the queue */
     leave(me);
     return error;
 }

@@ -143,6 +143,8 @@ def check_rare_cases(tests):
     case = [RARE_CASES, "main_thread_is_cancelled"]
     told = ran([RECORD, "-o", folder, "-e", "0", "--", *case]), ran(case, LD_PRELOAD=LIBRARY)
     tests.count("it ends if nothing is written meanwhile, or at all", told == ((0, "", ""),) * 2, str(told))
+    told = ran([RECORD, "-o", folder, "-e", "0", "--", RARE_CASES, "is_asked_as_it_writes"])
+    tests.count("it writes again if nothing else makes it", told[:2] == (0, "done\n"), str(told))
     told = ran([RECORD, "-o", folder, "--", RARE_CASES, "destroyed_mutexes_leave_no_memory"], AQS_TIMES="1")
     tests.count("the times of their holds are gone too", told[:2] == (0, "no more memory\n"), str(told))
     told = ran([RECORD, "-o", folder, "--", RARE_CASES, "a_child_with_our_memory_ends"])
@@ -594,7 +596,7 @@ CIRCLES = {
     "two_mutexes_in_opposite_orders": (2, {((1, 1), (0, 2)), ((0, 2), (1, 1))}),
     "a_mutex_that_its_owner_locks": (1, {((0, 1),)}),
     "a_reader_that_wants_to_write": (1, {((0, 1),)}),
-    "a_circle_by_one_of_two_readers": (2, {((0, 2), (2, 1)), ((2, 1), (0, 2))}),
+    "a_circle_by_one_of_two_readers": (3, {((0, 2), (2, 1)), ((2, 1), (0, 2))}),
     "no_circle_since_one_gives_up": (2, set()),
     "an_owner_that_has_ended": (1, set()),
 }

@@ -233,6 +233,18 @@ COLD bool grow(object_t *object, thread_t *me, uint8_t level) {
     return is_good;
 }
 
+/* Lets the object grow to the level that it wants, if its queue is empty. One that is alone in it, or looks,
+   is waited for. */
+static bool grows(object_t *object, thread_t *me) {
+    wait_to_be_alone(object, me);
+    bool is_smaller = object->wanted > object->core->level;
+    bool is_good = !is_smaller || (is_quiet(object) && replace_core(object, object->wanted));
+    if (!is_smaller) object->wanted = 0;
+    end_alone(object);
+    if (is_smaller && is_good && atomic_load(&object->outside)) wake_outside(object, true);
+    return is_good;
+}
+
 /* Where somebody is in the queue, the entries are folded in the same core. Who finds its own seat taken leaves that to
    another turn. */
 static void fold_if_busy(object_t *object, thread_t *me) {
@@ -249,7 +261,7 @@ static void fold_if_busy(object_t *object, thread_t *me) {
 
 COLD void fold_if_full(object_t *object, thread_t *me) {
     core_t *core = object->core;
-    if (object->wanted > core->level) grow(object, me, object->wanted);
+    if (object->wanted > core->level) grows(object, me);
     else if (core->entries >= core->enough && !grow(object, me, core->level)) fold_if_busy(object, me);
 }
 
@@ -337,18 +349,6 @@ static seat_t *any_free(object_t *object, thread_t *me) {
         return seat;
     }
     return NULL;
-}
-
-/* Lets the object grow to the level that it wants, if its queue is empty. One that is alone in it, or looks,
-   is waited for. */
-static bool grows(object_t *object, thread_t *me) {
-    wait_to_be_alone(object, me);
-    bool is_smaller = object->wanted > object->core->level;
-    bool is_good = !is_smaller || (is_quiet(object) && replace_core(object, object->wanted));
-    if (!is_smaller) object->wanted = 0;
-    end_alone(object);
-    if (is_smaller && is_good && atomic_load(&object->outside)) wake_outside(object, true);
-    return is_good;
 }
 
 /* While the object should grow, nobody new comes in: those in the queue leave it, and then it does. */

@@ -41,6 +41,12 @@ static void handle(int signal, void (*handler)(int)) {
     CHECK(sigaction(signal, &action, NULL) == 0);
 }
 
+static bool is_past(const struct timespec *moment) {
+    struct timespec now;
+    CHECK(clock_gettime(CLOCK_REALTIME, &now) == 0);
+    return now.tv_sec == moment->tv_sec ? now.tv_nsec > moment->tv_nsec : now.tv_sec > moment->tv_sec;
+}
+
 enum { CROWD = 12 };
 static atomic_int crowd;
 
@@ -219,6 +225,27 @@ ssize_t write(int file, const void *at, size_t size) {
     bool in_parts = writes_parts;
     if (in_parts && ++calls % 2) return errno = EINTR, -1;
     return syscall(SYS_write, file, at, in_parts && size > 50 ? 50 : size);
+}
+
+static atomic_int times_written; /* from the first time on that it is asked */
+static atomic_bool asks_again;
+
+/* The same. The process is asked to write when it has written all. */
+int rename(const char *from, const char *to) {
+    const char *name = strrchr(to, '/');
+    if (asks_again && name && strcmp(name, "/times") == 0 && ++times_written == 1) CHECK(kill(getpid(), SIGUSR2) == 0);
+    return renameat(AT_FDCWD, from, AT_FDCWD, to);
+}
+
+/* A process that is asked to write as it writes does so once more. */
+static void is_asked_as_it_writes(void) {
+    struct timespec late = after(CLOCK_REALTIME, 10000);
+    survive_sigusr2();
+    join(started(lock_in_time, NULL));
+    asks_again = true;
+    CHECK(raise(SIGUSR2) == 0);
+    while (getenv("AQS_RECORD") && times_written < 2 && !is_past(&late)) usleep(1000);
+    printf("%s\n", times_written == 1 ? "written once" : "done");
 }
 
 /* What is recorded is whole, even if no write takes all that it is given. */
@@ -500,10 +527,12 @@ static void has_locks_of_other_kinds(void) {
 /* Signals without the mutex ------------------------------------------------------------------------------ */
 
 static int gate[2];
+static atomic_int stopped;
 
 static void stop_here(int signal) {
     char byte;
     (void)signal;
+    stopped++;
     CHECK(read(gate[0], &byte, 1) == 1);
 }
 
@@ -530,7 +559,7 @@ static void trylock_beside_signals(void) {
     while (!is_done) usleep(1000);
     use_mutex();
     CHECK(pthread_kill(waits, SIGUSR1) == 0);
-    usleep(50000);
+    while (!stopped) usleep(1000);
     pthread_t signals = started(signal_until_done, NULL);
     for (clock_t until = clock() + CLOCKS_PER_SEC / 4; clock() < until;) {
         if (pthread_mutex_trylock(&mutex)) busy++;
@@ -548,15 +577,10 @@ static void trylock_beside_signals(void) {
    recorder is. */
 enum { TRAPS = 0x100, STEP = 20 };
 static pthread_cond_t answer = PTHREAD_COND_INITIALIZER;
+static pthread_mutex_t *owned = &mutex;
 static atomic_int asked_for, signalled_for, answered_for;
 static atomic_bool is_past_end;
 static int instruction, wanted;
-
-static bool is_past(const struct timespec *moment) {
-    struct timespec now;
-    CHECK(clock_gettime(CLOCK_REALTIME, &now) == 0);
-    return now.tv_sec == moment->tv_sec ? now.tv_nsec > moment->tv_nsec : now.tv_sec > moment->tv_sec;
-}
 
 /* The signal may have to wait for the stopped thread. */
 static void on_trap(int number, siginfo_t *info, void *context) {
@@ -587,23 +611,23 @@ static void *signal_each(void *nothing) {
             CHECK(pthread_cond_signal(&condition) == 0);
             signalled_for = round + 1;
         } else if (is_late) {
-            CHECK(pthread_mutex_lock(&mutex) == 0);
+            CHECK(pthread_mutex_lock(owned) == 0);
             is_past_end = true;
-            CHECK(!pthread_cond_signal(&answer) && !pthread_mutex_unlock(&mutex));
+            CHECK(!pthread_cond_signal(&answer) && !pthread_mutex_unlock(owned));
         }
     }
     return nothing;
 }
 
 static void *answer_each(void *nothing) {
-    CHECK(pthread_mutex_lock(&mutex) == 0);
+    CHECK(pthread_mutex_lock(owned) == 0);
     atomic_store(&is_done, 1);
     while (!is_past_end) {
-        CHECK(pthread_cond_wait(&condition, &mutex) == 0);
+        CHECK(pthread_cond_wait(&condition, owned) == 0);
         atomic_store(&answered_for, asked_for);
         CHECK(pthread_cond_signal(&answer) == 0);
     }
-    CHECK(pthread_mutex_unlock(&mutex) == 0);
+    CHECK(pthread_mutex_unlock(owned) == 0);
     return nothing;
 }
 
@@ -613,33 +637,37 @@ static bool is_answered(bool waits) {
     int error = 0;
     instruction = 0;
     trace();
-    if (waits) error = pthread_cond_timedwait(&answer, &mutex, &late);
-    else CHECK(pthread_mutex_unlock(&mutex) == 0);
+    if (waits) error = pthread_cond_timedwait(&answer, owned, &late);
+    else CHECK(pthread_mutex_unlock(owned) == 0);
     trace_no_more();
     while (!waits && answered_for < asked_for && !is_past_end && !is_past(&late)) sched_yield();
-    CHECK(waits || pthread_mutex_lock(&mutex) == 0);
+    CHECK(waits || pthread_mutex_lock(owned) == 0);
     while (waits && answered_for < asked_for && !is_past_end && !error)
-        error = pthread_cond_timedwait(&answer, &mutex, &late);
+        error = pthread_cond_timedwait(&answer, owned, &late);
     bool is_good = is_past_end || (!error && answered_for == asked_for);
     if (instruction < wanted) is_past_end = true;
     return is_good;
 }
 
-/* A signal comes as the owner begins to wait on another condition, or unlocks: it is not lost. */
+/* A signal comes as the owner begins to wait on another condition, or unlocks: it is not lost. Nor is it as the owner
+   of a mutex of glibc begins to wait. */
 static void a_signal_comes_as_the_owner_leaves(void) {
     struct sigaction traps = {.sa_sigaction = on_trap, .sa_flags = SA_SIGINFO};
     CHECK(sigaction(SIGTRAP, &traps, NULL) == 0);
-    for (int waits = 0; waits < 2; waits++) {
+    robust = made(PTHREAD_MUTEX_ROBUST, PTHREAD_PRIO_NONE, PTHREAD_MUTEX_NORMAL);
+    for (int way = 0; way < 3; way++) {
+        bool waits = way > 0;
+        if (way == 2) owned = &robust;
         struct timespec enough = after(CLOCK_REALTIME, 10000);
         bool is_good = true;
         is_done = asked_for = signalled_for = answered_for = 0;
         is_past_end = false;
         pthread_t answers = started(answer_each, NULL), signals = started(signal_each, NULL);
         while (!is_done) usleep(1000);
-        CHECK(pthread_mutex_lock(&mutex) == 0);
+        CHECK(pthread_mutex_lock(owned) == 0);
         for (wanted = 1; is_good && !is_past_end && !is_past(&enough); wanted += STEP) is_good = is_answered(waits);
         is_past_end = true;
-        CHECK(!pthread_cond_signal(&condition) && !pthread_mutex_unlock(&mutex));
+        CHECK(!pthread_cond_signal(&condition) && !pthread_mutex_unlock(owned));
         printf("%s\n", is_good ? "answered" : "late");
         join(answers);
         join(signals);
@@ -897,6 +925,40 @@ static void reader_comes_while_a_writer_waits(void) {
         CHECK(pthread_rwlock_unlock(&lock) == 0);
         join(writer);
     }
+}
+
+/* More readers than an object of the core has seats hold until all of them do. Those that have seats are stopped in a
+   handler as the writer unlocks: when they go on, the others get seats too. */
+enum { READERS = 6, WITH_SEATS = 3 };
+
+static atomic_int reads;
+
+static void *read_until_all_do(void *lock) {
+    is_done++;
+    CHECK(pthread_rwlock_rdlock(lock) == 0);
+    for (reads++; reads < READERS;) usleep(1000);
+    CHECK(pthread_rwlock_unlock(lock) == 0);
+    return NULL;
+}
+
+static void more_readers_than_seats_hold_together(void) {
+    pthread_rwlock_t lock = PTHREAD_RWLOCK_INITIALIZER;
+    pthread_t readers[READERS];
+    CHECK(pipe(gate) == 0 && pthread_rwlock_wrlock(&lock) == 0);
+    handle(SIGUSR1, stop_here);
+    for (int i = 0; i < READERS; i++) {
+        readers[i] = started(read_until_all_do, &lock);
+        if (i + 1 != WITH_SEATS && i + 1 != READERS) continue;
+        while (is_done <= i) usleep(1000);
+        usleep(50000);
+    }
+    for (int i = 0; i < WITH_SEATS; i++) CHECK(pthread_kill(readers[i], SIGUSR1) == 0);
+    while (stopped < WITH_SEATS) usleep(1000);
+    CHECK(pthread_rwlock_unlock(&lock) == 0);
+    usleep(50000);
+    CHECK(write(gate[1], "all", WITH_SEATS) == WITH_SEATS);
+    for (int i = 0; i < READERS; i++) join(readers[i]);
+    printf("all read\n");
 }
 
 /* A moment before 1970 is over, as any that has passed, by whichever clock. The call leaves errno, and how its thread
@@ -1270,6 +1332,7 @@ static const struct {
     CASE(handlers_fork),
     CASE(is_asked_to_write_often),
     CASE(writes_where_it_may_not_be_cancelled),
+    CASE(is_asked_as_it_writes),
     CASE(files_are_written_in_parts),
     CASE(handler_posts_while_files_are_written),
     CASE(handlers_run_while_it_waits),
@@ -1290,6 +1353,7 @@ static const struct {
     CASE(a_child_with_our_memory_is_ended),
     CASE(reader_asks_to_write),
     CASE(reader_comes_while_a_writer_waits),
+    CASE(more_readers_than_seats_hold_together),
     CASE(waits_until_long_ago),
     CASE(threads_come_one_after_another),
     CASE(a_reader_has_another_seat),

@@ -1,5 +1,26 @@
-/* Who waits for a seat of an object that has none to give. The object is made here, and none is recorded: what comes
-   between two steps of the recorder comes always. A wake that is lost is seen by the alarm. */
+/* What comes between two steps of the recorder, as to who waits for a seat of an object that has none to give. Objects
+   are made here, and none is recorded: what comes between two steps comes always. A wake that is lost is seen by the
+   alarm. And what a write leaves in the recorder's memory. */
+#include <stdatomic.h>
+
+/* What another thread does after a look at an address, or after a value was taken from there. */
+static const volatile void *looked_at;
+static void (*after_it)(void);
+static inline void come_between(const volatile void *at) {
+    if (at != looked_at) return;
+    looked_at = 0;
+    after_it();
+}
+#define THEN_OTHERS(at, value)      \
+    ({                              \
+        __auto_type value_ = value; \
+        come_between(at);           \
+        value_;                     \
+    })
+#undef atomic_load
+#define atomic_load(at) THEN_OTHERS(at, atomic_load_explicit(at, memory_order_seq_cst))
+#undef atomic_exchange
+#define atomic_exchange(at, value) THEN_OTHERS(at, atomic_exchange_explicit(at, value, memory_order_seq_cst))
 #include "../record.h"
 #include "check.h"
 
@@ -16,14 +37,15 @@ static seat_t *look_for_seat(object_t *object, thread_t *me) {
 #include "../objects.c"
 #undef claim
 #include "../calls.c"
+#include "../conditions.c"
 
 enum { OTHERS = 1000000, FREED = 7 };
 
 /* A semaphore with one permit, all seats of which others have. */
-static object_t *full_object(sem_t *semaphore) {
+static object_t *full_object(sem_t *semaphore, uint8_t level) {
     object_t *object = heap_take_zeroed(sizeof *object);
     thread_t *me = self();
-    object->kind = SEMAPHORE, object->permits = 1, object->wanted = LEVELS - 1, object->born = epoch_of_now();
+    object->kind = SEMAPHORE, object->permits = 1, object->wanted = level, object->born = epoch_of_now();
     *tag_of_semaphore(semaphore) = (tag_t){object, mark_of(semaphore)};
     enter(me, object);
     for (uint16_t i = 0; i < usable(object->core); i++) object->core->seats[i].user = OTHERS + i;
@@ -36,7 +58,7 @@ static void give_seat(object_t *object) { unclaim(object, &object->core->seats[F
 /* Its wake is not lost, though the thread doesn't sleep yet. */
 static void a_seat_comes_free_after_the_look(void) {
     static sem_t semaphore;
-    object_t *object = full_object(&semaphore);
+    object_t *object = full_object(&semaphore, LEVELS - 1);
     thread_t *me = self();
     request_t request = {.mode = AQS_MODE_SHARED};
     uint8_t woke;
@@ -48,13 +70,16 @@ static void a_seat_comes_free_after_the_look(void) {
     leave(me);
 }
 
+static atomic_bool has_taken;
+
 static void *take(void *semaphore) {
     CHECK(sem_wait(semaphore) == 0);
+    atomic_store(&has_taken, true);
     return NULL;
 }
 
 static void wait_for_sleepers(unsigned wanted) {
-    for (unsigned found = 0; found < wanted; usleep(1000)) {
+    for (unsigned found = 0; found < wanted && !has_taken; usleep(1000)) {
         found = 0;
         for (thread_t *at = all_threads(); at; at = at->next) found += at->is_live && at->is_asleep;
     }
@@ -63,7 +88,7 @@ static void wait_for_sleepers(unsigned wanted) {
 /* Two wait for a seat. The wake for one went to the first, which is cancelled: so the second has it. */
 static void a_cancelled_wait_hands_its_wake_on(void) {
     static sem_t semaphore;
-    object_t *object = full_object(&semaphore);
+    object_t *object = full_object(&semaphore, LEVELS - 1);
     pthread_t threads[2];
     void *end;
     for (unsigned i = 0; i < 2; i++) {
@@ -77,9 +102,115 @@ static void a_cancelled_wait_hands_its_wake_on(void) {
     CHECK(object->outside == 0);
 }
 
+/* A thread gives its seat back, and finds that nobody is outside. Then one comes: it has the seat, or its wake. */
+static sem_t asked_for;
+static pthread_t comes;
+
+static void come(void) {
+    CHECK(pthread_create(&comes, NULL, take, &asked_for) == 0);
+    wait_for_sleepers(1);
+}
+
+static void one_comes_as_a_seat_is_given_back(void) {
+    object_t *object = full_object(&asked_for, LEVELS - 1);
+    thread_t *me = self();
+    has_taken = false;
+    after_it = come, looked_at = &object->outside;
+    enter(me, object);
+    give_seat(object);
+    leave(me);
+    CHECK(pthread_join(comes, NULL) == 0);
+}
+
+static void *end_a_turn(void *object) {
+    thread_t *me = self();
+    enter(me, object);
+    tend(object, me);
+    leave(me);
+    return NULL;
+}
+
+/* One waits outside until the queue is empty. The last that was in it lets the object grow, also if another looks at
+   it just then. */
+static void the_object_grows_after_a_look(void) {
+    object_t *object = full_object(&asked_for, 0);
+    pthread_t last;
+    has_taken = false;
+    object->core->seats[0].state = QUEUED;
+    come();
+    object->core->seats[0].state = IDLE;
+    CHECK(spin_try(&object->lock));
+    CHECK(pthread_create(&last, NULL, end_a_turn, object) == 0);
+    usleep(20000);
+    spin_unlock(&object->lock);
+    CHECK(pthread_join(last, NULL) == 0 && pthread_join(comes, NULL) == 0);
+}
+
+static pthread_mutex_t mutex = PTHREAD_MUTEX_INITIALIZER;
+static pthread_cond_t variable = PTHREAD_COND_INITIALIZER;
+static atomic_int begun;
+
+static void *sleep_once(void *none) {
+    CHECK(pthread_mutex_lock(&mutex) == 0);
+    begun++;
+    CHECK(pthread_cond_wait(&variable, &mutex) == 0 && pthread_mutex_unlock(&mutex) == 0);
+    return none;
+}
+
+static void *signal_once(void *none) {
+    CHECK(pthread_cond_signal(&variable) == 0);
+    return none;
+}
+
+static void signal_by_another(void) {
+    pthread_t signals;
+    CHECK(pthread_create(&signals, NULL, signal_once, NULL) == 0 && pthread_join(signals, NULL) == 0);
+}
+
+/* Two sleep. One signal was noted, and as the owner makes it another is. */
+static void a_signal_is_noted_as_one_is_made(void) {
+    pthread_t sleepers[2];
+    object_t *object = open_object(tag_of_mutex(&mutex), &mutex, MUTEX, NORMAL, 0, NULL, true);
+    is_recording = true;
+    CHECK(open_condition(&variable));
+    is_recording = false;
+    for (int i = 0; i < 2; i++) CHECK(pthread_create(&sleepers[i], NULL, sleep_once, NULL) == 0);
+    while (begun < 2) usleep(1000);
+    CHECK(pthread_mutex_lock(&mutex) == 0);
+    signal_by_another();
+    after_it = signal_by_another, looked_at = &object->signals[condition_of(&variable)->number];
+    CHECK(pthread_mutex_unlock(&mutex) == 0);
+    for (int i = 0; i < 2; i++) CHECK(pthread_join(sleepers[i], NULL) == 0);
+}
+
+static void *lock_once(void *none) {
+    CHECK(pthread_mutex_lock(&mutex) == 0 && pthread_mutex_unlock(&mutex) == 0);
+    return none;
+}
+
+/* A write has told who waits, who holds, and how long, and gives its memory back. */
+static void a_write_leaves_no_memory(void) {
+    pthread_t waits;
+    size_t before = 0;
+    is_timed = true, has_taken = false;
+    CHECK(pthread_mutex_lock(&mutex) == 0);
+    CHECK(pthread_create(&waits, NULL, lock_once, NULL) == 0);
+    wait_for_sleepers(1);
+    for (int i = 0; i < 3; i++) {
+        before = heap_in_use();
+        write_all(self());
+    }
+    CHECK(heap_in_use() == before);
+    CHECK(pthread_mutex_unlock(&mutex) == 0 && pthread_join(waits, NULL) == 0);
+}
+
 int main(void) {
-    alarm(60);
+    alarm(20);
     a_seat_comes_free_after_the_look();
     a_cancelled_wait_hands_its_wake_on();
+    one_comes_as_a_seat_is_given_back();
+    the_object_grows_after_a_look();
+    a_signal_is_noted_as_one_is_made();
+    a_write_leaves_no_memory();
     return 0;
 }

@@ -288,13 +288,22 @@ static void *only_read(void *nothing) {
     return nothing;
 }
 
-/* Two read. One of them waits for the mutex of a thread that waits to write. */
+static void *hold_first(void *nothing) {
+    CHECK(pthread_mutex_lock(&first) == 0);
+    pthread_barrier_wait(&both);
+    for (;;) pause();
+    return nothing;
+}
+
+/* Two read. One of them waits for the mutex of a thread that waits to write. Another waits for it too, which is looked
+   at first, and is in no circle. */
 static void a_circle_by_one_of_two_readers(void) {
     CHECK(pthread_mutex_lock(&first) == 0);
     started(only_read, NULL);
     pthread_barrier_wait(&both);
     started(read_and_lock, NULL);
     pthread_barrier_wait(&both);
+    started(hold_first, NULL);
     say_that_it_hangs();
     CHECK(pthread_rwlock_wrlock(&lock) == 0);
 }
@@ -314,13 +323,6 @@ static void no_circle_since_one_gives_up(void) {
     pthread_barrier_wait(&both);
     say_that_it_hangs();
     CHECK(pthread_mutex_lock(&second) == 0);
-}
-
-static void *hold_first(void *nothing) {
-    CHECK(pthread_mutex_lock(&first) == 0);
-    pthread_barrier_wait(&both);
-    for (;;) pause();
-    return nothing;
 }
 
 /* The thread that holds the mutex isn't in the child. */
