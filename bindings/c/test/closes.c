@@ -223,8 +223,8 @@ static void one_barrier(void) {
     CHECK(pthread_join(thread, NULL) == 0);
 }
 
-/* A thread opens a latch for one that waits there, and leaves it. Before it wakes that one, its time is up, it
-   passes, and closes the latch. */
+/* A thread opens a latch for one that waits there, or gives it a permit, and leaves. Before it wakes that one, its time
+   is up, it passes, and closes the object. */
 
 static aqs_sem_t *of_handler;
 
@@ -233,28 +233,32 @@ static void on_signal(int number) {
     IS(aqs_sem_release(of_handler, 1), AQS_OK);
 }
 
-static void *open_for_one(void *none) {
-    aqs_object_t *of = aqs_latch_object(object);
+static void *open_for_one(void *is_latch) {
+    aqs_object_t *of = is_latch ? aqs_latch_object(object) : aqs_sem_object(object);
     for (uint32_t count = 0; count == 0; usleep(10)) IS(aqs_object_queue_length(of, &count), AQS_OK);
     post = IS_INTERRUPTED;
-    IS(aqs_latch_count_down(object), AQS_OK);
+    IS(is_latch ? aqs_latch_count_down(object) : aqs_sem_release(object, 1), AQS_OK);
     CHECK(post == MAKES_A_POST);
-    return none;
+    return NULL;
 }
 
-static void before_it_is_woken(void) {
+static void before_it_is_woken(bool is_latch) {
     struct sigaction action = {.sa_handler = on_signal};
     aqs_latch_t *latch;
+    aqs_sem_t *semaphore;
     pthread_t thread;
     aqs_status_t status;
     CHECK(sigaction(SIGUSR1, &action, NULL) == 0);
     IS(aqs_sem_open(&of_handler, 0, &options), AQS_OK);
-    IS(aqs_latch_open(&latch, 1, &options), AQS_OK);
-    object = latch;
-    CHECK(pthread_create(&thread, NULL, open_for_one, NULL) == 0);
-    while ((status = aqs_latch_timedawait(latch, 5)) == AQS_TIMED_OUT) continue;
+    if (is_latch) IS(aqs_latch_open(&latch, 1, &options), AQS_OK);
+    else IS(aqs_sem_open(&semaphore, 0, &options), AQS_OK);
+    object = is_latch ? (void *)latch : semaphore;
+    CHECK(pthread_create(&thread, NULL, open_for_one, is_latch ? object : NULL) == 0);
+    do status = is_latch ? aqs_latch_timedawait(latch, 5) : aqs_sem_timedacquire(semaphore, 1, 5);
+    while (status == AQS_TIMED_OUT);
     IS(status, AQS_OK);
-    aqs_latch_close(latch);
+    if (is_latch) aqs_latch_close(latch);
+    else aqs_sem_close(semaphore);
     CHECK(pthread_join(thread, NULL) == 0);
     IS(aqs_sem_tryacquire(of_handler, 1), AQS_OK);
     aqs_sem_close(of_handler);
@@ -274,7 +278,7 @@ int main(void) {
     alarm(100);
     is_slow_round = true;
     for (int i = 0; i < 5; i++) round_of_all();
-    for (int i = 0; i < 5; i++) before_it_is_woken();
+    for (int i = 0; i < 10; i++) before_it_is_woken(i % 2);
     is_slow_round = false;
     for (int i = 0; i < 300; i++) round_of_all();
     puts("closes: good");
