@@ -227,13 +227,14 @@ ssize_t write(int file, const void *at, size_t size) {
     return syscall(SYS_write, file, at, in_parts && size > 50 ? 50 : size);
 }
 
-static atomic_int times_written; /* from the first time on that it is asked */
-static atomic_bool asks_again;
+static atomic_int times_written;
+static atomic_bool asks_again, has_asked;
 
-/* The same. The process is asked to write when it has written all. */
+/* The same. The file of times is written last, and is held up until the process is asked again. */
 int rename(const char *from, const char *to) {
     const char *name = strrchr(to, '/');
-    if (asks_again && name && strcmp(name, "/times") == 0 && ++times_written == 1) CHECK(kill(getpid(), SIGUSR2) == 0);
+    if (asks_again && name && strcmp(name, "/times") == 0 && ++times_written == 1)
+        while (!has_asked) usleep(1000);
     return renameat(AT_FDCWD, from, AT_FDCWD, to);
 }
 
@@ -244,6 +245,9 @@ static void is_asked_as_it_writes(void) {
     join(started(lock_in_time, NULL));
     asks_again = true;
     CHECK(raise(SIGUSR2) == 0);
+    while (getenv("AQS_RECORD") && times_written < 1) usleep(1000);
+    CHECK(raise(SIGUSR2) == 0);
+    has_asked = true;
     while (getenv("AQS_RECORD") && times_written < 2 && !is_past(&late)) usleep(1000);
     printf("%s\n", times_written == 1 ? "written once" : "done");
 }
@@ -578,7 +582,8 @@ static void trylock_beside_signals(void) {
 enum { TRAPS = 0x100, STEP = 20 };
 static pthread_cond_t answer = PTHREAD_COND_INITIALIZER;
 static pthread_mutex_t *owned = &mutex;
-static atomic_int asked_for, signalled_for, answered_for;
+static atomic_int asked_for, asked_before, signalled_for, answered_for, told_for;
+static atomic_int *stays_until = &signalled_for;
 static atomic_bool is_past_end;
 static int instruction, wanted;
 
@@ -590,7 +595,7 @@ static void on_trap(int number, siginfo_t *info, void *context) {
     if (is_past_end) return; /* it has been woken */
     struct timespec soon = after(CLOCK_REALTIME, 2);
     int round = ++asked_for;
-    while (signalled_for < round && !is_past(&soon)) sched_yield();
+    while (*stays_until < round && !is_past(&soon)) sched_yield();
 }
 
 static inline void trace(void) { __asm__ volatile("pushfq; orl $0x100, (%%rsp); popfq" ::: "cc", "memory"); }
@@ -605,7 +610,7 @@ static void *signal_each(void *nothing) {
         bool is_late = false;
         while (asked_for == round && !is_past_end && !is_late) {
             sched_yield();
-            is_late = answered_for == round && is_past(&late);
+            is_late = answered_for == round && asked_before == round && is_past(&late);
         }
         if (asked_for > round) {
             CHECK(pthread_cond_signal(&condition) == 0);
@@ -626,6 +631,7 @@ static void *answer_each(void *nothing) {
         CHECK(pthread_cond_wait(&condition, owned) == 0);
         atomic_store(&answered_for, asked_for);
         CHECK(pthread_cond_signal(&answer) == 0);
+        atomic_store(&told_for, answered_for);
     }
     CHECK(pthread_mutex_unlock(owned) == 0);
     return nothing;
@@ -636,6 +642,7 @@ static bool is_answered(bool waits) {
     struct timespec late = after(CLOCK_REALTIME, 5000);
     int error = 0;
     instruction = 0;
+    asked_before = asked_for;
     trace();
     if (waits) error = pthread_cond_timedwait(&answer, owned, &late);
     else CHECK(pthread_mutex_unlock(owned) == 0);
@@ -649,18 +656,18 @@ static bool is_answered(bool waits) {
     return is_good;
 }
 
-/* A signal comes as the owner begins to wait on another condition, or unlocks: it is not lost. Nor is it as the owner
-   of a mutex of glibc begins to wait. */
+/* A signal comes as the owner begins to wait on another condition, or unlocks: it is not lost. Nor is one by the next
+   owner of a mutex of glibc. */
 static void a_signal_comes_as_the_owner_leaves(void) {
     struct sigaction traps = {.sa_sigaction = on_trap, .sa_flags = SA_SIGINFO};
     CHECK(sigaction(SIGTRAP, &traps, NULL) == 0);
     robust = made(PTHREAD_MUTEX_ROBUST, PTHREAD_PRIO_NONE, PTHREAD_MUTEX_NORMAL);
     for (int way = 0; way < 3; way++) {
         bool waits = way > 0;
-        if (way == 2) owned = &robust;
+        if (way == 2) owned = &robust, stays_until = &told_for;
         struct timespec enough = after(CLOCK_REALTIME, 10000);
         bool is_good = true;
-        is_done = asked_for = signalled_for = answered_for = 0;
+        is_done = asked_for = signalled_for = answered_for = told_for = 0;
         is_past_end = false;
         pthread_t answers = started(answer_each, NULL), signals = started(signal_each, NULL);
         while (!is_done) usleep(1000);

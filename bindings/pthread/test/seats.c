@@ -81,7 +81,7 @@ static void *take(void *semaphore) {
 static void wait_for_sleepers(unsigned wanted) {
     for (unsigned found = 0; found < wanted && !has_taken; usleep(1000)) {
         found = 0;
-        for (thread_t *at = all_threads(); at; at = at->next) found += at->is_live && at->is_asleep;
+        for (thread_t *at = all_threads(); at; at = at->next) found += at->waiting[0].since && at->is_asleep;
     }
 }
 
@@ -122,6 +122,9 @@ static void one_comes_as_a_seat_is_given_back(void) {
     CHECK(pthread_join(comes, NULL) == 0);
 }
 
+static atomic_bool has_tried;
+static void note_the_try(void) { has_tried = true; }
+
 static void *end_a_turn(void *object) {
     thread_t *me = self();
     enter(me, object);
@@ -140,8 +143,9 @@ static void the_object_grows_after_a_look(void) {
     come();
     object->core->seats[0].state = IDLE;
     CHECK(spin_try(&object->lock));
+    after_it = note_the_try, looked_at = &object->lock;
     CHECK(pthread_create(&last, NULL, end_a_turn, object) == 0);
-    usleep(20000);
+    while (!has_tried) usleep(1000);
     spin_unlock(&object->lock);
     CHECK(pthread_join(last, NULL) == 0 && pthread_join(comes, NULL) == 0);
 }
