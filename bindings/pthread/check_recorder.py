@@ -254,6 +254,8 @@ def check_gone(tests):
     is_good = "and 4 more of this place, which are gone" in text and ": 19 objects\n" in text
     tests.count("it says how many there were", is_good, text)
     check_index(tests, "a process whose mutexes are gone", folder, ("mutex",))
+    text = pathlib.Path(first_process(tests.histories("record-mutexes_go_as_it_writes")), "index").read_text()
+    tests.count("it counts what went as it was written", "and 4 more of this place, which are gone" in text, text)
     folder = first_process(tests.histories("answers-destroyed_after_they_were_written"))
     entries = [(line.entries, line.file is not None) for line in index_of(folder)]
     is_good = entries == [(4, True), (4, True), (2, True), (0, False)]

@@ -294,14 +294,15 @@ static void write_changes(thread_t *me) {
     static unsigned counted;
     writing_t writing = {0};
     while (!spin_try(&write_lock)) sched_yield();
+    unsigned now = only_counted; /* more may go meanwhile */
     begin_writing(me, &writing);
     for_each_object(me, look, write_text, &writing);
-    bool is_due = atomic_exchange(&must_write, 0) || counted != only_counted || is_timed || writing.waits.size;
+    bool is_due = atomic_exchange(&must_write, 0) || counted != now || is_timed || writing.waits.size;
     if (writing.is_changed || (folder[0] && is_due)) {
         write_index(&writing.lines);
         write_times(&writing);
     }
-    counted = only_counted;
+    counted = now;
     end_writing(&writing);
     spin_unlock(&write_lock);
 }

@@ -228,14 +228,18 @@ ssize_t write(int file, const void *at, size_t size) {
 }
 
 static atomic_int times_written;
-static atomic_bool asks_again, has_asked;
+static void (*as_it_ends)(void);
 
-/* The same. The file of times is written last, and is held up until the process is asked again. */
+/* The same. The file of times is written last: something comes before that, once. */
 int rename(const char *from, const char *to) {
     const char *name = strrchr(to, '/');
-    if (asks_again && name && strcmp(name, "/times") == 0 && ++times_written == 1)
-        while (!has_asked) usleep(1000);
+    if (as_it_ends && name && strcmp(name, "/times") == 0 && ++times_written == 1) as_it_ends();
     return renameat(AT_FDCWD, from, AT_FDCWD, to);
+}
+
+static atomic_bool has_asked;
+static void wait_until_asked(void) {
+    while (!has_asked) usleep(1000);
 }
 
 /* A process that is asked to write as it writes does so once more. */
@@ -243,13 +247,36 @@ static void is_asked_as_it_writes(void) {
     struct timespec late = after(CLOCK_REALTIME, 10000);
     survive_sigusr2();
     join(started(lock_in_time, NULL));
-    asks_again = true;
+    as_it_ends = wait_until_asked;
     CHECK(raise(SIGUSR2) == 0);
     while (getenv("AQS_RECORD") && times_written < 1) usleep(1000);
     CHECK(raise(SIGUSR2) == 0);
     has_asked = true;
     while (getenv("AQS_RECORD") && times_written < 2 && !is_past(&late)) usleep(1000);
     printf("%s\n", times_written == 1 ? "written once" : "done");
+}
+
+static __attribute__((noinline)) void make_mutexes(int count) {
+    pthread_mutex_t own;
+    while (count-- > 0) {
+        CHECK(!pthread_mutex_init(&own, NULL) && !pthread_mutex_lock(&own));
+        CHECK(!pthread_mutex_unlock(&own) && !pthread_mutex_destroy(&own));
+    }
+}
+
+static void make_three_mutexes(void) { make_mutexes(3); }
+
+/* Mutexes go as files are written which don't count them yet, and nothing else changes: they are counted at the end. */
+static void mutexes_go_as_it_writes(void) {
+    sem_t semaphore;
+    int value;
+    CHECK(sem_init(&semaphore, 0, 0) == 0);
+    survive_sigusr2();
+    make_mutexes(17);
+    as_it_ends = make_three_mutexes;
+    CHECK(raise(SIGUSR2) == 0);
+    CHECK(sem_getvalue(&semaphore, &value) == 0); /* it writes */
+    printf("done\n");
 }
 
 /* What is recorded is whole, even if no write takes all that it is given. */
@@ -1340,6 +1367,7 @@ static const struct {
     CASE(is_asked_to_write_often),
     CASE(writes_where_it_may_not_be_cancelled),
     CASE(is_asked_as_it_writes),
+    CASE(mutexes_go_as_it_writes),
     CASE(files_are_written_in_parts),
     CASE(handler_posts_while_files_are_written),
     CASE(handlers_run_while_it_waits),
