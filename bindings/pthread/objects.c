@@ -261,8 +261,9 @@ static void fold_if_busy(object_t *object, thread_t *me) {
 
 COLD void fold_if_full(object_t *object, thread_t *me) {
     core_t *core = object->core;
-    if (object->wanted > core->level) grows(object, me);
-    else if (core->entries >= core->enough && !grow(object, me, core->level)) fold_if_busy(object, me);
+    bool is_smaller = object->wanted > core->level;
+    if (is_smaller && is_quiet(object)) grows(object, me); /* else the last of the queue comes here */
+    else if (!is_smaller && core->entries >= core->enough && !grow(object, me, core->level)) fold_if_busy(object, me);
 }
 
 /* First touches ------------------------------------------------------------------------------------------ */
