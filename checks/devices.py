@@ -24,6 +24,7 @@ import sys
 import tempfile
 import termios
 import threading
+import time
 
 import places
 import rules
@@ -56,6 +57,9 @@ HISTORY = rules.replay(STEPS, True)[1]
 EXAMPLES = pathlib.Path(__file__).resolve().parent.parent / "examples"
 DRAWN = rules.replay((EXAMPLES / "bounded_buffer.steps").read_bytes(), True)[1]
 PICTURE = (EXAMPLES / "bounded_buffer.svg").read_bytes()
+
+# The seconds in which threads have made no call.
+LATE = 10
 
 # So many pages fewer, and then each of them if the answer is another.
 STEP = 64
@@ -247,17 +251,18 @@ def little_memory(program, words, text, wanted):
     return False
 
 
-def threads_not_started(program, count=8):
+def threads_not_started(program, words, count=8):
     """Whether a script of so many threads tells the lowest that the system does not start: with ever less
-    memory the last, then the one before it, down to the first. Nothing is written."""
-    script = {"objects": [["a", f"latch seats {count} count 0 cap 64"]], "threads": []}
-    script["threads"] = [{"repeat": 1, "calls": ["a give s 1"]}] * count
+    memory the last, then the one before it, down to the first. Nothing is written. The threads wait for each other, so
+    those that are started make no call either: it would take its time. With a limit the fault is told at once too."""
+    script = {"objects": [["a", f"latch seats {count} count {count} cap 64"]], "threads": []}
+    script["threads"] = [{"repeat": 1, "calls": ["a give s 1", f"a acquire-timed s 1 {2 * LATE}000"]}] * count
     text, told = json.dumps(script).encode(), []
-    answer_at = lambda pages: within(program, ["run"], text, pages)
+    answer_at = lambda pages: within(program, words, text, pages)
     most = next(2000 << doubled for doubled in range(10) if answer_at(2000 << doubled)[0] == 0)
     for pages in range(most, 0, -(most // 128)):
-        answer = answer_at(pages)
-        if answer[0] is None:
+        begun, answer = time.monotonic(), answer_at(pages)
+        if answer[0] is None or answer[0] == 4 and LATE < time.monotonic() - begun:
             return False
         if answer[0] == 4 and answer not in told:
             told.append(answer)
@@ -391,7 +396,8 @@ def results(program, scratch):
     yield from guarded_outputs(own, somebody, scratch / "guarded")
     yield from guarded_folders(own, somebody, scratch / "unseen")
     yield from on_full_disk(program, scratch)
-    yield "run, threads that are not started", threads_not_started(program)
+    for words in ["run"], ["run", "--timeout", "60000"]:
+        yield f"{' '.join(words)}, threads that are not started", threads_not_started(program, words)
 
 
 def feed(replay, blocks):
