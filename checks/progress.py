@@ -103,16 +103,16 @@ def told_of(call):
 def long_runs(program):
     """A long run says on a terminal, once, how its threads stand and which option ends it, and goes on."""
     call = "acquire-timed s 1 20000"
-    asked = ([], ["--object", "never"], ["--unrecorded"], ["--timeout", "15000"])
-    with concurrent.futures.ThreadPoolExecutor() as pool:
+    asked = ([], ["--object", "never"], ["--unrecorded"], ["--timeout", "15000"], ["--timeout", "60000"])
+    with concurrent.futures.ThreadPoolExecutor(2 * len(asked) + 1) as pool:
         loud, quiet = ([pool.submit(answer, program, ["run", *words], script_of(call), on_terminal=it) for words in asked]
                        for it in (True, False))
         short = pool.submit(answer, program, ["run"], script_of("try s 1"))
     for words, on, off in zip(asked, loud, quiet):
         status, output, said = on.result()
-        is_timed = "--timeout" in words
-        yield f"run {words}: a pipe is told nothing", off.result() == (is_timed, output, b"") and output != b""
-        yield f"run {words}: a terminal is told", (status, said) == (is_timed, b"" if is_timed else told_of(call))
+        is_late, wanted = "15000" in words, b"" if "--timeout" in words else told_of(call)
+        yield f"run {words}: a pipe is told nothing", off.result() == (is_late, output, b"") and output != b""
+        yield f"run {words}: a terminal is told", (status, said) == (is_late, wanted)
     yield "a short run tells nothing", short.result()[::2] == (0, b"")
     with Terminal() as seen:
         run = subprocess.Popen([program, "run"], stdin=subprocess.PIPE, stdout=subprocess.PIPE, stderr=seen.end)
