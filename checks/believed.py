@@ -38,6 +38,7 @@ TO_MOVE = {  # into inner/ or proofs/, as their crates change
 }
 MAKERS = {
     "frame.Tidied.tidied": ["frame/src/machine/stepping.rt"],
+    "monitor.Acquire.asked": ["monitor/src/how.rt"],
     "monitor.Settled.settled": ["monitor/src/interrupts.rt"],
     "permit.Deed.done": ["permit/src/scripted.rt", "permit/src/threads.rt"],
     "word_lock.Woken.woken": ["word_lock/src/lock.rt"],

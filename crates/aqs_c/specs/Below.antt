@@ -3,7 +3,6 @@
 unfoldable pub use Rattle.word_lock.specs.Point.{Before, Agrees}
 pub use Rattle.deciding.specs.Balance.{available, all_asleep}
 pub use Rattle.frame.specs.AtOnce.{entry_at_once}
-pub use Rattle.history.specs.declared.arrival.Arrival.{Arrival}
 pub use Rattle.history.specs.declared.entry.End.{End}
 pub use Rattle.history.specs.declared.entry.Entry.{Entry}
 pub use Rattle.history.specs.declared.entry.Mode.{Mode}
@@ -16,11 +15,9 @@ pub use Rattle.history.specs.declared.header.Object.{Object}
 pub use Rattle.history.specs.declared.header.Object.TheVariants.{Lock, ReadWrite, Semaphore, Latch}
 pub use Rattle.history.specs.declared.header.Policy.{Policy}
 pub use Rattle.history.specs.declared.header.Policy.TheVariants.{Fair, NonFair, Strict}
-pub use Rattle.history.specs.declared.point.Point.{Point}
 pub use Rattle.history.specs.declared.step.Answer.{Answer}
 pub use Rattle.history.specs.declared.step.Answer.TheVariants.{Recorded, Sleep}
 pub use Rattle.history.specs.declared.step.Step.{Step}
-pub use Rattle.history.specs.Awaiting.{lapsed}
 pub use Rattle.history.specs.Base.{Base}
 pub use Rattle.history.specs.Counts.{count, counts, owner}
 pub use Rattle.history.specs.Entries.{HistoryView}
@@ -41,12 +38,11 @@ pub use Rattle.monitor.specs.declared.step.Now.{Now}
 pub use Rattle.monitor.specs.declared.step.Now.TheVariants.{Done, Busy}
 pub use Rattle.monitor.specs.declared.waiting.Limits.{Limits}
 pub use Rattle.monitor.specs.Lawful.{start_at, blank}
-pub use Rattle.monitor.specs.Machine.{IsBegun, limits_at, next_behind, later_turn, step_of_waiting, IsGoneOn}
-pub use Rattle.monitor.specs.Observing.{IsLook}
+pub use Rattle.monitor.specs.Machine.{IsBegun, LeavesWaiting, limits_at, IsGoneOn}
+pub use Rattle.monitor.specs.Observing.{IsQuietLook}
 pub use Rattle.monitor.specs.Shown.{Shown, IsSound, opening_passes}
-pub use Rattle.monitor.specs.Stepping.{IsSame, IsStep, IsStepNow, IsUnparked, IsTrim}
-pub use Rattle.monitor.specs.Waits.{Cause, in_line, on_condition, on_way_back, WaitsAs, Waits, is_lapse}
+pub use Rattle.monitor.specs.Stepping.{IsSame, IsStep, IsStepNow, IsTrim}
+pub use Rattle.monitor.specs.Waits.{WaitsAs, Waits}
 pub use Rattle.permit.specs.declared.parking.Woke.{Woke}
 pub use Rattle.permit.specs.declared.parking.Woke.TheVariants.{Permit, Deadline, Interrupted}
-pub use Rattle.permit.specs.Deed.{Deed}
 pub use Rattle.word_lock.specs.Ticket.{LockId}

@@ -1,6 +1,6 @@
 -- What a call of C leaves, and what it is answered.
 use Rattle.std.specs.Prelude.{◌≡◌, ◌⊎◌, ◌≤◌, ◌<◌, ◌+◌, ℕ, ℤ, Bool, List, Option, Some, None, IsSome, is_some, Result, Ok, Err, length, take, reverse, slice_get}
-use Rattle.aqs_c.specs.Below.{all_asleep, available, count, counts, owner, Entry, Fault, Recorded, Step, entry_at_once, line, history_text, start_at, IsBegun, IsGoneOn, IsLook, Shown, IsStep, IsStepNow, IsTrim, How, Request, Turn, Waiting, Now, Woke}
+use Rattle.aqs_c.specs.Below.{all_asleep, available, count, counts, owner, Entry, Fault, Recorded, Step, entry_at_once, line, history_text, start_at, IsBegun, IsGoneOn, IsQuietLook, Shown, IsStep, IsStepNow, IsTrim, How, Request, Turn, Waiting, Now, Woke}
 use Rattle.aqs_c.specs.Codes.{IsAnswerOf, IsCallOf, IsCodeOf, IsEntry, IsQuiet, IsTurnOf, IsWoke, done_number}
 use Rattle.aqs_c.specs.Seated.{Seated, waiting_in}
 use Rattle.aqs_c.specs.declared.answers.AqsAnswer.{AqsAnswer}
@@ -35,7 +35,7 @@ IsSeatStep old code a new =
 
 -- the pass may have seen more, and nothing else has changed
 pub record IsSeatLook (old new : Seated) : Type 0 where
-  pub looked : IsLook old.pass new.pass
+  pub looked : IsQuietLook old.pass new.pass
   pub waiting : new.waiting ≡ old.waiting
 
 -- a step that was done at once, as the monitor promises it, and the number that it is answered

@@ -262,7 +262,6 @@ fn go_on_waiting(
         (seated pass.new waiting.new) }
     ensures stands { StandsBy waiting.new pass.new }
 {
-    pass.is_true();
     let Some(woke) = woke_of(woke) else {
         return nothing(NO_CODE, 0);
     };

@@ -5,3 +5,4 @@ pub mod Failing
 pub mod Readers
 pub mod Shelving
 pub mod Fetching
+pub mod Closing

@@ -15,7 +15,7 @@ pub use Rattle.history.specs.declared.header.Object.TheVariants.{Semaphore, Lock
 pub use Rattle.history.specs.declared.header.Policy.{Policy}
 pub use Rattle.history.specs.declared.header.Policy.TheVariants.{NonFair}
 pub use Rattle.history.specs.declared.step.Step.{Step}
-pub use Rattle.history.specs.declared.step.Step.TheVariants.{Try, Give, Signal, SignalAll, Drain}
+pub use Rattle.history.specs.declared.step.Step.TheVariants.{Try, Give, Drain}
 pub use Rattle.history.specs.Counts.{held, free, Counts, counts, owner}
 pub use Rattle.history.specs.Entries.{start_on}
 pub use Rattle.history.specs.Header.{IsInRange}
@@ -30,7 +30,7 @@ pub use Rattle.monitor.specs.declared.how.How.{How}
 pub use Rattle.monitor.specs.declared.how.How.TheVariants.{Interruptible, Timed, Plain}
 pub use Rattle.monitor.specs.declared.machine.Request.TheVariants.{Acquire, AwaitOn}
 pub use Rattle.monitor.specs.Acquire.{IsAcquire, is_timed, moment_after}
-pub use Rattle.monitor.specs.Calling.{CanCall, Called}
+pub use Rattle.monitor.specs.Calling.{CanCall, Called, CalledQuietly}
 pub use Rattle.monitor.specs.Closing.{Closes, IsMissing}
 pub use Rattle.monitor.specs.Lawful.{start_at, blank}
 pub use Rattle.monitor.specs.Load.{holds_of, free_of, opened_counts, given_by, LetsGo, IsTurn, IsFree, Moves, was_refused}
@@ -41,7 +41,7 @@ pub use Rattle.monitor.specs.contracts.pass.Pass.{the_row}
 pub use Rattle.monitor_fronts.specs.declared.room.WhenFull.{WhenFull}
 pub use Rattle.monitor_fronts.specs.declared.room.WhenFull.TheVariants.{Trim}
 pub use Rattle.monitor_fronts.specs.FrontCalls.{AreLeft, LastsUntil}
-pub use Rattle.monitor_fronts.specs.Holding.{holds, gained, with_yes, Adds, Takes}
+pub use Rattle.monitor_fronts.specs.Holding.{holds, with_yes, Adds, Takes}
 pub use Rattle.monitor_fronts.specs.Permits.{if_ok, DrainsFree}
 pub use Rattle.monitor_fronts.specs.Returned.{whether_of, is_done, done_of, number_of}
 pub use Rattle.monitor_fronts.specs.Room.{InRoom, IsEnteredIn, IsCallIn, signal_step}

@@ -1,5 +1,5 @@
 //! How items are acquired from a pool, and released into it.
-ghost use Rattle.std.specs.Prelude.{◌≡◌, ◌<◌, ◌^◌, ◌∷◌, [], All, IfErr, IfOk, IfSome, length};
+ghost use Rattle.std.specs.Prelude.{◌⊎◌, ◌≡◌, ◌<◌, ◌^◌, ◌∷◌, [], All, IfErr, IfOk, IfSome, length};
 ghost use Rattle.guarded.specs.Below.{CanCall, Called, Interruptible, Plain, Timed, LastsUntil, with_yes, DrainsFree};
 ghost use Rattle.guarded.specs.Asking.{CallReturns, yes_if_some};
 ghost use Rattle.guarded.specs.Pooling.{DrainReturns, IsReleased, drains, fetches, gives_back, how_many};
@@ -290,12 +290,11 @@ impl<T: Drop, I: Keeps<T>> Pool<T, I> {
     ) -> Result<(), (T, Fault)>
         requires can { CanCall self.now.lock (P.seats parking.now) pass.old }
         requires kept { I.invariant item }
-        ensures called { Called pass.old pass.new }
+        ensures called { Called pass.old pass.new ⊎ (pass.new ≡ pass.old) }
         ensures back { IfErr result (λ e. e.0 ≡ item) }
         ensures returned { IsReleased self.now.when_full (gives_back (P.did parking.now) 1) pass.old
             pass.new result }
     {
-        pass.is_true();
         let items = match list_of(self.alloc, item) {
             Ok(items) => items,
             Err(item) => return Err((item, Fault::OutOfMemory)),

@@ -1,5 +1,5 @@
 //! A reentrant lock that guards a value.
-ghost use Rattle.std.specs.Prelude.{◌≡◌, ◌≢◌, ◌<◌, ◌≤◌, ◌+◌, All, IfOk, IfErr, IfSome, Err};
+ghost use Rattle.std.specs.Prelude.{◌≡◌, ◌≢◌, ◌<◌, ◌≤◌, ◌+◌, All, IfOk, IfErr, IfSome, IsSome, Err};
 ghost use Rattle.guarded.specs.Below.{header_of, counts, start_on, IsInRange, X, Interrupted, OutOfMemory, Lock, NonFair, Give, CanCall, Called, is_timed, Plain, Closes, IsMissing, MissingPass, IsSame, Trim, Adds, holds, whether_of};
 ghost use Rattle.guarded.specs.Asking.{IsRecorded, CallReturns, Opened, acquires, awaits};
 ghost use Rattle.guarded.specs.inner.Asking.{asks};
@@ -172,6 +172,7 @@ impl<T: Drop, I: Keeps<T>, H: Hooks + Drop> Mutex<T, I, H> {
         ensures value { IfOk result (λ r.
             Rests r.1 (counts (start_on self.lock.header r.0.history) r.0.history.entries)) }
         ensures kept { IfOk result (λ r. IfSome r.1 (λ value. I.invariant value)) }
+        ensures free { IfOk result (λ r. All (λ p. holds p ≡ 0) passes.items → IsSome r.1) }
         ensures closes { IfOk result (λ r. Closes self.lock passes.items r.0) }
         ensures missing { IfErr result (λ r.
             (r.2 ≡ MissingPass) × IsMissing self.lock.header.seats passes.items) }

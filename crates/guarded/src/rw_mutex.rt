@@ -1,5 +1,5 @@
 //! A reentrant read-write lock that guards a value.
-ghost use Rattle.std.specs.Prelude.{◌≡◌, ◌≤◌, All, IfOk, IfErr, IfSome};
+ghost use Rattle.std.specs.Prelude.{◌≡◌, ◌≤◌, All, IfOk, IfErr, IfSome, IsSome};
 ghost use Rattle.std.specs.Borrow.{sem, RestsIfErr};
 ghost use Rattle.guarded.specs.Below.{header_of, counts, start_on, IsInRange, OutOfMemory, X, S, ReadWrite, NonFair, the_row, Plain, Interruptible, Timed, Closes, IsMissing, MissingPass, Trim, LastsUntil, Adds, holds, with_yes};
 ghost use Rattle.guarded.specs.Asking.{Opened, acquires, tries};
@@ -191,6 +191,7 @@ impl<T: Drop, I: Keeps<T>> RwMutex<T, I> {
         ensures value { IfOk result (λ r.
             Rests r.1 (counts (start_on self.lock.header r.0.history) r.0.history.entries)) }
         ensures kept { IfOk result (λ r. IfSome r.1 (λ value. I.invariant value)) }
+        ensures free { IfOk result (λ r. All (λ p. holds p ≡ 0) passes.items → IsSome r.1) }
         ensures closes { IfOk result (λ r. Closes self.lock passes.items r.0) }
         ensures missing { IfErr result (λ r.
             (r.2 ≡ MissingPass) × IsMissing self.lock.header.seats passes.items) }

@@ -1,6 +1,6 @@
 //! What a lock or a pool shows of itself.
 ghost use Rattle.std.specs.Prelude.{◌≡◌, ◌<◌, true, length, is_some, Some};
-ghost use Rattle.guarded.specs.Below.{available, counts, held, owner, line, place_of, is_placed, ready, sleepers, Called, start_at, IsLook, IsTrim};
+ghost use Rattle.guarded.specs.Below.{available, counts, held, owner, line, place_of, is_placed, ready, sleepers, Called, CalledQuietly, start_at, IsLook, IsTrim};
 
 use frame::hooks::Hooks;
 use history::entry::Mode;
@@ -101,7 +101,7 @@ impl<H: Hooks + Drop, L: Load> View<'_, H, L> {
     /// Lets two passes see the same history. It allocates nothing and waits for nobody.
     pub fn meet(&self, one: Pass, two: Pass) -> (Pass, Pass)
         requires is_of { (one.lock ≡ self.now.monitor.now) × (two.lock ≡ self.now.monitor.now) }
-        ensures called { Called one result.0 × Called two result.1 }
+        ensures called { CalledQuietly one result.0 × CalledQuietly two result.1 }
         ensures seen { result.0.seen ≡ result.1.seen }
         ensures mine { (result.0.mine ≡ one.mine) × (result.1.mine ≡ two.mine) }
         ensures share { (result.0.share ≡ one.share) × (result.1.share ≡ two.share) }

@@ -1,7 +1,7 @@
 -- The first step of an acquire, and how its parts fit together.
 use Rattle.std.proofs.Common.{◌≡◌, ◌≢◌, ◌⊎◌, inl, inr, ⊎_elim, ℕ, eqb, Bool, true, false, cond, List, [], ◌∷◌, Option, Some, None, is_some, IsSome, IfErr, Result, Ok, Err, refl, sym, ap, ◌∙◌, subst, eq-eqb, eqb-true}
 use Rattle.std.specs.List.{filter}
-use Rattle.monitor.specs.Below.{could, limit, held_back, counts, line, place_of, first_mode, Phase, Idle, InLine, Sleeping, phase, suits, waits, sleeps_below, Base, based, Start, entry_for, phase_entry, idle_entry, named, plain, Entry, Mode, Word, Fault, Recorded, Step, Acquire, TryFair, EntryInterrupt, Before, Deed, interrupted, took_interrupt}
+use Rattle.monitor.specs.Below.{Point, could, limit, held_back, counts, line, place_of, first_mode, Phase, Idle, InLine, Sleeping, phase, suits, waits, sleeps_below, Base, based, Start, entry_for, phase_entry, idle_entry, named, plain, Entry, Mode, Word, Fault, Recorded, Step, Acquire, TryFair, EntryInterrupt, Before, Deed, interrupted, took_interrupt}
 use Rattle.history.specs.declared.entry.Word.TheVariants as word
 use Rattle.history.specs.declared.fault.Fault.TheVariants as fault
 use Rattle.history.proofs.Entering.{admitted}
@@ -13,7 +13,7 @@ use Rattle.monitor.specs.declared.waiting.Stage.TheVariants.{Parks}
 use Rattle.monitor.specs.inner.Waits.{IsEnd, IsWait, IsWaited}
 use Rattle.monitor.proofs.Turns.{there_later}
 use Rattle.history.proofs.Staying.{place_filter, place_behind}
-use Rattle.monitor.proofs.InLine.{records, made_in, same_self, woken_as}
+use Rattle.monitor.proofs.InLine.{failed, records, made_in, same_self, woken_as}
 
 -- an entry of a step that is none of one who waits is an idle seat's
 pub record IsIdleEntry (s : Start) (h : List Entry) (i : ℕ) (step : Step) (e : Entry) : Type 0 where
@@ -87,11 +87,11 @@ first_words s h i (Timed ms) m n e q = by (eqb ms 0) refl q
     by false t r = acquire_words s h i (Timed ms) m n e r
 
 -- a deadline is one of a timed call
-pub only_timed : (did : Deed → Type 0) (how : How) (until : Option ℕ) → IsUntil did how until → IsSome until →
-    is_timed how
-only_timed did Plain until q some = let z : IsSome {T = ℕ} None = subst IsSome q some in cc
-only_timed did Interruptible until q some = let z : IsSome {T = ℕ} None = subst IsSome q some in cc
-only_timed did (Timed ms) until q some = tt
+pub only_timed : (did : Deed → Type 0) (seen : Point) (how : How) (until : Option ℕ) → IsUntil did seen how until →
+    IsSome until → is_timed how
+only_timed did seen Plain until q some = let z : IsSome {T = ℕ} None = subst IsSome q some in cc
+only_timed did seen Interruptible until q some = let z : IsSome {T = ℕ} None = subst IsSome q some in cc
+only_timed did seen (Timed ms) until q some = tt
 
 time_left : (how : How) (m : Mode) (n : ℕ) → first_step how m n ≡ Acquire m n → is_timed how → has_time how
 time_left Plain m n q t = absurd t
@@ -196,7 +196,7 @@ module _ (did : Deed → Type 0) (old mid : Shown) (how : How) (m : Mode) (n : �
 
   -- and the end of the wait after it
   pub ends_in_line : e.word ≡ word.Queued → IsSame old mid → (new : Shown) (l : Limits) (last : Entry) →
-      LimitsFor did how l → Before mid.seen new.seen → IsWaited did mid Parks l last new →
+      LimitsFor did old.seen how l → Before mid.seen new.seen → IsWaited did mid Parks l last new →
       IsAcquire did old m n how (Ok last) new
   ends_in_line w same new l last for after waited =
       by (waited (in_line (asking mid.seat m n)) (stands w same))
@@ -213,7 +213,7 @@ module _ (did : Deed → Type 0) (old mid : Shown) (how : How) (m : Mode) (n : �
       ends_for x = subst (λ (i : ℕ). IsEndFor how i (asking i m n) last) same.seat
           (⊎_elim inl
           (λ r. inr (⊎_elim
-          (λ t. inl (t.0, time_left how m n (is_acquire w) (only_timed did how l.until for.until t.1)))
+          (λ t. inl (t.0, time_left how m n (is_acquire w) (only_timed did old.seen how l.until for.until t.1)))
           (λ t. inr (t.0, sym for.interruptible ∙ t.1)) r)) x)
 
       by : IsWait did mid (in_line (asking mid.seat m n)) Parks l last new → IsAcquire did old m n how (Ok last) new
@@ -257,7 +257,11 @@ refused did old new how m n (Ok e) is s again = inl (
   at_once did old new (EntryInterrupt m n) e s,
 )
 refused did old new how m n (Err f) is s again =
-    record { step = EntryInterrupt m n; first = inr (refl, is, again); stepped = s }
+    record {
+      step = EntryInterrupt m n;
+      first = inr (refl, is, again);
+      stepped = failed old new (EntryInterrupt m n) f s;
+    }
 
 -- what a call found at its entry
 pub found_none : {A : Type 0} → (did : Deed → Type 0) (i : ℕ) (how : How) (found : Option A) →
@@ -277,9 +281,9 @@ found_one did i how found it asked minded q =
 pub unrecorded : (did : Deed → Type 0) (old new : Shown) (how : How) (starts step refuses : Step)
     (r : Result Entry Fault) (f : Fault) → WasNotInterrupted did old.seat how → step ≡ starts → r ≡ Err f →
     IsEntered did old step r new → EndsUnrecorded did old how starts refuses f new
-unrecorded did old new how starts step refuses r f none is failed s =
+unrecorded did old new how starts step refuses r f none is is_err s =
     record {
       step = step;
       first = inl (is, none);
-      stepped = subst (λ (z : Result Entry Fault). IsEntered did old step z new) failed s;
+      stepped = failed old new step f (subst (λ (z : Result Entry Fault). IsEntered did old step z new) is_err s);
     }

@@ -6,30 +6,17 @@ use Rattle.monitor.specs.declared.machine.Request.TheVariants as request
 use Rattle.monitor.specs.inner.Machine.{WasShown}
 use Rattle.monitor.specs.inner.Stepping.{entry_in, named_in}
 use Rattle.monitor.specs.inner.Waits.{IsReply}
-use Rattle.monitor.proofs.InLine.{named_place, no_sleep}
-use Rattle.monitor.proofs.TurnByTurn.{begun_ends, begun_waits, named_first, step_idle, waited_ends}
+use Rattle.monitor.proofs.InLine.{no_sleep}
+use Rattle.monitor.proofs.TurnByTurn.{begun_ends, begun_waits, step_idle, waited_ends}
 
 pub awake : (old new : Shown) (step : Step) (r : Result Answer Fault) → waits step ≡ false → IsStep old step r new →
     r ≢ Ok Sleep
 awake old new step r idle s is =
     no_sleep old new step idle (subst (λ (z : Result Answer Fault). IsStep old step z new) is s)
 
--- a step under another name
-pub step_as : (old new : Shown) (made step : Step) (r : Result Answer Fault) → made ≡ step →
-    IsStep old made r new → IsStep old step r new
-step_as old new made step r same s = subst (λ (z : Step). IsStep old z r new) same s
-
 pub awake_first : (old new : Shown) (q : Request) (how : How) (was : Bool) (r : Result Answer Fault) →
     IsStep old (step_by q how was) r new → r ≢ Ok Sleep
 awake_first old new q how was r s = awake old new (step_by q how was) r (step_idle q how was) s
-
-pub place_first : (old new : Shown) (q : Request) (how : How) (moment : ℕ) (was : Bool) (t : Turn)
-    (seats : ℕ) → IsBegun old q how moment was t new → IsSound new → new.lock.header.seats ≤ seats →
-    IfSome t.named (λ j. j < seats)
-place_first old new q how moment was t seats (r, s, is) shows all =
-    subst (λ z. IfSome z (λ j. j < seats))
-    (sym (ap (λ (z : Turn). z.named) is ∙ named_first q how moment was r))
-    (named_place old new (step_by q how was) r seats s shows all)
 
 -- a step of an idle seat, with its entry or a fault
 pub entered_in : (did : Deed → Type 0) (old new : Shown) (step : Step) (r : Result Answer Fault) →
@@ -66,7 +53,7 @@ made_at_once did old new q how name none s woken =
 pub waited : (did : Deed → Type 0) (old new last : Shown) (q : Request) (how : How) (moment : ℕ) (t : Turn)
     (next : Waiting) (reply : Result Entry Fault) → WasNotInterrupted did old.seat how →
     IsBegun old q how moment false t new → IsUnparked did old.lock t.named new.seen → t.next ≡ Waits next →
-    IsSame old new → IsSound new → WasShown did how moment → Before new.seen last.seen →
+    IsSame old new → IsSound new → WasShown did old.seen how moment → Before new.seen last.seen →
     IsReply did new next.stage next.limits reply last → IsCall did old q how reply last
 waited did old new last q how moment t next reply none begins woken due same shows shown later waits =
     let x = begun_waits did old new q how moment t next begins woken due in

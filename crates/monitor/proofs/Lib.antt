@@ -13,6 +13,7 @@ pub mod Freeing
 pub mod Letting
 pub mod Loads
 pub mod TurnByTurn
+pub mod LeftWaiting
 pub mod Around
 pub mod FirstTurns
 pub mod StillWaiting

@@ -1,6 +1,6 @@
 -- The first step of an await, and how its parts fit together.
 use Rattle.std.proofs.Common.{◌≡◌, ◌≢◌, ◌⊎◌, inl, inr, ℕ, eqb, nat_lt, Bool, true, false, not, cond, List, ◌∷◌, Option, Some, IsSome, IfErr, Result, Ok, Err, refl, sym, ap, ◌∙◌, subst}
-use Rattle.monitor.specs.Below.{is_seat, Counts, counts, owner, Base, based, entry_for, awaits, plain, End, Entry, Mode, X, S, Fault, Recorded, Await, EntryInterrupt, header_of, Before, LockId, SleepsAs, signalled, lapsed, back_from, lapse_from, Deed, interrupted}
+use Rattle.monitor.specs.Below.{Point, is_seat, Counts, counts, owner, Base, based, entry_for, awaits, plain, End, Entry, Mode, X, S, Fault, Recorded, Await, EntryInterrupt, header_of, Before, LockId, SleepsAs, signalled, lapsed, back_from, lapse_from, Deed, interrupted}
 use Rattle.history.specs.declared.entry.End.TheVariants as end
 use Rattle.history.specs.declared.entry.Word.TheVariants as word
 use Rattle.history.specs.declared.fault.Fault.TheVariants as fault
@@ -8,7 +8,7 @@ use Rattle.monitor.specs.Prelude.{start_at, view_of, holds_of, Shown, IsSound, I
 use Rattle.monitor.specs.inner.Waits.{IsWait, IsWaited, MayBegin, MayLapse, BackFromLapse}
 use Rattle.history.proofs.Awaiting.{falls_asleep}
 use Rattle.monitor.proofs.Acquiring.{idle_made, at_once, made_later, only_timed, refused_at_once}
-use Rattle.monitor.proofs.InLine.{records}
+use Rattle.monitor.proofs.InLine.{failed, records}
 use Rattle.monitor.proofs.Loads.{own_holds}
 use Rattle.monitor.proofs.Turns.{there_later}
 
@@ -43,24 +43,25 @@ await_gives k i c e q w = by (not (is_seat (owner k) i)) (nat_lt 0 (k.held i S))
     by false true u = let v = sym (ap (λ (z : Entry). z.word) u) ∙ w in cc
     by false false u = ap (λ (z : Entry). z.n) u
 
-deadline : (did : Deed → Type 0) (ms : ℕ) (until : Option ℕ) → IsUntil did (Timed ms) until → IsSome until
-deadline did ms until q = subst IsSome (sym q.2) refl
+deadline : (did : Deed → Type 0) (seen : Point) (ms : ℕ) (until : Option ℕ) → IsUntil did seen (Timed ms) until →
+    IsSome until
+deadline did seen ms until q = subst IsSome (sym q.2) refl
 
-pub may_begin : (did : Deed → Type 0) (how : How) (l : Limits) → LimitsFor did how l →
+pub may_begin : (did : Deed → Type 0) (seen : Point) (how : How) (l : Limits) → LimitsFor did seen how l →
     MayBegin l (first_stage how)
-may_begin did Plain l for = tt
-may_begin did Interruptible l for = tt
-may_begin did (Timed ms) l for = by (eqb ms 0)
+may_begin did seen Plain l for = tt
+may_begin did seen Interruptible l for = tt
+may_begin did seen (Timed ms) l for = by (eqb ms 0)
   where
     by : (b : Bool) → MayBegin l (stage_by b)
-    by true = deadline did ms l.until for.until
+    by true = deadline did seen ms l.until for.until
     by false = tt
 
-may_for : (did : Deed → Type 0) (how : How) (l : Limits) (e : End) → LimitsFor did how l → MayLapse l e →
+may_for : (did : Deed → Type 0) (seen : Point) (how : How) (l : Limits) (e : End) → LimitsFor did seen how l → MayLapse l e →
     MayLapseFor how e
-may_for did how l end.Timeout for m = only_timed did how l.until for.until m
-may_for did how l end.Interrupt for m = sym for.interruptible ∙ m
-may_for did how l _ for m = absurd m
+may_for did seen how l end.Timeout for m = only_timed did seen how l.until for.until m
+may_for did seen how l end.Interrupt for m = sym for.interruptible ∙ m
+may_for did seen how l _ for m = absurd m
 
 -- the first step of an await that was recorded
 module _ (did : Deed → Type 0) (old mid : Shown) (c : ℕ) (how : How) (e : Entry) (name : Option ℕ)
@@ -119,7 +120,7 @@ module _ (did : Deed → Type 0) (old mid : Shown) (c : ℕ) (how : How) (e : En
 
   -- and the end of the wait after it
   pub ends_await : e.word ≡ word.Await → IsSame old mid → IsSound mid → (new : Shown) (l : Limits) (last : Entry) →
-      LimitsFor did how l → Before mid.seen new.seen → IsWaited did mid (first_stage how) l last new →
+      LimitsFor did old.seen how l → Before mid.seen new.seen → IsWaited did mid (first_stage how) l last new →
       IsAwait did old c how (Ok last) new
   ends_await w same shows new l last for after waited =
       by (waited (on_condition (signalled e.at e.n)) (sleeps w same))
@@ -159,7 +160,7 @@ module _ (did : Deed → Type 0) (old mid : Shown) (c : ℕ) (how : How) (e : En
               ap (λ (i : ℕ). lapse_from i (signalled e.at e.n) z.how) same.seat in
               inr record {
                 end = z.how;
-                may = may_for did how l z.how for z.lapse.may;
+                may = may_for did old.seen how l z.how for z.lapse.may;
                 step = z.lapse.step;
                 comes = subst (λ (i : ℕ). ComesOf did i l (first_stage how) z.lapse.step) same.seat
                     z.lapse.comes;
@@ -184,4 +185,8 @@ refused did old new c how (Ok e) is s again = inl (
   at_once did old new (EntryInterrupt X 1) e s,
 )
 refused did old new c how (Err f) is s again =
-    record { step = EntryInterrupt X 1; first = inr (refl, is, again); stepped = s }
+    record {
+      step = EntryInterrupt X 1;
+      first = inr (refl, is, again);
+      stepped = failed old new (EntryInterrupt X 1) f s;
+    }

@@ -1,5 +1,5 @@
 -- What a section of the lock with one step of the core leaves.
-use Rattle.std.proofs.Common.{◌≡◌, ◌==◌, inl, inr, ℕ, ◌+◌, ◌<◌, ◌≤◌, ◌^◌, Bool, cond, List, [], ◌∷◌, ◌++◌, length, Result, Ok, Err, Option, Some, None, IsOk, refl, sym, ap, ◌∙◌, subst, arith}
+use Rattle.std.proofs.Common.{◌≡◌, ◌==◌, ◌⊎◌, inl, inr, ℕ, ◌+◌, ◌<◌, ◌≤◌, ◌^◌, Bool, cond, List, [], ◌∷◌, ◌++◌, length, Result, Ok, Err, Option, Some, None, IsOk, refl, sym, ap, ◌∙◌, subst, arith}
 use Rattle.std.specs.List.{AllByRecursion, filter}
 use Rattle.std.proofs.lemmas.Bool.{cond_both}
 use Rattle.monitor.specs.Below.{answer, answer_by, ended_calls, ends_call, seat_of, calls, entries_of, named, has_room, Start, entry_for, Entry, Fault, Answer, Recorded, Step, Header, CoreView, start_of, IsAnswered, IsTold, MakesOwed, made_by, Point, SeatLog, header_of, Before, Follows, added, Agrees, AllAgree, LockId, Ticket, first_seat, first_entries, after_lock, after_unlock, after_meet}
@@ -7,10 +7,11 @@ use Rattle.history.proofs.Times.{total_part}
 use Rattle.history.specs.declared.fault.Fault.TheVariants as fault
 use Rattle.history.proofs.Answering.{entry_seat}
 use lib.ListN.{get_elem?}
+use Rattle.word_lock.specs.Woken.{WasWoken}
 use Rattle.word_lock.proofs.PointLaws.{before_header, before_refl, before_trans, follows_more, added_more}
 use Rattle.word_lock.proofs.Sections.{IsSection, section}
 use Rattle.word_lock.proofs.Tokens.{one_log}
-use Rattle.monitor.specs.Prelude.{point_of, start_at, view_of, Beside, IsLawfulCore, IsLawful, Called, Shown, shown, IsPass, IsSound, IsStep, IsStepNow, Now}
+use Rattle.monitor.specs.Prelude.{point_of, start_at, view_of, Beside, IsLawfulCore, IsLawful, Called, CalledQuietly, Shown, shown, IsPass, IsSound, IsStep, IsStepNow, Now}
 use Rattle.monitor.specs.inner.Stepping.{now_of}
 use Rattle.monitor.proofs.Beside.{beside_of}
 
@@ -171,12 +172,12 @@ passed t n p q seat share next x was lawful counted =
 
 -- what a call leaves that made such a section
 pub called_by : (t n : Ticket) (p q : Point) (seat share next : ℕ) → IsSection t n p q seat → IsPass n seat next →
-    Called (shown t seat share) (shown n seat next)
+    CalledQuietly (shown t seat share) (shown n seat next)
 called_by t n p q seat share next x pass =
     record { same = record { lock = x.lock; seat = refl }; begins = x.begins; shows = pass.shows }
 
 -- or none
-pub not_called : (p : Shown) → IsSound p → Called p p
+pub not_called : (p : Shown) → IsSound p → CalledQuietly p p
 not_called p shows = record { same = record { lock = refl; seat = refl }; begins = before_refl p.seen; shows = shows }
 
 -- a section that adds nothing leaves the entries of the pass
@@ -234,17 +235,32 @@ module _ (t o n : Ticket) (p q : Point) (seat share : ℕ) (step : Step) (r : Re
     mine = mine_grown s;
   }
 
+-- a call after which whoever sleeps was woken
+pub call_woken : (old new : Shown) → CalledQuietly old new → WasWoken new.lock new.seen → Called old new
+call_woken old new x woken = record { same = x.same; begins = x.begins; shows = x.shows; woken = woken }
+
+pub quietly : (old new : Shown) → Called old new → CalledQuietly old new
+quietly old new x = record { same = x.same; begins = x.begins; shows = x.shows }
+
 -- one call after another
-pub called_since : (old mid new : Shown) → Called old mid → Called mid new → Called old new
-called_since old mid new x y = record {
+pub quiet_since : (old mid new : Shown) → CalledQuietly old mid → CalledQuietly mid new → CalledQuietly old new
+quiet_since old mid new x y = record {
   same = record { lock = y.same.lock ∙ x.same.lock; seat = y.same.seat ∙ x.same.seat };
   begins = before_trans old.seen mid.seen new.seen x.begins y.begins;
   shows = y.shows;
 }
 
+pub called_since : (old mid new : Shown) → CalledQuietly old mid → Called mid new → Called old new
+called_since old mid new x y = call_woken old new (quiet_since old mid new x (quietly mid new y)) y.woken
+
+-- or a call after which nothing more was done
+pub called_unless : (old mid new : Shown) → Called old mid → Called mid new ⊎ (new ≡ mid) → Called old new
+called_unless old mid new x (inl y) = called_since old mid new (quietly old mid x) y
+called_unless old mid new x (inr same) = subst (λ (p : Shown). Called old p) (sym same) x
+
 -- what a meeting leaves
 pub met_called : (t n : Ticket) (p : Point) (seat share : ℕ) → n ≡ after_meet t p → IsPass n seat share →
-    Before t.seen p → Called (shown t seat share) (shown n seat share)
+    Before t.seen p → CalledQuietly (shown t seat share) (shown n seat share)
 met_called t n p seat share is pass begins = record {
   same = record { lock = ap (λ (z : Ticket). z.lock) is; seat = refl };
   begins = subst (λ (z : Ticket). Before t.seen z.seen) (sym is) begins;

@@ -3,7 +3,7 @@ use Rattle.std.proofs.Common.{◌≡◌, [], ℕ, Result, Ok, Err, refl, sym, ap
 use Rattle.monitor.specs.Below.{Fault, Point, ended_calls, CoreView, IsTrimmed, Before, Follows, added, AllAgree, Ticket, first_entries, first_seat, after_lock, after_unlock}
 use Rattle.word_lock.proofs.PointLaws.{added_more, follows_fold, follows_more}
 use Rattle.word_lock.proofs.Sections.{IsSection, follows_taken, section}
-use Rattle.monitor.specs.Prelude.{point_of, view_of, Beside, IsLawfulCore, IsLawful, Called, shown, IsPass, IsTrim}
+use Rattle.monitor.specs.Prelude.{point_of, view_of, Beside, IsLawfulCore, IsLawful, CalledQuietly, shown, IsPass, IsTrim}
 use Rattle.monitor.proofs.Sections.{called_by, core_shown, mine_stays, own_entries, passed}
 use Rattle.monitor.proofs.Beside.{beside_of}
 
@@ -53,7 +53,7 @@ module _ (t o n : Ticket) (p q : Point) (seat share : ℕ) (r : Result ℕ Fault
   trim_pass s = passed t n p q seat share share (went s) s.was s.lawful
       (s.was.shows.counted ∙ ap ended_calls (sym (mine s)))
 
-  pub trim_called : Trim → Called (shown t seat share) (shown n seat share)
+  pub trim_called : Trim → CalledQuietly (shown t seat share) (shown n seat share)
   trim_called s = called_by t n p q seat share share (went s) (trim_pass s)
 
   pub trim_is : Trim → IsTrim (shown t seat share) r (shown n seat share)

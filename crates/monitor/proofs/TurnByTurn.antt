@@ -1,6 +1,6 @@
 -- The turns of a call that may wait, as the call that they make.
 use Rattle.std.proofs.Common.{◌≡◌, ◌≢◌, inl, inr, ℕ, ◌<◌, ◌≤◌, Bool, true, false, cond, eqb, List, Option, Some, None, is_some, IsSome, IfSome, IsOk, Result, Ok, Err, refl, sym, ap, ◌∙◌, subst, ℤ}
-use Rattle.monitor.specs.Below.{Entry, Mode, X, Word, Fault, Answer, Recorded, Sleep, Step, signalled, free, free_after, waits, opening, Deed, interrupted, parked, Woke, Permit, Deadline, Interrupted, Before, LockId}
+use Rattle.monitor.specs.Below.{Point, Entry, Mode, X, Word, Fault, Answer, Recorded, Sleep, Step, signalled, free, free_after, waits, opening, Deed, interrupted, parked, Woke, Permit, Deadline, Interrupted, Before, LockId}
 use Rattle.history.specs.declared.entry.Word.TheVariants as word
 use Rattle.history.specs.declared.fault.Fault.TheVariants as fault
 use Rattle.history.specs.declared.step.Step.TheVariants as step
@@ -14,7 +14,7 @@ use Rattle.monitor.specs.declared.waiting.Stage.{Stage}
 use Rattle.monitor.specs.declared.waiting.Stage.TheVariants.{Expires, Parks, Looks, GivenUp}
 use Rattle.monitor.proofs.Acquiring.{ends_at_once, ends_in_line, refused, refused_at_once, stands}
 use Rattle.monitor.proofs.Freeing.{waits_gives_none}
-use Rattle.monitor.proofs.InLine.{named_place, no_sleep, woken_as}
+use Rattle.monitor.proofs.InLine.{failed, named_place, no_sleep, woken_as}
 use Rattle.monitor.proofs.Letting.{waits_lets_none}
 use Rattle.monitor.proofs.OnCondition as await
 use Rattle.monitor.proofs.Turns.{never_fault, still_after, turn, waited}
@@ -133,11 +133,11 @@ place_later old new w woke t seats (r, s, is) shows all =
     (named_place old new (step_of_waiting w woke) r seats s shows all)
 
 -- what a wait begins with
-pub limits_for : (did : Deed → Type 0) (how : How) (moment : ℕ) → WasShown did how moment →
-    LimitsFor did how (limits_from moment how)
-limits_for did Plain moment shown = record { until = refl; interruptible = refl }
-limits_for did Interruptible moment shown = record { until = refl; interruptible = refl }
-limits_for did (Timed ms) moment shown = record { until = (moment, shown, refl); interruptible = refl }
+pub limits_for : (did : Deed → Type 0) (seen : Point) (how : How) (moment : ℕ) → WasShown did seen how moment →
+    LimitsFor did seen how (limits_from moment how)
+limits_for did seen Plain moment shown = record { until = refl; interruptible = refl }
+limits_for did seen Interruptible moment shown = record { until = refl; interruptible = refl }
+limits_for did seen (Timed ms) moment shown = record { until = (moment, shown, refl); interruptible = refl }
 
 -- which words begin a wait
 queued : (m : Mode) (n : ℕ) (w : Word) → begins_wait (Acquire m n) w ≡ true → w ≡ word.Queued
@@ -167,8 +167,9 @@ module _ (did : Deed → Type 0) (old new : Shown) (how : How) (none : WasNotInt
   fault_ends : (q : Request) (f : Fault) → IsStep old (step_by q how false) (Err f) new →
       IsCall did old q how (Err f) new
   fault_ends (Acquire m n) f s =
-      record { step = first_step how m n; first = inl (refl, none); stepped = s }
-  fault_ends (AwaitOn c) f s = record { step = step.Await c; first = inl (refl, none); stepped = s }
+      record { step = first_step how m n; first = inl (refl, none); stepped = failed old new (first_step how m n) f s }
+  fault_ends (AwaitOn c) f s =
+      record { step = step.Await c; first = inl (refl, none); stepped = failed old new (step.Await c) f s }
 
   ends_by : (q : Request) (moment : ℕ) (r : Result Answer Fault) (reply : Result Entry Fault) (again : Bool) →
       IsStep old (step_by q how false) r new → IsUnparked did old.lock (named_in r) new.seen →
@@ -277,23 +278,24 @@ waits_now did old new (AwaitOn c) how none b same = (
   await.sleeps did old new c how b.entry b.name b.step b.woken none (awaits c b.entry.word b.begins) same,
 )
 
-pub may_wait : (did : Deed → Type 0) (q : Request) (how : How) (moment : ℕ) → WasShown did how moment →
+pub may_wait : (did : Deed → Type 0) (seen : Point) (q : Request) (how : How) (moment : ℕ) →
+    WasShown did seen how moment →
     MayBegin (limits_from moment how) (stage_for q how)
-may_wait did (Acquire m n) how moment shown = tt
-may_wait did (AwaitOn c) how moment shown =
-    await.may_begin did how (limits_from moment how) (limits_for did how moment shown)
+may_wait did seen (Acquire m n) how moment shown = tt
+may_wait did seen (AwaitOn c) how moment shown =
+    await.may_begin did seen how (limits_from moment how) (limits_for did seen how moment shown)
 
 -- and the wait ended the call
 pub waited_ends : (did : Deed → Type 0) (old mid new : Shown) (q : Request) (how : How) (moment : ℕ)
     (reply : Result Entry Fault) → WasNotInterrupted did old.seat how → Begins did old mid q how →
-    IsSame old mid → IsSound mid → WasShown did how moment → Before mid.seen new.seen →
+    IsSame old mid → IsSound mid → WasShown did old.seen how moment → Before mid.seen new.seen →
     IsReply did mid (stage_for q how) (limits_from moment how) reply new → IsCall did old q how reply new
 waited_ends did old mid new (Acquire m n) how moment (Ok e) none b same shows shown later waited =
     ends_in_line did old mid how m n b.entry b.name b.step b.woken none (queued m n b.entry.word b.begins) same
-    new (limits_from moment how) e (limits_for did how moment shown) later waited
+    new (limits_from moment how) e (limits_for did old.seen how moment shown) later waited
 waited_ends did old mid new (AwaitOn c) how moment (Ok e) none b same shows shown later waited =
     await.ends_await did old mid c how b.entry b.name b.step b.woken none (awaits c b.entry.word b.begins) same
-    shows new (limits_from moment how) e (limits_for did how moment shown) later waited
+    shows new (limits_from moment how) e (limits_for did old.seen how moment shown) later waited
 waited_ends did old mid new q how moment (Err f) none b same shows shown later waited = absurd waited
 
 -- an interrupt was pending

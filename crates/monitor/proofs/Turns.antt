@@ -324,7 +324,7 @@ lapses_as l Interrupt how a x = subst (MayLapse l) (sym x) a
 lapses_as l _ how a x = absurd x
 
 -- the entries that end a wait are no lapses
-no_lapse : (step : Step) (i : ℕ) (a : Arrival) (e : Entry) → IsEndBy step i a e → is_lapse e.word ≡ false
+pub no_lapse : (step : Step) (i : ℕ) (a : Arrival) (e : Entry) → IsEndBy step i a e → is_lapse e.word ≡ false
 no_lapse Look i a e x = ap (λ (z : Entry). is_lapse z.word) x
 no_lapse Expire i a e (inl x) = ap (λ (z : Entry). is_lapse z.word) x
 no_lapse Expire i a e (inr x) = ap (λ (z : Entry). is_lapse z.word) x

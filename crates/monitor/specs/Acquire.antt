@@ -1,11 +1,11 @@
 -- What an acquire records.
 use Rattle.std.specs.Prelude.{◌==◌, if◌then◌else◌, ◌≡◌, ◌⊎◌, ◌≢◌, ℕ, ◌+◌, ◌-◌, ◌^◌, min, Bool, true, false, ◌∷◌, Option, Some, None, Result, Ok, Err}
-use Rattle.monitor.specs.Below.{Arrival, Entry, Mode, Word, Fault, Step, Acquire, TryFair, Interrupt, EntryInterrupt, ended, Deed, interrupted, showed, took_interrupt}
+use Rattle.monitor.specs.Below.{Arrival, Entry, Mode, Word, Fault, Step, Acquire, TryFair, Interrupt, EntryInterrupt, ended, Point, Deed, interrupted, showed, took_interrupt}
 use Rattle.history.specs.declared.entry.End.TheVariants as end
 use Rattle.history.specs.declared.entry.Word.TheVariants as word
 use Rattle.history.specs.declared.fault.Fault.TheVariants as fault
 use Rattle.monitor.specs.Shown.{Shown}
-use Rattle.monitor.specs.Stepping.{IsStep}
+use Rattle.monitor.specs.Stepping.{IsFailed}
 use Rattle.monitor.specs.Waits.{AfterPark, IsMade, IsLast, IsNotLost, asking}
 use Rattle.monitor.specs.declared.how.How.{How}
 use Rattle.monitor.specs.declared.how.How.TheVariants.{Plain, Interruptible, Timed}
@@ -28,14 +28,29 @@ is_timed _ = ⊥
 abbrev pub moment_after : ℕ → ℕ → ℕ
 moment_after moment ms = min (moment + ms) (2 ^ 64 - 1)
 
--- the deadline of a call, counted from a moment that the clock showed
-abbrev pub IsUntil : (Deed → Type 0) → How → Option ℕ → Type 0
-IsUntil did (Timed ms) until = (moment : ℕ) × did (showed moment) × (until ≡ Some (moment_after moment ms))
-IsUntil did _ until = until ≡ None
+-- Whoever asked the clock for this moment had seen just so much. What it means stays hidden. So only a call that asks
+-- before its first step can meet a contract that promises it of what it had seen then.
+pub WasAsked : Point → ℕ → Type 0
+WasAsked seen moment = Unit {0}
 
--- how the parks of a call end
-pub record LimitsFor (did : Deed → Type 0) (how : How) (l : Limits) : Type 0 where
-  pub until : IsUntil did how l.until
+-- for `moment` alone
+pub asked : (seen : Point) (moment : ℕ) → WasAsked seen moment
+unfolding WasAsked
+asked seen moment = tt
+
+-- the clock showed the moment to one who had seen just so much
+abbrev pub ShowedTo : (Deed → Type 0) → Point → ℕ → Type 0
+ShowedTo did seen moment = did (showed moment) × WasAsked seen moment
+
+-- the deadline of a call, counted from a moment that the clock showed
+abbrev pub IsUntil : (Deed → Type 0) → Point → How → Option ℕ → Type 0
+IsUntil did seen (Timed ms) until =
+    (moment : ℕ) × ShowedTo did seen moment × (until ≡ Some (moment_after moment ms))
+IsUntil did seen _ until = until ≡ None
+
+-- how the parks of a call end that has seen just so much
+pub record LimitsFor (did : Deed → Type 0) (seen : Point) (how : How) (l : Limits) : Type 0 where
+  pub until : IsUntil did seen how l.until
   pub interruptible : l.interruptible ≡ is_interruptible how
 
 abbrev pub first_step : How → Mode → ℕ → Step
@@ -69,7 +84,7 @@ pub record EndsUnrecorded (did : Deed → Type 0) (old : Shown) (how : How) (sta
     (new : Shown) : Type 0 where
   pub step : Step
   pub first : IsFirst did old.seat how starts refuses step
-  pub stepped : IsStep old step (Err f) new
+  pub stepped : IsFailed old step f new
 
 -- the words that end an acquire at its first step
 abbrev pub AtOnce : How → Word → Type 0
@@ -99,7 +114,7 @@ pub record EndsInLine (did : Deed → Type 0) (old : Shown) (m : Mode) (n : ℕ)
   pub queued : joined.word ≡ word.Queued
   pub joins : IsMade did old (Acquire m n) joined new.seen
   pub limits : Limits
-  pub limited : LimitsFor did how limits
+  pub limited : LimitsFor did old.seen how limits
   pub step : Step
   pub comes : AfterPark did old.seat limits step
   pub again : step ≡ Interrupt → IsNotLost did old.seat (Ok e)

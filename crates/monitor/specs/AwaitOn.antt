@@ -67,7 +67,7 @@ pub record EndsAwait (did : Deed → Type 0) (old : Shown) (c : ℕ) (how : How)
   pub gave_up : slept.n ≡ holds_of old X
   pub sleeps : IsMade did old (Await c) slept new.seen
   pub limits : Limits
-  pub limited : LimitsFor did how limits
+  pub limited : LimitsFor did old.seen how limits
   pub step : Step
   pub made : IsMade did old step e new.seen
   pub last : IsLast e new.seen

@@ -2,7 +2,7 @@
 -- and word_lock. Declares nothing.
 pub use Rattle.deciding.specs.Balance.{available, balance}
 pub use Rattle.frame.specs.AtOnce.{entry_at_once}
-pub use Rattle.frame.specs.Core.{CoreView, start_of, counts_of, marks_of, IsTold, made_by, MakesOwed, IsAnswered, IsTrimFull, IsTrimmed}
+pub use Rattle.frame.specs.Core.{CoreView, start_of, counts_of, marks_of, IsTold, made_by, MakesOwed, IsAnswered, IsTrimmed}
 pub use Rattle.frame.specs.Effects.{IsAllowed}
 pub use Rattle.frame.specs.Hooks.{AreAlike, drain_answer_of}
 pub use Rattle.history.specs.declared.arrival.Arrival.{Arrival}
@@ -12,7 +12,7 @@ pub use Rattle.history.specs.declared.entry.Mode.{Mode}
 pub use Rattle.history.specs.declared.entry.Mode.TheVariants.{X, S}
 pub use Rattle.history.specs.declared.entry.Word.{Word}
 pub use Rattle.history.specs.declared.fault.Fault.{Fault}
-pub use Rattle.history.specs.declared.fault.Fault.TheVariants.{OutOfPhase, HistoryFull, TrimFull}
+pub use Rattle.history.specs.declared.fault.Fault.TheVariants.{OutOfPhase, HistoryFull, OutOfMemory, TrimFull}
 pub use Rattle.history.specs.declared.header.Header.{Header}
 pub use Rattle.history.specs.declared.header.Object.{Object}
 pub use Rattle.history.specs.declared.header.Object.TheVariants.{Lock, ReadWrite, Semaphore, Latch}
@@ -30,7 +30,6 @@ pub use Rattle.history.specs.Entries.{HistoryView, ended_calls, or_opening, base
 pub use Rattle.history.specs.Entry.{same_mode, ends_call}
 pub use Rattle.history.specs.Faults.{is_wrong_mode, is_no_condition, is_bad_amount}
 pub use Rattle.history.specs.Fold.{MayFold}
-pub use Rattle.history.specs.GoodBase.{most_folded}
 pub use Rattle.history.specs.Legal.{IsLegal, AreSeated, calls}
 pub use Rattle.history.specs.Line.{line, first_of, first_mode, place_of}
 pub use Rattle.history.specs.Marks.{is_placed, AreRight}

@@ -25,6 +25,7 @@ use Rattle.monitor.specs.AwaitOn.{IsAwait, first_stage}
 use Rattle.monitor.specs.Interrupts.{tells_interrupt}
 use Rattle.monitor.specs.Shown.{Shown}
 use Rattle.monitor.specs.Stepping.{IsStep}
+use Rattle.monitor.specs.Waits as of_waits
 use Rattle.monitor.specs.Waits.{is_lapse, no_limits, stage_asleep}
 use Rattle.monitor.specs.declared.how.How.{How}
 use Rattle.monitor.specs.declared.how.How.TheVariants.{Timed}
@@ -92,6 +93,11 @@ first_turn q how moment was (Err f) = record { named = None; next = Ends (Err f)
 abbrev pub IsBegun : Shown → Request → How → ℕ → Bool → Turn → Shown → Type 0
 IsBegun old q how moment was turn new =
     (r : Result Answer Fault) × IsStep old (step_by q how was) r new × (turn ≡ first_turn q how moment was r)
+
+-- if the call waits, its seat does
+abbrev pub LeavesWaiting : Next → Shown → Type 0
+LeavesWaiting (Ends reply again) p = Unit {0}
+LeavesWaiting (Waits w) p = of_waits.Waits p.seen p.seat
 
 -- how one who waits parks at a stage, if it parks there
 abbrev pub limits_at : Stage → Limits → Option Limits

@@ -1,7 +1,7 @@
 -- What a step of a pass leaves.
-use Rattle.std.specs.Prelude.{◌≡◌, ℕ, ◌++◌, Option, Some, None, Result, Ok, Err, IsOk}
-use Rattle.monitor.specs.Below.{Entry, Fault, Answer, Recorded, Step, IsAnswered, IsTold, IsTrimmed, MakesOwed, made_by, Point, LockId, Deed, unparked, Before, Agrees}
-use Rattle.monitor.specs.Lawful.{view_of, Beside, IsLawful}
+use Rattle.std.specs.Prelude.{false, ◌≡◌, ◌⊎◌, if◌then◌else◌, ℕ, ◌++◌, Option, Some, None, Result, Ok, Err, IsOk}
+use Rattle.monitor.specs.Below.{HistoryFull, OutOfMemory, entry_for, was_owed, has_room, Entry, Fault, Answer, Recorded, Step, IsAnswered, IsTold, IsTrimmed, MakesOwed, made_by, Point, LockId, Deed, unparked, Before, Agrees}
+use Rattle.monitor.specs.Lawful.{view_of, Beside, IsLawful, start_at}
 use Rattle.monitor.specs.Shown.{Shown}
 use Rattle.monitor.specs.declared.step.Now.{Now}
 use Rattle.monitor.specs.declared.step.Now.TheVariants.{Done, Busy}
@@ -25,6 +25,23 @@ pub record IsStep (old : Shown) (step : Step) (r : Result Answer Fault) (new : S
   pub owed : MakesOwed (view_of found beside) old.seat step → IsOk r
   pub after : Before old.seen new.seen
   pub mine : new.mine ≡ made_by r ++ old.mine
+
+-- Why a step of a seat recorded nothing: the fault that the definitions give, or its entry, which was not owed, found
+-- no room or no memory.
+abbrev pub IsFaultOf : Point → ℕ → Step → Fault → Type 0
+IsFaultOf p i step f =
+    (entry_for (start_at p) p.entries i step ≡ Err f)
+    ⊎ ((e : Entry) × (entry_for (start_at p) p.entries i step ≡ Ok (Some e))
+    × (was_owed p.base.header.object e ≡ false)
+    × (f ≡ (if has_room (start_at p) p.entries e then OutOfMemory else HistoryFull)))
+
+-- The step found a history that comes after what was seen, and recorded nothing.
+pub record IsFailed (old : Shown) (step : Step) (f : Fault) (new : Shown) : Type 0 where
+  pub begins : Before old.seen new.seen
+  pub lawful : IsLawful new.seen
+  pub agrees : Agrees new.seen old.seat old.mine
+  pub why : IsFaultOf new.seen old.seat step f
+  pub mine : new.mine ≡ old.mine
 
 abbrev pub answer_of : Result Now Fault → Option (Result Answer Fault)
 answer_of (Ok (Done answer)) = Some (Ok answer)

@@ -98,7 +98,7 @@ impl<H: Hooks + Drop, L: Load> Monitor<H, L> {
         if let Some(interrupts) = Interrupts::at_entry(parking, pass, how) {
             return self.refuse(rt, parking, pass, load, request, how, interrupts);
         }
-        let moment = moment(rt, parking, how);
+        let moment = moment(rt, parking, pass, how);
         let step = request.step(how, false);
         let mut answer = NOT_ASKED;
         match self.step_into(rt, pass, load, step, &mut answer) {

@@ -42,7 +42,6 @@ impl<H: Hooks + Drop, L: Load> Monitor<H, L> {
         requires fit { LetsGo step (holds_of pass.old) → L.fit load.old }
         ensures called { Called pass.old pass.new }
         ensures stepped { IsStep pass.old step (reply_of pass.old.seat step result answer.new) pass.new }
-        ensures woken { WasWoken self.now }
         ensures carries { L.carries load.new (holds_of pass.new) }
         ensures trades { Trades L.fit L.is_counted L.amount load.old pass.old load.new pass.new }
     {
@@ -60,8 +59,17 @@ impl<H: Hooks + Drop, L: Load> Monitor<H, L> {
             step,
             answer,
         );
-        self.lock.wake();
+        self.wake(pass);
         named
+    }
+
+    // Wakes one who sleeps at the lock, for a pass that has put the object back.
+    #[inline(always)]
+    pub(crate) fn wake(&self, pass: &Pass)
+        requires { pass.now.lock ≡ self.now }
+        ensures { WasWoken pass.now.lock pass.now.seen }
+    {
+        self.lock.wake(&pass.token);
     }
 }
 

@@ -2,8 +2,8 @@
 ghost use Rattle.std.specs.Prelude.{◌≡◌, Ok, IfNone, IfSome};
 ghost use Rattle.frame.specs.AtOnce.{entry_at_once};
 ghost use Rattle.history.specs.declared.step.Answer.TheVariants.{Recorded};
-ghost use Rattle.monitor.specs.Calling.{Called};
-ghost use Rattle.monitor.specs.Observing.{IsLook};
+ghost use Rattle.monitor.specs.Calling.{CalledQuietly};
+ghost use Rattle.monitor.specs.Observing.{IsQuietLook};
 ghost use Rattle.monitor.specs.Stepping.{IsStep};
 
 use crate::monitor::Monitor;
@@ -20,10 +20,10 @@ impl<H: Hooks + Drop> Monitor<H> {
     #[inline(always)]
     pub fn step_at_once_quietly(&self, pass: &mut Pass, step: Step) -> Option<Option<u16>>
         requires is_of { pass.old.lock ≡ self.now }
-        ensures called { Called pass.old pass.new }
+        ensures called { CalledQuietly pass.old pass.new }
         ensures stepped { IfSome result (λ named. IsStep pass.old step
             (Ok (Recorded (entry_at_once pass.old.seat step) named)) pass.new) }
-        ensures looked { IfNone result (IsLook pass.old pass.new) }
+        ensures looked { IfNone result (IsQuietLook pass.old pass.new) }
     {
         let Some(mut held) = self.lock.lock_now(&mut pass.token) else {
             return None;

@@ -3,7 +3,6 @@ ghost use Rattle.history.specs.declared.entry.Mode.TheVariants.{S};
 ghost use Rattle.history.specs.declared.step.Step.TheVariants.{Try, Give, Signal, SignalAll, Drain};
 ghost use Rattle.monitor.specs.Calling.{CanCall, Called};
 ghost use Rattle.monitor.specs.Stepping.{IsEntered};
-ghost use Rattle.word_lock.specs.Woken.{WasWoken};
 
 use crate::load::{Empty, Load};
 use crate::monitor::Monitor;
@@ -32,7 +31,6 @@ impl<H: Hooks + Drop> Monitor<H> {
         requires can { CanCall self.now (P.seats parking.now) pass.old }
         ensures called { Called pass.old pass.new }
         ensures tried { IsEntered (P.did parking.now) pass.old (Try mode n) result pass.new }
-        ensures woken { WasWoken self.now }
     {
         pass.is_true();
         let step = Step::Try(mode, n);
@@ -52,7 +50,6 @@ impl<H: Hooks + Drop> Monitor<H> {
         requires can { CanCall self.now (P.seats parking.now) pass.old }
         ensures called { Called pass.old pass.new }
         ensures given { IsEntered (P.did parking.now) pass.old (Give mode n) result pass.new }
-        ensures woken { WasWoken self.now }
     {
         pass.is_true();
         let step = Step::Give(mode, n);
@@ -69,7 +66,6 @@ impl<H: Hooks + Drop> Monitor<H> {
         requires can { CanCall self.now (P.seats parking.now) pass.old }
         ensures called { Called pass.old pass.new }
         ensures counted { IsEntered (P.did parking.now) pass.old (Give S 1) result pass.new }
-        ensures woken { WasWoken self.now }
     {
         pass.is_true();
         let step = Step::Give(Mode::S, 1);
@@ -86,7 +82,6 @@ impl<H: Hooks + Drop> Monitor<H> {
         requires can { CanCall self.now (P.seats parking.now) pass.old }
         ensures called { Called pass.old pass.new }
         ensures drained { IsEntered (P.did parking.now) pass.old (Drain) result pass.new }
-        ensures woken { WasWoken self.now }
     {
         pass.is_true();
         let step = Step::Drain;
@@ -107,7 +102,6 @@ impl<H: Hooks + Drop, L: Load> Monitor<H, L> {
         requires can { CanCall self.now (P.seats parking.now) pass.old }
         ensures called { Called pass.old pass.new }
         ensures signalled { IsEntered (P.did parking.now) pass.old (Signal condition) result pass.new }
-        ensures woken { WasWoken self.now }
     {
         pass.is_true();
         self.tell(rt, parking, pass, Step::Signal(condition))
@@ -124,7 +118,6 @@ impl<H: Hooks + Drop, L: Load> Monitor<H, L> {
         requires can { CanCall self.now (P.seats parking.now) pass.old }
         ensures called { Called pass.old pass.new }
         ensures signalled { IsEntered (P.did parking.now) pass.old (SignalAll condition) result pass.new }
-        ensures woken { WasWoken self.now }
     {
         pass.is_true();
         self.tell(rt, parking, pass, Step::SignalAll(condition))

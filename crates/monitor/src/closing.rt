@@ -1,7 +1,7 @@
 //! Passes that meet, and the end of a monitor.
 ghost use Rattle.std.specs.Prelude.{◌≡◌, All, IfOk, IfErr};
 ghost use Rattle.history.specs.Entries.{start_on};
-ghost use Rattle.monitor.specs.Calling.{Called};
+ghost use Rattle.monitor.specs.Calling.{CalledQuietly};
 ghost use Rattle.monitor.specs.Closing.{Closes, IsMissing, shares};
 ghost use Rattle.history.specs.Counts.{counts};
 ghost use Rattle.monitor.specs.Shown.{IsSound};
@@ -37,7 +37,7 @@ impl<H: Hooks + Drop, L: Load> Monitor<H, L> {
     /// Lets two passes see the same history. It allocates nothing and waits for nobody.
     pub fn meet(&self, one: Pass, two: Pass) -> (Pass, Pass)
         requires is_of { (one.lock ≡ self.now) × (two.lock ≡ self.now) }
-        ensures called { Called one result.0 × Called two result.1 }
+        ensures called { CalledQuietly one result.0 × CalledQuietly two result.1 }
         ensures seen { result.0.seen ≡ result.1.seen }
         ensures mine { (result.0.mine ≡ one.mine) × (result.1.mine ≡ two.mine) }
         ensures share { (result.0.share ≡ one.share) × (result.1.share ≡ two.share) }

@@ -4,6 +4,7 @@ ghost use Rattle.monitor.specs.Acquire.{is_interruptible, moment_after};
 ghost use Rattle.monitor.specs.Machine.{limits_from};
 ghost use Rattle.monitor.specs.inner.Machine.{WasShown};
 
+use crate::pass::Pass;
 use crate::waiting::Limits;
 use permit::Parking;
 use std::time::Clock;
@@ -51,9 +52,10 @@ pub(crate) fn limits_from(moment: u64, how: How) -> Limits
     }
 }
 
-// What the clock shows, if the call is timed.
-pub(crate) fn moment<P: Parking, R: Clock>(rt: &R, parking: &P, how: How) -> u64
-    ensures { WasShown (P.did parking.now) how result }
+// What the clock shows, if the call is timed. Only the contract needs the pass: it tells when.
+#[tactic(auto, using(crate::specs::Acquire::asked))]
+pub(crate) fn moment<P: Parking, R: Clock>(rt: &R, parking: &P, pass: &Pass, how: How) -> u64
+    ensures { WasShown (P.did parking.now) pass.now.seen how result }
 {
     match how {
         How::Timed(_) => parking.now(rt),

@@ -17,8 +17,9 @@
 //!
 //! What every call asks and leaves stands once, in `specs/Calling.antt`. `CanCall`: the pass is one of this
 //! monitor's, and there is a place to park for each seat. `Called`: it is a pass of the same monitor and seat,
-//! and what it has seen comes after what it had seen, is sound, and has just these entries of its seat. What
-//! else a contract says is special of its call.
+//! what it has seen comes after what it had seen, is sound, and has just these entries of its seat, and whoever
+//! sleeps at the object's word was woken after that was put back. A call whose name ends with `quietly` wakes
+//! nobody. What else a contract says is special of its call.
 //!
 //! Two passes may have seen histories of different length, and `meet` makes these the same. Everything that
 //! the passes saw belongs to one history, which `close` returns.
@@ -42,7 +43,7 @@
 //!
 //! Proved too of each call that has a parking, by the deeds that the parking's methods leave:
 //! - The seat that a step of the call named was unparked after that step.
-//! - The deadline of a timed call is counted from a moment that the clock showed.
+//! - The deadline of a timed call is counted from a moment that the clock showed before its first step.
 //! - A call that heeds interrupts asked for a pending one first. It is refused only if it took one, which is
 //!   set again if the refusal couldn't be recorded.
 //! - The entry that ended a wait is that of the step to which a park of its seat led, and the seat was parked

@@ -10,12 +10,13 @@
 //! once its seat was parked as [`Waiting`] says, or at once.
 ghost use Rattle.std.specs.Prelude.{◌≡◌, ◌≢◌, IfNone, IfSome, IsOk};
 ghost use Rattle.history.specs.declared.step.Answer.TheVariants.{Sleep};
-ghost use Rattle.monitor.specs.Calling.{Called};
+ghost use Rattle.monitor.specs.Calling.{Called, CalledQuietly};
 ghost use Rattle.monitor.specs.Load.{Brings, Trades, holds_of};
 ghost use Rattle.monitor.specs.Machine.{
   AsksAwait,
   IsBegun,
   IsGoneOn,
+  LeavesWaiting,
   at_stage,
   begins_wait,
   begun,
@@ -31,7 +32,6 @@ ghost use Rattle.monitor.specs.Machine.{
 };
 ghost use Rattle.monitor.specs.Stepping.{answer_of};
 ghost use Rattle.monitor.specs.Waits.{Waits, is_lapse};
-ghost use Rattle.word_lock.specs.Woken.{WasWoken};
 
 use crate::acquire::first_step;
 use crate::await_on::first_stage;
@@ -310,7 +310,7 @@ impl<H: Hooks + Drop, L: Load> Monitor<H, L> {
         requires fit { AsksAwait request → L.fit load.old }
         ensures called { Called pass.old pass.new }
         ensures begun { IsBegun pass.old request how moment interrupted result pass.new }
-        ensures woken { WasWoken self.now }
+        ensures waits { LeavesWaiting result.next pass.new }
         ensures carries { L.carries load.new (holds_of pass.new) }
         ensures trades { Trades L.fit L.is_counted L.amount load.old pass.old load.new pass.new }
     {
@@ -334,10 +334,11 @@ impl<H: Hooks + Drop, L: Load> Monitor<H, L> {
         requires carries { L.carries load.old (holds_of pass.old) }
         requires brings { Brings L.is_counted (L.amount load.old) 0 }
         requires fit { AsksAwait request → L.fit load.old }
-        ensures called { Called pass.old pass.new }
+        ensures called { CalledQuietly pass.old pass.new }
         ensures busy { IfNone result (pass.new ≡ pass.old) }
         ensures begun { IfSome result (λ turn.
             IsBegun pass.old request how moment interrupted turn pass.new) }
+        ensures waits { IfSome result (λ turn. LeavesWaiting turn.next pass.new) }
         ensures carries { L.carries load.new (holds_of pass.new) }
         ensures trades { Trades L.fit L.is_counted L.amount load.old pass.old load.new pass.new }
     {
@@ -363,7 +364,7 @@ impl<H: Hooks + Drop, L: Load> Monitor<H, L> {
         requires brings { Brings L.is_counted (L.amount load.old) 0 }
         ensures called { Called pass.old pass.new }
         ensures gone_on { IsGoneOn pass.old waiting woke result pass.new }
-        ensures woken { WasWoken self.now }
+        ensures waits { LeavesWaiting result.next pass.new }
         ensures carries { L.carries load.new (holds_of pass.new) }
         ensures trades { Trades L.fit L.is_counted L.amount load.old pass.old load.new pass.new }
     {
@@ -385,9 +386,10 @@ impl<H: Hooks + Drop, L: Load> Monitor<H, L> {
         requires waits { Waits pass.old.seen pass.old.seat }
         requires carries { L.carries load.old (holds_of pass.old) }
         requires brings { Brings L.is_counted (L.amount load.old) 0 }
-        ensures called { Called pass.old pass.new }
+        ensures called { CalledQuietly pass.old pass.new }
         ensures busy { IfNone result (pass.new ≡ pass.old) }
         ensures gone_on { IfSome result (λ turn. IsGoneOn pass.old waiting woke turn pass.new) }
+        ensures waits { IfSome result (λ turn. LeavesWaiting turn.next pass.new) }
         ensures carries { L.carries load.new (holds_of pass.new) }
         ensures trades { Trades L.fit L.is_counted L.amount load.old pass.old load.new pass.new }
     {

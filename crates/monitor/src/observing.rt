@@ -9,7 +9,6 @@ ghost use Rattle.history.specs.Naming.{ready};
 ghost use Rattle.history.specs.Sleepers.{sleepers};
 ghost use Rattle.monitor.specs.Lawful.{start_at};
 ghost use Rattle.monitor.specs.Observing.{IsLook};
-ghost use Rattle.word_lock.specs.Woken.{WasWoken};
 
 use crate::load::Load;
 use crate::monitor::Monitor;
@@ -26,7 +25,6 @@ impl<H: Hooks + Drop, L: Load> Monitor<H, L> {
         requires is_of { pass.old.lock ≡ self.now }
         requires seat { seat < self.now.header.seats }
         ensures looked { IsLook pass.old pass.new }
-        ensures woken { WasWoken self.now }
         ensures value { result ≡ held (start_at pass.new.seen) pass.new.seen.entries seat mode }
     {
         let held = self.lock.lock(rt, &mut pass.token);
@@ -39,7 +37,6 @@ impl<H: Hooks + Drop, L: Load> Monitor<H, L> {
     pub fn is_held<R: Wait>(&self, rt: &R, pass: &mut Pass) -> bool
         requires is_of { pass.old.lock ≡ self.now }
         ensures looked { IsLook pass.old pass.new }
-        ensures woken { WasWoken self.now }
         ensures value { result ≡ is_some (owner (counts (start_at pass.new.seen) pass.new.seen.entries)) }
     {
         let held = self.lock.lock(rt, &mut pass.token);
@@ -57,7 +54,6 @@ impl<H: Hooks + Drop, L: Load> Monitor<H, L> {
         requires is_of { pass.old.lock ≡ self.now }
         requires seat { seat < self.now.header.seats }
         ensures looked { IsLook pass.old pass.new }
-        ensures woken { WasWoken self.now }
         ensures told { ready (start_at pass.new.seen) pass.new.seen.entries ≡ Some seat → result ≡ true }
         ensures stand { result ≡ true
             → is_placed (place_of seat (line (start_at pass.new.seen) pass.new.seen.entries)) ≡ true }
@@ -72,7 +68,6 @@ impl<H: Hooks + Drop, L: Load> Monitor<H, L> {
     pub fn queue_length<R: Wait>(&self, rt: &R, pass: &mut Pass) -> u16
         requires is_of { pass.old.lock ≡ self.now }
         ensures looked { IsLook pass.old pass.new }
-        ensures woken { WasWoken self.now }
         ensures value { result ≡ length (line (start_at pass.new.seen) pass.new.seen.entries) }
     {
         let held = self.lock.lock(rt, &mut pass.token);
@@ -85,7 +80,6 @@ impl<H: Hooks + Drop, L: Load> Monitor<H, L> {
     pub fn waiters<R: Wait>(&self, rt: &R, pass: &mut Pass, condition: u8) -> u16
         requires is_of { pass.old.lock ≡ self.now }
         ensures looked { IsLook pass.old pass.new }
-        ensures woken { WasWoken self.now }
         ensures value { result ≡ length (sleepers (start_at pass.new.seen) pass.new.seen.entries condition) }
     {
         let held = self.lock.lock(rt, &mut pass.token);
@@ -98,7 +92,6 @@ impl<H: Hooks + Drop, L: Load> Monitor<H, L> {
     pub fn available<R: Wait>(&self, rt: &R, pass: &mut Pass) -> i64
         requires is_of { pass.old.lock ≡ self.now }
         ensures looked { IsLook pass.old pass.new }
-        ensures woken { WasWoken self.now }
         ensures value { result ≡ available (start_at pass.new.seen) pass.new.seen.entries }
     {
         let held = self.lock.lock(rt, &mut pass.token);
@@ -111,7 +104,6 @@ impl<H: Hooks + Drop, L: Load> Monitor<H, L> {
     pub fn count<R: Wait>(&self, rt: &R, pass: &mut Pass) -> u32
         requires is_of { pass.old.lock ≡ self.now }
         ensures looked { IsLook pass.old pass.new }
-        ensures woken { WasWoken self.now }
         ensures value { result ≡ count (start_at pass.new.seen) pass.new.seen.entries }
     {
         let held = self.lock.lock(rt, &mut pass.token);
@@ -126,7 +118,6 @@ impl<H: Hooks + Drop, L: Load> Monitor<H, L> {
         requires is_of { pass.old.lock ≡ self.now }
         requires callable { F.IsAlwaysCallable look }
         ensures looked { IsLook pass.old pass.new }
-        ensures woken { WasWoken self.now }
         ensures saw { (load : L) × L.rests load (counts (start_at pass.new.seen) pass.new.seen.entries)
             × FnOnceReturnsAt F.FnOnce look load result }
     {

@@ -10,9 +10,9 @@ ghost use Rattle.frame.specs.Core.{counts_of, start_of};
 ghost use Rattle.history.specs.Counts.{count, counts, owner};
 ghost use Rattle.history.specs.Entries.{HistoryView};
 ghost use Rattle.history.specs.Line.{line};
-ghost use Rattle.monitor.specs.Calling.{Called};
+ghost use Rattle.monitor.specs.Calling.{CalledQuietly};
 ghost use Rattle.monitor.specs.Lawful.{start_at};
-ghost use Rattle.monitor.specs.Observing.{IsHistoryOf, IsLook};
+ghost use Rattle.monitor.specs.Observing.{IsHistoryOf, IsQuietLook};
 ghost use Rattle.monitor.specs.Stepping.{IsTrim};
 
 use crate::load::Load;
@@ -40,7 +40,7 @@ impl<H: Hooks + Drop, L: Load> Monitor<H, L> {
         requires is_of { pass.old.lock ≡ self.now }
         requires callable { F.IsAlwaysCallable read }
         ensures busy { IfNone result (pass.new ≡ pass.old) }
-        ensures looked { IfSome result (λ _. IsLook pass.old pass.new) }
+        ensures looked { IfSome result (λ _. IsQuietLook pass.old pass.new) }
         ensures saw { IfSome result (λ answer. (history : HistoryView) × IsHistoryOf pass.new.seen history
             × FnOnceReturnsAt F.FnOnce read history answer) }
     {
@@ -56,7 +56,7 @@ impl<H: Hooks + Drop, L: Load> Monitor<H, L> {
     /// None, and nothing has changed.
     pub fn trim_quietly(&self, pass: &mut Pass) -> Option<Result<u64, Fault>>
         requires is_of { pass.old.lock ≡ self.now }
-        ensures called { Called pass.old pass.new }
+        ensures called { CalledQuietly pass.old pass.new }
         ensures trimmed { MatchOption result (pass.new ≡ pass.old) (λ count. IsTrim pass.old count pass.new) }
     {
         let Some(mut held) = self.lock.lock_now(&mut pass.token) else {
@@ -72,7 +72,7 @@ impl<H: Hooks + Drop, L: Load> Monitor<H, L> {
     pub fn available_quietly(&self, pass: &mut Pass) -> Option<i64>
         requires is_of { pass.old.lock ≡ self.now }
         ensures busy { IfNone result (pass.new ≡ pass.old) }
-        ensures looked { IfSome result (λ _. IsLook pass.old pass.new) }
+        ensures looked { IfSome result (λ _. IsQuietLook pass.old pass.new) }
         ensures value { IfSome result (λ permits.
             permits ≡ available (start_at pass.new.seen) pass.new.seen.entries) }
     {
@@ -89,7 +89,7 @@ impl<H: Hooks + Drop, L: Load> Monitor<H, L> {
     pub fn count_quietly(&self, pass: &mut Pass) -> Option<u32>
         requires is_of { pass.old.lock ≡ self.now }
         ensures busy { IfNone result (pass.new ≡ pass.old) }
-        ensures looked { IfSome result (λ _. IsLook pass.old pass.new) }
+        ensures looked { IfSome result (λ _. IsQuietLook pass.old pass.new) }
         ensures value { IfSome result (λ left.
             left ≡ count (start_at pass.new.seen) pass.new.seen.entries) }
     {
@@ -107,7 +107,7 @@ impl<H: Hooks + Drop, L: Load> Monitor<H, L> {
     pub fn contention_quietly(&self, pass: &mut Pass) -> Option<Contention>
         requires is_of { pass.old.lock ≡ self.now }
         ensures busy { IfNone result (pass.new ≡ pass.old) }
-        ensures looked { IfSome result (λ _. IsLook pass.old pass.new) }
+        ensures looked { IfSome result (λ _. IsQuietLook pass.old pass.new) }
         ensures held { IfSome result (λ found.
             found.is_held ≡ is_some (owner (counts (start_at pass.new.seen) pass.new.seen.entries))) }
         ensures queue { IfSome result (λ found.

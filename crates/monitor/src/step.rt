@@ -2,12 +2,11 @@
 ghost use Rattle.std.specs.Prelude.{◌≡◌, ◌≢◌, ◌<◌, false, true, Ok, IfSome};
 ghost use Rattle.history.specs.declared.step.Answer.TheVariants.{Sleep};
 ghost use Rattle.history.specs.Phase.{waits};
-ghost use Rattle.monitor.specs.Calling.{CanCall, Called};
+ghost use Rattle.monitor.specs.Calling.{CanCall, Called, CalledQuietly};
 ghost use Rattle.monitor.specs.Load.{Brings, LetsGo, Moves, Trades, free_of, given_by, holds_of, was_refused};
 ghost use Rattle.monitor.specs.inner.Load.{is_signal};
 ghost use Rattle.monitor.specs.Stepping.{IsEntered, IsStep, IsStepNow, IsUnparked};
 ghost use Rattle.monitor.specs.inner.Stepping.{entry_in, named_in, now_of};
-ghost use Rattle.word_lock.specs.Woken.{WasWoken};
 
 use crate::at_once::{NOT_ASKED, reply_of};
 use crate::load::{Empty, Load};
@@ -38,7 +37,6 @@ impl<H: Hooks + Drop> Monitor<H> {
         requires is_of { pass.old.lock ≡ self.now }
         ensures called { Called pass.old pass.new }
         ensures stepped { IsStep pass.old step result pass.new }
-        ensures woken { WasWoken self.now }
     {
         self.step_with(rt, pass, &mut Empty {}, step)
     }
@@ -48,7 +46,6 @@ impl<H: Hooks + Drop> Monitor<H> {
         requires is_of { pass.old.lock ≡ self.now }
         ensures called { Called pass.old pass.new }
         ensures stepped { IsStepNow pass.old step result pass.new }
-        ensures woken { WasWoken self.now }
     {
         self.step_now_with(pass, &mut Empty {}, step)
     }
@@ -71,7 +68,6 @@ impl<H: Hooks + Drop, L: Load> Monitor<H, L> {
         requires fit { LetsGo step (holds_of pass.old) → L.fit load.old }
         ensures called { Called pass.old pass.new }
         ensures stepped { IsStep pass.old step result pass.new }
-        ensures woken { WasWoken self.now }
         ensures carries { L.carries load.new (holds_of pass.new) }
         ensures trades { Trades L.fit L.is_counted L.amount load.old pass.old load.new pass.new }
     {
@@ -87,7 +83,7 @@ impl<H: Hooks + Drop, L: Load> Monitor<H, L> {
             step,
             &mut answer,
         );
-        self.lock.wake();
+        self.wake(pass);
         reply_of(pass.seat, step, named, answer)
     }
 
@@ -102,7 +98,6 @@ impl<H: Hooks + Drop, L: Load> Monitor<H, L> {
         requires signals { is_signal step ≡ true }
         ensures called { Called pass.old pass.new }
         ensures stepped { IsStep pass.old step result pass.new }
-        ensures woken { WasWoken self.now }
     {
         let held = self.lock.lock(rt, &mut pass.token);
         let answer = signal_taken(
@@ -113,7 +108,7 @@ impl<H: Hooks + Drop, L: Load> Monitor<H, L> {
             held,
             step,
         );
-        self.lock.wake();
+        self.wake(pass);
         answer
     }
 
@@ -126,12 +121,11 @@ impl<H: Hooks + Drop, L: Load> Monitor<H, L> {
         requires fit { LetsGo step (holds_of pass.old) → L.fit load.old }
         ensures called { Called pass.old pass.new }
         ensures stepped { IsStepNow pass.old step result pass.new }
-        ensures woken { WasWoken self.now }
         ensures carries { L.carries load.new (holds_of pass.new) }
         ensures trades { Trades L.fit L.is_counted L.amount load.old pass.old load.new pass.new }
     {
         let answer = self.step_quietly(pass, load, step);
-        self.lock.wake();
+        self.wake(pass);
         answer
     }
 
@@ -142,7 +136,7 @@ impl<H: Hooks + Drop, L: Load> Monitor<H, L> {
         requires carries { L.carries load.old (holds_of pass.old) }
         requires brings { Brings L.is_counted (L.amount load.old) (given_by step) }
         requires fit { LetsGo step (holds_of pass.old) → L.fit load.old }
-        ensures called { Called pass.old pass.new }
+        ensures called { CalledQuietly pass.old pass.new }
         ensures stepped { IsStepNow pass.old step result pass.new }
         ensures carries { L.carries load.new (holds_of pass.new) }
         ensures trades { Trades L.fit L.is_counted L.amount load.old pass.old load.new pass.new }
@@ -181,7 +175,6 @@ impl<H: Hooks + Drop, L: Load> Monitor<H, L> {
         requires fit { LetsGo step (holds_of pass.old) → L.fit load.old }
         ensures called { Called pass.old pass.new }
         ensures entered { IsEntered (P.did parking.now) pass.old step result pass.new }
-        ensures woken { WasWoken self.now }
         ensures carries { L.carries load.new (holds_of pass.new) }
         ensures moves { Moves L.fit L.is_counted L.amount load.old (free_of pass.old) load.new
             (free_of pass.new) }
@@ -210,7 +203,6 @@ impl<H: Hooks + Drop, L: Load> Monitor<H, L> {
         ensures called { Called pass.old pass.new }
         ensures stepped { IsStep pass.old step result pass.new }
         ensures unparked { IsUnparked (P.did parking.now) pass.new.lock (named_in result) pass.new.seen }
-        ensures woken { WasWoken self.now }
     {
         let told = self.signal_step(rt, pass, step);
         pass.unpark(parking, named_in(told));
@@ -229,7 +221,6 @@ impl<H: Hooks + Drop, L: Load> Monitor<H, L> {
         requires signals { is_signal step ≡ true }
         ensures called { Called pass.old pass.new }
         ensures entered { IsEntered (P.did parking.now) pass.old step result pass.new }
-        ensures woken { WasWoken self.now }
     {
         match self.signal_call(rt, parking, pass, step) {
             Ok(Answer::Recorded(entry, _)) => Ok(entry),

@@ -2,7 +2,6 @@
 ghost use Rattle.std.specs.Prelude.{◌≡◌};
 ghost use Rattle.monitor.specs.Calling.{Called};
 ghost use Rattle.monitor.specs.Stepping.{IsTrim, IsTrimInAll, in_all};
-ghost use Rattle.word_lock.specs.Woken.{WasWoken};
 
 use crate::load::Load;
 use crate::monitor::Monitor;
@@ -21,7 +20,6 @@ impl<H: Hooks + Drop, L: Load> Monitor<H, L> {
         requires is_of { pass.old.lock ≡ self.now }
         ensures called { Called pass.old pass.new }
         ensures trimmed { IsTrim pass.old result pass.new }
-        ensures woken { WasWoken self.now }
     {
         let mut held = self.lock.lock(rt, &mut pass.token);
         let count = held.value.trim();
@@ -35,7 +33,6 @@ impl<H: Hooks + Drop, L: Load> Monitor<H, L> {
         requires is_of { pass.old.lock ≡ self.now }
         ensures called { Called pass.old pass.new }
         ensures trimmed { IsTrimInAll pass.old result pass.new }
-        ensures woken { WasWoken self.now }
     {
         let mut turn = self.lock.lock(rt, &mut pass.token);
         let trimmed = turn.value.trim();

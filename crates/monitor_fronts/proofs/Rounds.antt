@@ -4,9 +4,9 @@ use Rattle.std.proofs.lemmas.List.{nil_from_length}
 use Rattle.history.specs.Entries.{ended_calls}
 use Rattle.history.specs.Base.{Base}
 use Rattle.history.specs.declared.fault.Fault.TheVariants as fault
-use Rattle.monitor.specs.Calling.{Called}
+use Rattle.monitor.specs.Calling.{Called, CalledQuietly}
 use Rattle.monitor.specs.Load.{was_refused}
-use Rattle.monitor.proofs.Sections.{called_since, not_called}
+use Rattle.monitor.proofs.Sections.{not_called, quiet_since, quietly}
 use Rattle.frame.specs.Core.{CoreView}
 use Rattle.history.specs.Counts.{held}
 use Rattle.history.specs.Start.{opening}
@@ -18,7 +18,7 @@ use Rattle.monitor_fronts.specs.declared.room.WhenFull.{WhenFull}
 use Rattle.monitor_fronts.specs.declared.room.WhenFull.TheVariants.{Refuse, Trim}
 
 -- a pass that has done nothing more is as it was, but for what it has seen
-pub only_saw : (old new : Shown) → IsSound old → Called old new → new.mine ≡ old.mine → new ≡ at_point old new.seen
+pub only_saw : (old new : Shown) → IsSound old → CalledQuietly old new → new.mine ≡ old.mine → new ≡ at_point old new.seen
 only_saw old new was c mine =
     let share : new.share ≡ old.share = c.shows.counted ∙ (ap ended_calls mine ∙ sym was.counted) in
     λ d. record { lock = c.same.lock d; seat = c.same.seat d; seen = new.seen; mine = mine d; share = share d }
@@ -56,7 +56,7 @@ pub record Tried (call : MonitorCall) (first now : Shown) : Type 0 where
 
 pub record Trying (w : WhenFull) (call : MonitorCall) (first now : Shown) : Type 0 where
   pub was : IsSound first
-  pub called : Called first now
+  pub called : CalledQuietly first now
   pub mine : now.mine ≡ first.mine
   pub tried : (w ≡ Refuse → now ≡ first) × (w ≡ Trim → Tried call first now)
 
@@ -80,11 +80,11 @@ from_first w call first now r new t x = subst (λ (o : Shown). call o r new) (sa
 
 -- it found the history full, and trimmed
 turns_back : (w : WhenFull) (call : MonitorCall) (first now full new : Shown) (trimmed : Result ℕ Fault) →
-    Trying w call first now → call now (Err HistoryFull) full → Called now full → full.mine ≡ now.mine →
+    Trying w call first now → call now (Err HistoryFull) full → CalledQuietly now full → full.mine ≡ now.mine →
     IsTrim full trimmed new → TurnsBack call (at_point first now.seen) trimmed new
 turns_back w call first now full new trimmed t refused called mine trim =
     let is : full ≡ at_point first full.seen =
-    only_saw first full t.was (called_since first now full t.called called) (mine ∙ t.mine) in
+    only_saw first full t.was (quiet_since first now full t.called called) (mine ∙ t.mine) in
     record {
       full = full.seen;
       begins = called.begins;
@@ -128,11 +128,11 @@ module _ (w : WhenFull) (call : MonitorCall) (first now full new : Shown) (r : R
   -- it trimmed, and is made anew
   pub again : (count : ℕ) → IsTrim full (Ok count) new → Trying w call first new
   again count trim =
-      let full_since = called_since first now full t.called c in
-      let since = called_since first full new full_since d in
+      let full_since = quiet_since first now full t.called (quietly now full c) in
+      let since = quiet_since first full new full_since (quietly full new d) in
       let own = trim.mine ∙ (mine ∙ t.mine) in
       let is = only_saw first new t.was since own in
-      let back = turns_back w call first now full new (Ok count) t refused c mine trim in
+      let back = turns_back w call first now full new (Ok count) t refused (quietly now full c) mine trim in
       let y = t.tried.1 (to_trim_is w r q).0 in
       record {
         was = t.was;
@@ -172,7 +172,7 @@ module _ (w : WhenFull) (call : MonitorCall) (first now full new : Shown) (r : R
       by : IsTrimmedFrom before full (Err f) new → GoesOn call first (Err f) new
       by (inl z) =
           let trim = z.1 in
-          let back = turns_back w call first now full new (Ok z.0) t refused c mine trim in
+          let back = turns_back w call first now full new (Ok z.0) t refused (quietly now full c) mine trim in
           let none = ap (λ (v : CoreView). v.entries) trim.trimmed.2 in
           record {
             times = y.times;
@@ -197,7 +197,7 @@ module _ (w : WhenFull) (call : MonitorCall) (first now full new : Shown) (r : R
             made = y.made;
             ends = inr record {
               trimmed = Err f;
-              tried = turns_back w call first now full new (Err f) t refused c mine trim;
+              tried = turns_back w call first now full new (Err f) t refused (quietly now full c) mine trim;
               fault = f;
               is = refl;
               why = refl;

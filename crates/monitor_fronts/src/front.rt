@@ -24,8 +24,8 @@ use std::time::Clock;
 /// is the pass, conditions have numbers, and a call returns an `Err` where Java throws.
 ///
 /// A call that finds the history full folds it and goes on, or returns `Err(HistoryFull)` if `when_full` says
-/// so. An unlock by an owner never lacks room; then a release of permits and a count down may. A call costs one entry,
-/// and one that waits costs two.
+/// [`WhenFull::Refuse`]. An unlock by an owner never lacks room. At a front that refuses, a release of permits and a
+/// count down may lack room. A call costs one entry, and one that waits costs two.
 #[derive(Clone, Copy)]
 pub struct Front<'m, H: Hooks + Drop> {
     pub monitor: &'m Monitor<H>,

@@ -22,11 +22,7 @@ use permit::Parking;
 use std::sync::Wait;
 use std::time::Clock;
 
-/// `java.util.concurrent.CountDownLatch` of Java SE 8 over a monitor. A call returns an `Err` where Java
-/// throws.
-///
-/// A call that finds the history full folds it and goes on, or returns `Err(HistoryFull)` if `when_full` says
-/// so. Then `count_down` may lack room too. Each call costs one entry, and a call that waits costs two.
+/// `java.util.concurrent.CountDownLatch` of Java SE 8 over a monitor.
 ///
 /// The count never rises. `count_at point` is the count in a history, and `IsOpen pass` says that it is 0 in the history
 /// that the pass has seen.

@@ -23,12 +23,7 @@ use reentrant::lock::LockHooks;
 use std::sync::Wait;
 use std::time::Clock;
 
-/// `java.util.concurrent.locks.ReentrantLock` of Java SE 8 over a monitor. The thread is the pass, conditions
-/// have numbers, and a call returns an `Err` where Java throws.
-///
-/// A call that finds the history full folds it and goes on, or returns `Err(HistoryFull)` if `when_full` says
-/// so. An unlock by the owner never lacks room. A lock and an unlock cost one entry each, and a lock that
-/// waits costs two.
+/// `java.util.concurrent.locks.ReentrantLock` of Java SE 8 over a monitor.
 pub type ReentrantLock<'m> = Front<'m, LockHooks>;
 
 impl<'m> ReentrantLock<'m> {

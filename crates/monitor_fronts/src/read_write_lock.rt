@@ -25,11 +25,7 @@ use std::sync::Wait;
 use std::time::Clock;
 
 /// `java.util.concurrent.locks.ReentrantReadWriteLock` of Java SE 8 over a monitor. The methods of its write
-/// lock begin with `write_`, those of its read lock with `read_`. A call returns an `Err` where Java throws.
-///
-/// A call that finds the history full folds it and goes on, or returns `Err(HistoryFull)` if `when_full` says
-/// so. An unlock by an owner never lacks room. A lock and an unlock cost one entry each, and a lock that
-/// waits costs two.
+/// lock begin with `write_`, those of its read lock with `read_`.
 pub type ReadWriteLock<'m> = Front<'m, RwHooks>;
 
 impl<'m> ReadWriteLock<'m> {

@@ -23,11 +23,7 @@ use std::sync::Wait;
 use std::time::Clock;
 
 /// `java.util.concurrent.Semaphore` of Java SE 8 over a monitor. It may be opened with fewer than 0 permits,
-/// as Java's. A call returns an `Err` where Java throws.
-///
-/// A call that finds the history full folds it and goes on, or returns `Err(HistoryFull)` if `when_full` says
-/// so. Then a release may lack room too. An acquire and a release cost one entry each, and an acquire that
-/// waits costs two.
+/// as Java's.
 ///
 /// A contract speaks of two numbers: `permits pass` is what the pass took less what it gave back, and `free_at point`
 /// is how many permits are free in a history.

@@ -119,10 +119,10 @@ impl<T: Chronicle> WordLock<T> {
         requires follows { Follows (first_seat (held_ticket held).logs) (held_ticket held).seen
             (T.point held.value) }
         ensures token { token.new ≡ after_unlock (held_ticket held) (T.point held.value) }
-        ensures woken { WasWoken self.now }
+        ensures woken { WasWoken token.new.lock token.new.seen }
     {
         self.unlock_quietly(token, held);
-        self.wake();
+        self.wake(token);
     }
 
     /// As `unlock`, but it wakes nobody. It is for a static library, which may not wake: there nobody may
@@ -332,11 +332,14 @@ impl<T: Chronicle> WordLock<T> {
     }
 
     /// Wakes one sleeping thread, if the value is there. It costs one load if nobody sleeps. If the value was
-    /// taken again nobody is woken, since the holder wakes one as it unlocks.
+    /// taken again nobody is woken, since the holder wakes one as it unlocks. `by` is the token that put the value
+    /// back. Only the contract needs it: it is neither kept nor read.
     #[inline(always)]
     #[tactic(auto, using(crate::specs::Woken::woken))]
-    pub fn wake(&self)
-        ensures { WasWoken self.now }
+    pub fn wake(&self, by: &Token)
+        requires own { by.now.lock ≡ self.now }
+        requires free { by.now.free ≡ true }
+        ensures { WasWoken by.now.lock by.now.seen }
     {
         if self.sleepers.are_some() && self.table.shared.peek(0) == 0 {
             self.sleepers.wake_one();

@@ -1,7 +1,7 @@
 -- A section of the lock: what the token of a pass took, and what is left once it is put back.
 use Rattle.std.specs.Prelude.{◌≡◌, ℕ, Result}
 use Rattle.monitor.specs.Below.{CoreView, Fault, Answer, Step, Before, AllAgree, Ticket, after_lock}
-use Rattle.monitor.specs.Calling.{Called}
+use Rattle.monitor.specs.Calling.{CalledQuietly}
 use Rattle.monitor.specs.Lawful.{IsLawfulCore, point_of}
 use Rattle.monitor.specs.Shown.{IsPass, shown}
 use Rattle.monitor.specs.Stepping.{IsStep}
@@ -18,5 +18,5 @@ pub record Taking (t o : Ticket) (v : CoreView) (seat share : ℕ) : Type 0 wher
 pub record Went (t n : Ticket) (seat share next : ℕ) (step : Step) (r : Result Answer Fault) :
     Type 0 where
   pub pass : IsPass n seat next
-  pub called : Called (shown t seat share) (shown n seat next)
+  pub called : CalledQuietly (shown t seat share) (shown n seat next)
   pub stepped : IsStep (shown t seat share) step r (shown n seat next)

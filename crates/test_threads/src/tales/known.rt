@@ -1,7 +1,7 @@
 //! Short lists of calls with each entry that they record, and each park, unpark and interrupt.
 use crate::asks::{DONE, INTERRUPTED, NO, YES};
 use crate::plays::{LOCK, TWO, Tale, play_all};
-use crate::tales::{HEARS, INTERRUPTS, PLAIN, WAKES};
+use crate::tales::{HEARS, INTERRUPTS, WAKES};
 use history::header::{Header, Object, Policy};
 use history::step::Step;
 use permit::{Call, Woke};
@@ -103,18 +103,18 @@ const SHORT: Tale = Tale {
 };
 
 const HANDED_OVER: Tale = Tale {
-    name: "a non-fair lock unparks its waiter alone, and once",
+    name: "a non-fair lock unparks its waiter alone, and once, and an interrupt that comes then is pending",
     header: Header {
         seats: 2,
         cap: 64,
         ..FOUR
     },
     rows: rows![0 Lock => DONE],
-    waiter: rows![1 Lock => DONE, 1 Unlock => DONE],
-    others: rows![0 Unlock => DONE],
+    waiter: rows![1 LockInterruptibly => DONE, 1 TryLockFor(0) => INTERRUPTED],
+    others: rows![0 InterruptSecond => DONE, 0 Unlock => DONE],
     calls: 4,
-    lines: "\n0 0 got x 1\n1 1 queued x 1\n2 0 gave x 1\n3 1 granted x 1\n4 1 gave x 1\nend 5 4\n",
-    parked: &[PLAIN, WAKES],
+    lines: "\n1 1 queued x 1\n2 0 gave x 1\n3 1 granted x 1\n4 1 refused x 1 Interrupted\nend 5 4\n",
+    parked: &[HEARS, INTERRUPTS, WAKES],
     ..LOCK
 };
 

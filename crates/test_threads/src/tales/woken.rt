@@ -2,9 +2,9 @@
 //!
 //! The parking ends the waiter's parks after the other seats have acted, whether or not they unparked it. So
 //! the list of calls shows, for each entry that names a seat, that exactly this seat was unparked.
-use crate::asks::{DONE, NO, YES};
+use crate::asks::{DONE, INTERRUPTED, NO, YES};
 use crate::plays::{LOCK, TWO, Tale, play_all};
-use crate::tales::{A_MINUTE, HEARS, PLAIN, TIMED, WAKES};
+use crate::tales::{A_MINUTE, HEARS, INTERRUPTS, PLAIN, TIMED, WAKES};
 use history::entry::Mode;
 use history::header::{Header, Object, Policy};
 use history::step::Step;
@@ -27,12 +27,12 @@ const SIGNALLED: Tale = Tale {
 };
 
 const LAPSED: Tale = Tale {
-    name: "who lapses waits for the lock without a time",
+    name: "who lapses waits for the lock without a time, and leaves an interrupt that comes then",
     answers: &[Woke::Deadline],
-    waiter: rows![1 Lock => DONE, 1 WaitFor(0, A_MINUTE) => NO, 1 Unlock => DONE],
-    others: rows![0 Lock => DONE, 0 NextPark => YES, 0 Unlock => DONE],
+    waiter: rows![1 Lock => DONE, 1 WaitFor(0, A_MINUTE) => NO, 1 TryLockFor(0) => INTERRUPTED],
+    others: rows![0 InterruptSecond => DONE, 0 Lock => DONE, 0 NextPark => YES, 0 Unlock => DONE],
     calls: 5,
-    parked: &[TIMED, PLAIN, WAKES],
+    parked: &[TIMED, INTERRUPTS, PLAIN, WAKES],
     ..LOCK
 };
 

@@ -1,6 +1,6 @@
 use Rattle.std.proofs.Common.{rules, ◌≡◌, ◌∙◌, true, false, ℕ, refl, sym, subst}
 use Rattle.monitor_fronts.specs.Below.{Mode}
-use Rattle.monitor.proofs.Sections.{called_since}
+use Rattle.monitor.proofs.Sections.{called_since, quiet_since, quietly}
 use Rattle.monitor_fronts.specs.inner.Room.{is_to_trim}
 use Rattle.monitor_fronts.proofs.Rounds.{again, begin, found_room, gives_up, call_recorded_none, refused_full, trim_holds}
 use Rattle.monitor_fronts.proofs.room.call_in_room.Goals.{After-trim_from}
@@ -43,7 +43,8 @@ loop-preserved g c =
 pub returns-in-Err-clause-called : goal.returns-in-Err-clause-called
 returns-in-Err-clause-called g c =
     called_since c.args.pass.now c.call-reply.new.pass c.trim_from.new.pass
-    (called_since c.args.pass.now c.loop.pass c.call-reply.new.pass c.loop.invariant.2.called c.call-reply.ensures.called)
+    (quiet_since c.args.pass.now c.loop.pass c.call-reply.new.pass c.loop.invariant.2.called
+    (quietly _ _ c.call-reply.ensures.called))
     c.trim_from.ensures.called
 
 pub returns-in-Err-clause-made : goal.returns-in-Err-clause-made

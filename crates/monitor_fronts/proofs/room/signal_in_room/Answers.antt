@@ -1,5 +1,5 @@
 use Rattle.std.proofs.Common.{rules, ◌≡◌, ◌∙◌, true, false, sym}
-use Rattle.monitor.proofs.Sections.{called_since}
+use Rattle.monitor.proofs.Sections.{called_since, quiet_since, quietly}
 use Rattle.monitor_fronts.specs.Room.{signal_step}
 use Rattle.monitor_fronts.specs.inner.Room.{is_to_trim}
 use Rattle.monitor_fronts.proofs.Rounds.{again, begin, found_room, gives_up, step_recorded_none}
@@ -42,7 +42,8 @@ loop-preserved g c =
 pub returns-in-Err-clause-called : goal.returns-in-Err-clause-called
 returns-in-Err-clause-called g c =
     called_since c.args.pass.now c.signal-reply.new.pass c.trim_from.new.pass
-    (called_since c.args.pass.now c.loop.pass c.signal-reply.new.pass c.loop.invariant.2.called c.signal-reply.ensures.called)
+    (quiet_since c.args.pass.now c.loop.pass c.signal-reply.new.pass c.loop.invariant.2.called
+    (quietly _ _ c.signal-reply.ensures.called))
     c.trim_from.ensures.called
 
 pub returns-in-Err-clause-signalled : goal.returns-in-Err-clause-signalled

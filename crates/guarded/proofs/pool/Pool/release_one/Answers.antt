@@ -1,11 +1,16 @@
 use Rattle.std.proofs.Common.{◌≡◌, ◌∙◌, List, [], ◌∷◌, length, true, Ok, Err, arith, inl, inr, refl, sym, ap, subst}
-use Rattle.monitor.proofs.Sections.{not_called}
 use Rattle.guarded.specs.Prelude.{CallReturns, gives_back}
 use Rattle.guarded.proofs.Shelving.{in_one}
 use Rattle.guarded.proofs.pool.Pool.release_one.Goals as goal
 
 pub returns-in-Err-clause-called : goal.returns-in-Err-clause-called
-returns-in-Err-clause-called g c = not_called c.args.pass.now c.is_true.ensures
+returns-in-Err-clause-called g c = inr refl
+
+pub returns-in-Ok-release-clause-called : goal.returns-in-Ok-release-clause-called
+returns-in-Ok-release-clause-called g c = inl c.release.ensures.called
+
+pub returns-in-Err-release-clause-called : goal.returns-in-Err-release-clause-called
+returns-in-Err-release-clause-called g c = inl c.release.ensures.called
 
 pub returns-in-Err-clause-returned : goal.returns-in-Err-clause-returned
 returns-in-Err-clause-returned g c = inr (refl, refl)

@@ -1,5 +1,5 @@
 use Rattle.std.proofs.Common.{refl, sym}
-use Rattle.monitor.proofs.Sections.{called_since}
+use Rattle.monitor.proofs.Sections.{called_unless}
 use Rattle.guarded.proofs.pool.Pool.with_item.Goals as goal
 
 pub release_one-requires-clause-kept : goal.release_one-requires-clause-kept
@@ -9,7 +9,7 @@ release_one-requires-clause-kept g c =
 
 pub returns-in-Ok-release_one-clause-called : goal.returns-in-Ok-release_one-clause-called
 returns-in-Ok-release_one-clause-called g c =
-    called_since c.args.pass.now c.acquire_one.new.pass c.release_one.new.pass c.acquire_one.ensures.called
+    called_unless c.args.pass.now c.acquire_one.new.pass c.release_one.new.pass c.acquire_one.ensures.called
     c.release_one.ensures.called
 
 pub returns-in-Ok-release_one-clause-lent : goal.returns-in-Ok-release_one-clause-lent
@@ -28,7 +28,7 @@ returns-in-Ok-release_one-clause-lent g c =
 
 pub returns-in-Err-release_one-clause-called : goal.returns-in-Err-release_one-clause-called
 returns-in-Err-release_one-clause-called g c =
-    called_since c.args.pass.now c.acquire_one.new.pass c.release_one.new.pass c.acquire_one.ensures.called
+    called_unless c.args.pass.now c.acquire_one.new.pass c.release_one.new.pass c.acquire_one.ensures.called
     c.release_one.ensures.called
 
 pub returns-in-Err-release_one-clause-lent : goal.returns-in-Err-release_one-clause-lent

@@ -1,4 +1,4 @@
-use Rattle.std.proofs.Common.{subst}
+use Rattle.std.proofs.Common.{IsSome, subst, sym}
 use Rattle.guarded.specs.Below.{counts, start_on}
 use Rattle.guarded.specs.Stowed.{MutexView, Rests}
 use Rattle.guarded.proofs.Stowing.{rests_as, value_as}
@@ -15,3 +15,7 @@ returns-in-Ok-clause-value g c =
 pub returns-in-Ok-clause-kept : goal.returns-in-Ok-clause-kept
 returns-in-Ok-clause-kept g c =
     value_as g.I.Keeps.invariant c.in-Ok.share c.unshared.result c.unshared.ensures c.in-Ok.ensures.kept
+
+pub returns-in-Ok-clause-free : goal.returns-in-Ok-clause-free
+returns-in-Ok-clause-free g c = λ free.
+    subst IsSome (sym c.unshared.ensures) (c.in-Ok.ensures.free free)

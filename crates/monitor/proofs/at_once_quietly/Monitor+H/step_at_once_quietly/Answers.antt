@@ -1,10 +1,10 @@
 use Rattle.std.proofs.Common.{rules, ◌≡◌, ◌∙◌, Ok, ap, sym, subst}
 use Rattle.monitor.specs.Below.{Recorded, entry_at_once, CoreView, Follows, after_unlock, first_seat, held_ticket, Ticket}
-use Rattle.monitor.specs.Prelude.{point_of, Called, IsLook, IsStep, Shown, shown}
+use Rattle.monitor.specs.Prelude.{point_of, CalledQuietly, IsQuietLook, IsStep, Shown, shown}
 use Rattle.monitor.specs.inner.Sections.{Taking, Went}
 use Rattle.monitor.proofs.Around.{Around, went}
 use Rattle.monitor.proofs.FastWay.{one_more}
-use Rattle.monitor.proofs.Looking.{Looked, look, looked_calls, may_give_back, not_looked}
+use Rattle.monitor.proofs.Looking.{Looked, look, looked_quietly, may_give_back, not_looked}
 use Rattle.monitor.proofs.Taking.{follows_made, seat_taken, share_fits}
 use Rattle.monitor.proofs.at_once_quietly.Monitor+H.step_at_once_quietly.Goals.{After-one_call_more-pass-inside, After-unlock_quietly-in-None, In-Some, In_default}
 use Rattle.monitor.proofs.at_once_quietly.Monitor+H.step_at_once_quietly.Goals as goal
@@ -58,7 +58,7 @@ invariant_of-pass-in-Some-step_at_once g c =
 
 pub returns-in-Some-step_at_once-clause-called : goal.returns-in-Some-step_at_once-clause-called
 returns-in-Some-step_at_once-clause-called g c =
-    subst (λ (s : Shown). Called s (shown c.unlock_quietly.new.token c.pass.inside.seat c.one_call_more-pass-inside.result))
+    subst (λ (s : Shown). CalledQuietly s (shown c.unlock_quietly.new.token c.pass.inside.seat c.one_call_more-pass-inside.result))
     c.pass.view_is
     (done g (goal.at.returns-in-Some-step_at_once-clause-called g c).After-one_call_more-pass-inside).called
 
@@ -97,15 +97,15 @@ returns-in-None-clause-looked g c =
 pub returns-in-None-clause-called : goal.returns-in-None-clause-called
 returns-in-None-clause-called g c =
     rw (← c.pass.view_is)
-    (looked_calls _ _ (looked g (goal.at.returns-in-None-clause-called g c).After-unlock_quietly-in-None).is)
+    (looked_quietly _ _ (looked g (goal.at.returns-in-None-clause-called g c).After-unlock_quietly-in-None).is)
 
 -- one for which the object was busy
-same : (g : _) (c : In_default g) → IsLook c.args.pass.now (shown c.lock_now.new.token c.pass.inside.seat
+same : (g : _) (c : In_default g) → IsQuietLook c.args.pass.now (shown c.lock_now.new.token c.pass.inside.seat
     c.pass.inside.share)
 same g c =
     let is : c.lock_now.new.token ≡ c.pass.inside.token = search rules in
-    subst (λ (s : Shown). IsLook s (shown c.lock_now.new.token c.pass.inside.seat c.pass.inside.share)) c.pass.view_is
-    (subst (λ (t : Ticket). IsLook (shown c.pass.inside.token c.pass.inside.seat c.pass.inside.share)
+    subst (λ (s : Shown). IsQuietLook s (shown c.lock_now.new.token c.pass.inside.seat c.pass.inside.share)) c.pass.view_is
+    (subst (λ (t : Ticket). IsQuietLook (shown c.pass.inside.token c.pass.inside.seat c.pass.inside.share)
     (shown t c.pass.inside.seat c.pass.inside.share)) (sym is) (not_looked _ c.pass.invariant.shows))
 
 pub returns-in_default-clause-looked : goal.returns-in_default-clause-looked
@@ -113,4 +113,4 @@ returns-in_default-clause-looked g c = same g (goal.at.returns-in_default-clause
 
 pub returns-in_default-clause-called : goal.returns-in_default-clause-called
 returns-in_default-clause-called g c =
-    looked_calls _ _ (same g (goal.at.returns-in_default-clause-called g c).In_default)
+    looked_quietly _ _ (same g (goal.at.returns-in_default-clause-called g c).In_default)

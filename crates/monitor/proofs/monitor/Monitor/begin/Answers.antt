@@ -1,8 +1,9 @@
 use Rattle.std.proofs.Common.{subst, ℕ, sym, ap, ◌∙◌}
 use Rattle.history.specs.declared.step.Step.{Step}
 use Rattle.monitor.specs.Load.{Brings, LetsGo, given_by, holds_of}
-use Rattle.monitor.proofs.FirstTurns.{awake_first, step_as}
-use Rattle.monitor.proofs.TurnByTurn.{step_gives_none, step_lets}
+use Rattle.monitor.proofs.FirstTurns.{awake_first}
+use Rattle.monitor.proofs.LeftWaiting.{left_begun}
+use Rattle.monitor.proofs.TurnByTurn.{step_as, step_gives_none, step_lets}
 use Rattle.monitor.proofs.monitor.Monitor.begin.Goals as goal
 
 pub first_turn-requires : goal.first_turn-requires
@@ -30,3 +31,13 @@ pub step_with-answer-requires-clause-fit : goal.step_with-answer-requires-clause
 step_with-answer-requires-clause-fit g c = λ go.
     c.requires.fit (step_lets c.args.request c.args.how c.args.interrupted (holds_of c.args.pass.now)
     (subst (λ (z : Step). LetsGo z (holds_of c.args.pass.now)) c.step-step.ensures go))
+
+pub returns-clause-waits : goal.returns-clause-waits
+returns-clause-waits g c =
+    left_begun c.args.pass.now c.step_with-answer.new.pass c.args.request c.args.how c.args.moment c.args.interrupted
+    c.first_turn.result (
+      c.step_with-answer.result,
+      step_as c.args.pass.now c.step_with-answer.new.pass c.step-step.result _ _
+          c.step-step.ensures c.step_with-answer.ensures.stepped,
+      c.first_turn.ensures,
+    ) c.step_with-answer.ensures.called.same

@@ -1,6 +1,7 @@
 use Rattle.std.proofs.Common.{rules, ◌≡◌, None, sym, ◌∙◌, subst, ℕ, ap}
 use Rattle.history.specs.declared.step.Step.{Step}
 use Rattle.monitor.specs.Prelude.{Brings, LetsGo, given_by, holds_of, step_by, IsStep, answer_of}
+use Rattle.monitor.proofs.LeftWaiting.{left_begun}
 use Rattle.monitor.proofs.TurnByTurn.{begins_awake, busy_now, stepped_now, step_gives_none, step_lets}
 use Rattle.monitor.proofs.monitor.Monitor.begin_quietly.Goals.{In-Some}
 use Rattle.monitor.proofs.monitor.Monitor.begin_quietly.Goals as goal
@@ -41,3 +42,10 @@ pub step_quietly-requires-clause-fit : goal.step_quietly-requires-clause-fit
 step_quietly-requires-clause-fit g c = λ go.
     c.requires.fit (step_lets c.args.request c.args.how c.args.interrupted (holds_of c.args.pass.now)
     (subst (λ (z : Step). LetsGo z (holds_of c.args.pass.now)) c.step-step.ensures go))
+
+pub returns-clause-waits : goal.returns-clause-waits
+returns-clause-waits g c =
+    left_begun c.args.pass.now c.step_quietly.new.pass c.args.request c.args.how c.args.moment c.args.interrupted
+    c.first_turn.result
+    (c.in-Some.answer, made g (goal.at.returns-clause-waits g c).In-Some, c.first_turn.ensures)
+    c.step_quietly.ensures.called.same

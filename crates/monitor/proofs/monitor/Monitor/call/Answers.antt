@@ -4,13 +4,13 @@ use Rattle.monitor.specs.Prelude.{IsUnparked, WasNotInterrupted, Brings, LetsGo,
 use Rattle.monitor.specs.inner.Waits.{MayBegin}
 use Rattle.monitor.specs.declared.machine.Next.TheVariants as next
 use Rattle.monitor.proofs.Acquiring.{found_none, found_one}
-use Rattle.monitor.proofs.FirstTurns.{awake_first, made_at_once, place_first, step_as, waited}
+use Rattle.monitor.proofs.FirstTurns.{awake_first, made_at_once, waited}
 use Rattle.monitor.proofs.Freeing.{brings_still, fit_still, moves_since, stays}
 use Rattle.monitor.proofs.InLine.{named_place, woken_as}
 use Rattle.monitor.proofs.Loads.{refused_stays}
 use Rattle.monitor.proofs.Refusals.{done_not_refused, reply_not_refused, turn_refused}
-use Rattle.monitor.proofs.Sections.{called_since}
-use Rattle.monitor.proofs.TurnByTurn.{Begins, begun_ends, begun_free, begun_waits, may_wait, step_gives_none, step_lets, waits_now}
+use Rattle.monitor.proofs.Sections.{called_since, quietly}
+use Rattle.monitor.proofs.TurnByTurn.{Begins, begun_ends, begun_free, begun_waits, may_wait, place_first, step_as, step_gives_none, step_lets, waits_now}
 use Rattle.monitor.proofs.monitor.Monitor.call.Goals.{After-first_turn-turn, After-unpark-in-None, In-Some-step_into}
 use Rattle.monitor.proofs.monitor.Monitor.call.Goals as goal
 
@@ -89,12 +89,13 @@ wait-requires-clause-first g c =
     let x = began g (goal.at.wait-requires-clause-first g c).After-unpark-in-None c.in-Waits.waiting
     (begun_so g (goal.at.wait-requires-clause-first g c).After-first_turn-turn) c.in-Waits.is in
     subst (λ (w : Waiting). MayBegin w.limits w.stage) (sym x.1)
-    (may_wait (g.P.Parking.did c.args.parking.now) c.args.request c.args.how c.moment-moment.result
+    (may_wait (g.P.Parking.did c.args.parking.now) c.args.pass.now.seen c.args.request c.args.how c.moment-moment.result
     c.moment-moment.ensures)
 
 pub returns-in-Waits-clause-called : goal.returns-in-Waits-clause-called
 returns-in-Waits-clause-called g c =
-    called_since c.args.pass.now c.step_into.new.pass c.wait.new.pass c.step_into.ensures.called c.wait.ensures.called
+    called_since c.args.pass.now c.step_into.new.pass c.wait.new.pass (quietly _ _ c.step_into.ensures.called)
+    c.wait.ensures.called
 
 pub returns-in-Waits-clause-made : goal.returns-in-Waits-clause-made
 returns-in-Waits-clause-made g c =

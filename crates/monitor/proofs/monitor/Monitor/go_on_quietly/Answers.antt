@@ -1,6 +1,7 @@
 use Rattle.std.proofs.Common.{rules, ◌≡◌, None, sym, ap, ◌∙◌, subst, ℕ}
 use Rattle.history.specs.declared.step.Step.{Step}
 use Rattle.monitor.specs.Prelude.{Brings, LetsGo, given_by, holds_of, later_turn, step_of_waiting, IsStep, answer_of}
+use Rattle.monitor.proofs.LeftWaiting.{left_gone}
 use Rattle.monitor.proofs.TurnByTurn.{goes_on, busy_now, stepped_now, later_gives_none, later_lets_none}
 use Rattle.monitor.proofs.monitor.Monitor.go_on_quietly.Goals.{In-Some}
 use Rattle.monitor.proofs.monitor.Monitor.go_on_quietly.Goals as goal
@@ -41,3 +42,12 @@ pub step_quietly-requires-clause-fit : goal.step_quietly-requires-clause-fit
 step_quietly-requires-clause-fit g c = λ go.
     absurd (later_lets_none c.args.waiting c.args.woke (holds_of c.args.pass.now)
     (subst (λ (z : Step). LetsGo z (holds_of c.args.pass.now)) c.step-step.ensures go))
+
+pub returns-clause-waits : goal.returns-clause-waits
+returns-clause-waits g c =
+    left_gone c.args.pass.now c.step_quietly.new.pass c.args.waiting c.args.woke c.turn.result c.is_true.ensures
+    c.requires.waits c.step_quietly.ensures.called.same (
+      c.in-Some.answer,
+      made g (goal.at.returns-clause-waits g c).In-Some,
+      c.turn.ensures ∙ ap (λ (z : Step). later_turn c.args.waiting z c.in-Some.answer) c.step-step.ensures,
+    )

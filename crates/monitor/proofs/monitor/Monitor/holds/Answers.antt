@@ -1,7 +1,7 @@
 use Rattle.std.proofs.Common.{◌<◌, ap, subst, sym}
 use Rattle.monitor.specs.Below.{CoreView, Header, held_ticket, LockId}
 use Rattle.monitor.specs.Lawful.{point_of}
-use Rattle.monitor.proofs.Looking.{Looked, look, may_give_back}
+use Rattle.monitor.proofs.Looking.{Looked, look, look_woken, may_give_back}
 use Rattle.monitor.proofs.Sections.{seat_below}
 use Rattle.monitor.proofs.monitor.Monitor.holds.Goals as goal
 
@@ -26,4 +26,5 @@ pub invariant_of-pass : goal.invariant_of-pass
 invariant_of-pass g c = (looked g c).pass
 
 pub returns-clause-looked : goal.returns-clause-looked
-returns-clause-looked g c = rw (← c.pass.view_is) ((looked g c).is)
+returns-clause-looked g c =
+    rw (← c.pass.view_is) (look_woken _ _ (looked g c).is c.unlock.ensures.woken)

@@ -1,7 +1,7 @@
 use Rattle.std.proofs.Common.{◌≡◌, ◌<◌, ◌∙◌, true, Some, ap, subst, sym}
 use Rattle.monitor.specs.Below.{CoreView, marks_of, Header, Point, line, place_of, is_placed, ready, held_ticket, LockId}
 use Rattle.monitor.specs.Lawful.{point_of, start_at}
-use Rattle.monitor.proofs.Looking.{Looked, look, may_give_back}
+use Rattle.monitor.proofs.Looking.{Looked, look, look_woken, may_give_back}
 use Rattle.monitor.proofs.Sections.{seat_below}
 use Rattle.monitor.proofs.monitor.Monitor.is_told.Goals as goal
 
@@ -26,7 +26,8 @@ pub invariant_of-pass : goal.invariant_of-pass
 invariant_of-pass g c = (looked g c).pass
 
 pub returns-clause-looked : goal.returns-clause-looked
-returns-clause-looked g c = rw (← c.pass.view_is) ((looked g c).is)
+returns-clause-looked g c =
+    rw (← c.pass.view_is) (look_woken _ _ (looked g c).is c.unlock.ensures.woken)
 
 -- the mark that the core has
 mark_of : (g : _) (c : goal.After-unlock g) →

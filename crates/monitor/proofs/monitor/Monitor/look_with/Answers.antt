@@ -1,7 +1,7 @@
 use Rattle.std.proofs.Common.{sym, subst}
 use Rattle.monitor.specs.Below.{Point, counts, held_ticket}
 use Rattle.monitor.specs.Lawful.{point_of, start_at}
-use Rattle.monitor.proofs.Looking.{Looked, look, may_give_back}
+use Rattle.monitor.proofs.Looking.{Looked, look, look_woken, may_give_back}
 use Rattle.monitor.proofs.monitor.Monitor.look_with.Goals as goal
 
 pub unlock-requires-clause-follows : goal.unlock-requires-clause-follows
@@ -18,7 +18,8 @@ pub invariant_of-pass : goal.invariant_of-pass
 invariant_of-pass g c = (looked g c).pass
 
 pub returns-clause-looked : goal.returns-clause-looked
-returns-clause-looked g c = rw (← c.pass.view_is) ((looked g c).is)
+returns-clause-looked g c =
+    rw (← c.pass.view_is) (look_woken _ _ (looked g c).is c.unlock.ensures.woken)
 
 pub returns-clause-saw : goal.returns-clause-saw
 returns-clause-saw g c =

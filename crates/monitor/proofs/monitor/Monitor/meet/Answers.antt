@@ -1,5 +1,5 @@
 use Rattle.std.proofs.Common.{subst}
-use Rattle.monitor.specs.Prelude.{Called, Shown, IsPass, shown}
+use Rattle.monitor.specs.Prelude.{CalledQuietly, Shown, IsPass, shown}
 use Rattle.monitor.proofs.Sections.{met, met_called}
 use Rattle.monitor.proofs.monitor.Monitor.meet.Goals as goal
 
@@ -22,8 +22,8 @@ invariant_of-two g c = second g c
 pub returns-clause-called : goal.returns-clause-called
 returns-clause-called g c =
     let m = c.meet-a.ensures in (
-      subst (λ (s : Shown). Called s (shown c.meet-a.result.0 c.one.inside.seat c.one.inside.share)) c.one.view_is
+      subst (λ (s : Shown). CalledQuietly s (shown c.meet-a.result.0 c.one.inside.seat c.one.inside.share)) c.one.view_is
           (met_called c.one.inside.token c.meet-a.result.0 _ _ _ m.one (first g c) m.begins.0),
-      subst (λ (s : Shown). Called s (shown c.meet-a.result.1 c.two.inside.seat c.two.inside.share)) c.two.view_is
+      subst (λ (s : Shown). CalledQuietly s (shown c.meet-a.result.1 c.two.inside.seat c.two.inside.share)) c.two.view_is
           (met_called c.two.inside.token c.meet-a.result.1 _ _ _ m.two (second g c) m.begins.1),
     )

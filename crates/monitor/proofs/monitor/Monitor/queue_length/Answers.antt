@@ -1,6 +1,6 @@
 use Rattle.word_lock.specs.Held.{held_ticket}
 use Rattle.monitor.specs.Lawful.{point_of}
-use Rattle.monitor.proofs.Looking.{Looked, look, may_give_back}
+use Rattle.monitor.proofs.Looking.{Looked, look, look_woken, may_give_back}
 use Rattle.monitor.proofs.monitor.Monitor.queue_length.Goals as goal
 
 pub unlock-requires-clause-follows : goal.unlock-requires-clause-follows
@@ -17,4 +17,5 @@ pub invariant_of-pass : goal.invariant_of-pass
 invariant_of-pass g c = (looked g c).pass
 
 pub returns-clause-looked : goal.returns-clause-looked
-returns-clause-looked g c = rw (← c.pass.view_is) ((looked g c).is)
+returns-clause-looked g c =
+    rw (← c.pass.view_is) (look_woken _ _ (looked g c).is c.unlock.ensures.woken)

@@ -2,10 +2,9 @@ use Rattle.std.proofs.Common.{◌≡◌, ◌≤◌, ◌∙◌, ap, sym, subst, t
 use Rattle.monitor.specs.Below.{interrupted, LockId}
 use Rattle.monitor.specs.Prelude.{Turn, step_by}
 use Rattle.monitor.proofs.InLine.{woken_as}
-use Rattle.monitor.proofs.FirstTurns.{place_first}
 use Rattle.monitor.proofs.Loads.{refused_stays}
 use Rattle.monitor.proofs.Refusals.{turn_refused}
-use Rattle.monitor.proofs.TurnByTurn.{begun_refused, never_waits}
+use Rattle.monitor.proofs.TurnByTurn.{begun_refused, never_waits, place_first}
 use Rattle.monitor.proofs.monitor.Monitor.refuse.Goals as goal
 
 pub unpark-requires : goal.unpark-requires

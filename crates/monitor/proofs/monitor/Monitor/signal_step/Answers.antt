@@ -1,7 +1,8 @@
 use Rattle.std.proofs.Common.{subst}
 use Rattle.word_lock.specs.Held.{held_ticket}
-use Rattle.monitor.specs.Prelude.{Called, IsStep, Shown, shown}
+use Rattle.monitor.specs.Prelude.{CalledQuietly, IsStep, Shown, shown}
 use Rattle.monitor.specs.inner.Sections.{Taking}
+use Rattle.monitor.proofs.Sections.{call_woken}
 use Rattle.monitor.proofs.monitor.Monitor.signal_step.Goals.{After-lock-held}
 use Rattle.monitor.proofs.monitor.Monitor.signal_step.Goals as goal
 
@@ -22,10 +23,9 @@ invariant_of-pass g c =
 
 pub returns-clause-called : goal.returns-clause-called
 returns-clause-called g c =
-    subst (λ (s : Shown). Called s (shown c.signal_taken-answer.new.token c.pass.inside.seat
-    c.signal_taken-answer.new.share))
-    c.pass.view_is (c.signal_taken-answer.ensures.went c.pass.inside.token
-    (took g (goal.at.returns-clause-called g c).After-lock-held)).called
+    let new = shown c.signal_taken-answer.new.token c.pass.inside.seat c.signal_taken-answer.new.share in
+    call_woken _ new (subst (λ (s : Shown). CalledQuietly s new) c.pass.view_is (c.signal_taken-answer.ensures.went
+    c.pass.inside.token (took g (goal.at.returns-clause-called g c).After-lock-held)).called) c.wake.ensures
 
 pub returns-clause-stepped : goal.returns-clause-stepped
 returns-clause-stepped g c =

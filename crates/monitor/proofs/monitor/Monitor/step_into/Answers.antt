@@ -1,8 +1,9 @@
 use Rattle.std.proofs.Common.{rules, ◌≡◌, ◌∙◌, ap, subst, sym}
 use Rattle.monitor.specs.Below.{held_ticket, Ticket}
-use Rattle.monitor.specs.Prelude.{Called, LetsGo, Trades, holds_of, Shown, shown, IsStep}
+use Rattle.monitor.specs.Prelude.{CalledQuietly, LetsGo, Trades, holds_of, Shown, shown, IsStep}
 use Rattle.monitor.specs.inner.AtOnce.{reply_of}
 use Rattle.monitor.specs.inner.Sections.{Taking}
+use Rattle.monitor.proofs.Sections.{call_woken}
 use Rattle.monitor.proofs.Taking.{fit_taken}
 use Rattle.monitor.proofs.monitor.Monitor.step_into.Goals.{In-Some}
 use Rattle.monitor.proofs.monitor.Monitor.step_into.Goals as goal
@@ -34,9 +35,9 @@ invariant_of-pass-2 g c =
 
 pub returns-clause-called : goal.returns-clause-called
 returns-clause-called g c =
-    subst (λ (s : Shown). Called s (shown c.step_taken-named.new.token c.pass.inside.seat
-    c.step_taken-named.new.share)) c.pass.view_is (c.step_taken-named.ensures.went c.pass.inside.token
-    (took g (goal.at.returns-clause-called g c).In-Some)).called
+    let new = shown c.step_taken-named.new.token c.pass.inside.seat c.step_taken-named.new.share in
+    call_woken _ new (subst (λ (s : Shown). CalledQuietly s new) c.pass.view_is (c.step_taken-named.ensures.went
+    c.pass.inside.token (took g (goal.at.returns-clause-called g c).In-Some)).called) c.wake.ensures
 
 pub returns-clause-stepped : goal.returns-clause-stepped
 returns-clause-stepped g c =

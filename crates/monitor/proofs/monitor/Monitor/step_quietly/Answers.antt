@@ -1,6 +1,6 @@
 use Rattle.std.proofs.Common.{Result, rules, ◌≡◌, ◌∙◌, ap, subst, sym}
 use Rattle.monitor.specs.Below.{Answer, Fault, held_ticket, Ticket}
-use Rattle.monitor.specs.Prelude.{Called, LetsGo, Trades, holds_of, Shown, shown, IsStep}
+use Rattle.monitor.specs.Prelude.{CalledQuietly, LetsGo, Trades, holds_of, Shown, shown, IsStep}
 use Rattle.monitor.specs.inner.Sections.{Taking}
 use Rattle.monitor.proofs.Loads.{unmoved}
 use Rattle.monitor.proofs.Sections.{as_step_now, not_called}
@@ -35,7 +35,7 @@ invariant_of-pass-2 g c =
 
 pub returns-clause-called : goal.returns-clause-called
 returns-clause-called g c =
-    subst (λ (s : Shown). Called s (shown c.step_taken-named.new.token c.pass.inside.seat
+    subst (λ (s : Shown). CalledQuietly s (shown c.step_taken-named.new.token c.pass.inside.seat
     c.step_taken-named.new.share)) c.pass.view_is (c.step_taken-named.ensures.went c.pass.inside.token
     (took g (goal.at.returns-clause-called g c).In-Some)).called
 
@@ -66,6 +66,6 @@ returns-in_default-clause-trades g c =
 pub returns-in_default-clause-called : goal.returns-in_default-clause-called
 returns-in_default-clause-called g c =
     let same : c.lock_now.new.token ≡ c.pass.inside.token = search rules in
-    subst (λ (s : Shown). Called s (shown c.lock_now.new.token c.pass.inside.seat c.pass.inside.share)) c.pass.view_is
-    (subst (λ (t : Ticket). Called (shown c.pass.inside.token c.pass.inside.seat c.pass.inside.share)
+    subst (λ (s : Shown). CalledQuietly s (shown c.lock_now.new.token c.pass.inside.seat c.pass.inside.share)) c.pass.view_is
+    (subst (λ (t : Ticket). CalledQuietly (shown c.pass.inside.token c.pass.inside.seat c.pass.inside.share)
     (shown t c.pass.inside.seat c.pass.inside.share)) (sym same) (not_called _ c.pass.invariant.shows))

@@ -1,5 +1,6 @@
 use Rattle.word_lock.specs.Held.{held_ticket}
 use Rattle.monitor.specs.Lawful.{point_of}
+use Rattle.monitor.proofs.Sections.{call_woken}
 use Rattle.monitor.proofs.Trims.{Trim, follows_trimmed, trim_called, trim_is, trim_of, trim_pass}
 use Rattle.monitor.proofs.monitor.Monitor.trim.Goals as goal
 
@@ -25,4 +26,5 @@ pub returns-clause-trimmed : goal.returns-clause-trimmed
 returns-clause-trimmed g c = rw (← c.pass.view_is) (trim_is _ _ _ _ _ _ _ _ (trims g c))
 
 pub returns-clause-called : goal.returns-clause-called
-returns-clause-called g c = rw (← c.pass.view_is) (trim_called _ _ _ _ _ _ _ _ (trims g c))
+returns-clause-called g c =
+    rw (← c.pass.view_is) (call_woken _ _ (trim_called _ _ _ _ _ _ _ _ (trims g c)) c.unlock.ensures.woken)

@@ -3,6 +3,7 @@ use Rattle.word_lock.specs.Held.{held_ticket}
 use Rattle.monitor.specs.Below.{CoreView, Point}
 use Rattle.monitor.specs.Lawful.{point_of}
 use Rattle.monitor.specs.Stepping.{in_all}
+use Rattle.monitor.proofs.Sections.{call_woken}
 use Rattle.monitor.proofs.Trims.{Trim, follows_trimmed, trim_called, trim_is, trim_of, trim_pass, trim_seen}
 use Rattle.monitor.proofs.monitor.Monitor.trim_in_all.Goals as goal
 
@@ -37,4 +38,5 @@ returns-clause-trimmed g c =
     )
 
 pub returns-clause-called : goal.returns-clause-called
-returns-clause-called g c = rw (← c.pass.view_is) (trim_called _ _ _ _ _ _ _ _ (trims g c))
+returns-clause-called g c =
+    rw (← c.pass.view_is) (call_woken _ _ (trim_called _ _ _ _ _ _ _ _ (trims g c)) c.unlock.ensures.woken)

@@ -1,6 +1,6 @@
 use Rattle.std.proofs.Common.{rules, ◌≡◌, subst, sym}
 use Rattle.monitor.specs.Below.{held_ticket, Ticket}
-use Rattle.monitor.specs.Prelude.{Called, point_of, Shown, shown}
+use Rattle.monitor.specs.Prelude.{CalledQuietly, point_of, Shown, shown}
 use Rattle.monitor.proofs.Sections.{not_called}
 use Rattle.monitor.proofs.Trims.{Trim, follows_trimmed, trim_called, trim_is, trim_of, trim_pass}
 use Rattle.monitor.proofs.monitor.Monitor.trim_quietly.Goals as goal
@@ -32,6 +32,6 @@ returns-clause-called g c = rw (← c.pass.view_is) (trim_called _ _ _ _ _ _ _ _
 pub returns-in_default-clause-called : goal.returns-in_default-clause-called
 returns-in_default-clause-called g c =
     let same : c.lock_now.new.token ≡ c.pass.inside.token = search rules in
-    subst (λ (s : Shown). Called s (shown c.lock_now.new.token c.pass.inside.seat c.pass.inside.share)) c.pass.view_is
-    (subst (λ (t : Ticket). Called (shown c.pass.inside.token c.pass.inside.seat c.pass.inside.share)
+    subst (λ (s : Shown). CalledQuietly s (shown c.lock_now.new.token c.pass.inside.seat c.pass.inside.share)) c.pass.view_is
+    (subst (λ (t : Ticket). CalledQuietly (shown c.pass.inside.token c.pass.inside.seat c.pass.inside.share)
     (shown t c.pass.inside.seat c.pass.inside.share)) (sym same) (not_called _ c.pass.invariant.shows))

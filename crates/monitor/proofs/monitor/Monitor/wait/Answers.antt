@@ -3,7 +3,7 @@ use Rattle.monitor.specs.Below.{Interrupt, interrupted, LockId}
 use Rattle.monitor.specs.Prelude.{free_of, step_of_waiting, ComesOf}
 use Rattle.monitor.proofs.StillWaiting.{AllStillWait}
 use Rattle.monitor.proofs.Freeing.{brings_still, fit_still, moves_since, stays}
-use Rattle.monitor.proofs.Sections.{called_since, not_called}
+use Rattle.monitor.proofs.Sections.{called_since, not_called, quiet_since, quietly}
 use Rattle.monitor.proofs.TurnByTurn.{all_still_free, is_noted, place_later, replies, waits_on}
 use Rattle.monitor.proofs.Turns.{all_still_as, waits_first}
 use Rattle.monitor.proofs.monitor.Monitor.wait.Goals.{After-go_on-turn}
@@ -112,7 +112,8 @@ loop-preserved g c =
           stays g.L.Load.fit g.L.Load.is_counted g.L.Load.amount c.loop.load c.go_on-turn.new.load (free_of c.loop.pass)
           (free_of c.go_on-turn.new.pass) same c.go_on-turn.ensures.trades.0 counted
           ∙ c.loop.invariant.6 counted,
-      called_since c.args.pass.now c.loop.pass c.go_on-turn.new.pass c.loop.invariant.7 c.go_on-turn.ensures.called,
+      quiet_since c.args.pass.now c.loop.pass c.go_on-turn.new.pass c.loop.invariant.7
+          (quietly _ _ c.go_on-turn.ensures.called),
       λ k.
           fit_still g.L.Load.fit g.L.Load.is_counted g.L.Load.amount c.loop.load c.go_on-turn.new.load _ _
           c.go_on-turn.ensures.trades.0 (c.loop.invariant.8 k),

@@ -1,5 +1,5 @@
 use Rattle.std.proofs.Common.{◌≡◌, true}
-use Rattle.monitor.specs.Prelude.{Called, holds_of}
+use Rattle.monitor.specs.Prelude.{CalledQuietly, holds_of}
 use Rattle.monitor.proofs.StillWaiting.{AllStillWait}
 use Rattle.monitor.proofs.monitor.Monitor.wait.Given as goal
 
@@ -12,5 +12,5 @@ invariant-loop g l =
     × (l.interrupts.seat ≡ l.fn.pass.seat)
     × g.L.Load.carries l.load (holds_of l.pass)
     × (g.L.Load.is_counted ≡ true → l.load ≡ l.fn.load)
-    × Called l.fn.pass l.pass
+    × CalledQuietly l.fn.pass l.pass
     × (g.L.Load.fit l.fn.load → g.L.Load.fit l.load)
