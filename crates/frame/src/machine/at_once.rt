@@ -57,12 +57,12 @@ impl<H: Hooks + Drop> Core<H> {
         if !self.goes_past(seat, step) {
             return None;
         }
-        self.record_at_once(entry_at_once(seat, step))
+        self.record_at_once(seat, step, entry_at_once(seat, step))
     }
 
     /// Returns whether the step of an idle seat is done at once past those who wait.
     #[inline(always)]
-    pub(super) fn goes_past(&self, seat: u16, step: Step) -> bool
+    fn goes_past(&self, seat: u16, step: Step) -> bool
         requires { seat < self.now.header.seats }
         ensures { IsTrue result → MakesAtOnce self.now seat step }
     {

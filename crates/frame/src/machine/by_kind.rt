@@ -1,13 +1,13 @@
-//! The most frequent steps that are not done at once: an acquire, a release and a retry. In each of their
-//! arms the entry is known.
+//! The most frequent steps that are not done at once: an acquire, a release and a retry. In each of them the
+//! entry is known. A caller that knows its step calls its function, which is compiled into the caller.
 
 ghost use Rattle.std.specs.Prelude.{◌≡◌, ◌<◌, IfNone, IfSome, IsTrue, Ok, Some};
-ghost use Rattle.frame.specs.Below.{Look, could, held_back, is_seat, first_of, line};
+ghost use Rattle.frame.specs.Below.{Acquire, Give, Look, could, held_back, is_seat, first_of, line};
 ghost use Rattle.frame.specs.inner.AtOnce.{IsIdle, may_acquire, queues};
 ghost use Rattle.frame.specs.Core.{counts_of, start_of, IsStepped};
 ghost use Rattle.frame.specs.inner.Core.{first_mode_of, ready_of};
 
-use super::{Core, entry_at_once};
+use super::Core;
 use crate::hooks::Hooks;
 use deciding::entries::{ended, plain};
 use history::arrival::Arrival;
@@ -18,27 +18,63 @@ impl<H: Hooks + Drop> Core<H> {
     /// Performs an acquire, a release or a retry on a path of its own, on which the entry is known. `None`
     /// changes nothing: the step takes the general path, `step_in_full`.
     #[inline(always)]
-    pub fn step_of_kind(&mut self, seat: u16, step: Step) -> Option<Answer>
+    pub(super) fn step_of_kind(&mut self, seat: u16, step: Step) -> Option<Answer>
         requires { seat < self.old.header.seats }
         ensures done { IfSome result (λ answer. IsStepped self.old seat step (Ok answer) self.new) }
         ensures none { IfNone result (self.new ≡ self.old) }
     {
-        if self.goes_past(seat, step) {
-            return self.answer(entry_at_once(seat, step));
-        }
         match step {
             Step::Look => self.look(seat),
-            Step::Acquire(mode, n) if self.is_idle(seat) && self.queues(seat, step, mode, n) => {
-                self.answer(plain(seat, Word::Queued, mode, n))
-            }
+            Step::Acquire(mode, n) => self.acquire(seat, mode, n),
+            Step::Give(mode, n) => self.give(seat, mode, n),
             _ => None,
         }
     }
 
-    /// Performs a waiter's retry. It acquires if it is the head of the queue and could; otherwise it keeps
-    /// waiting. `None` changes nothing: nobody waits so, or it comes back from a condition.
+    /// Performs an acquire: it joins the queue, or succeeds past those who wait. `None` changes nothing, and the
+    /// caller goes on by [`step`](Core::step): the seat is not idle or at its limit, the object has no such
+    /// step, or the history has no room or no memory.
     #[inline(always)]
-    fn look(&mut self, seat: u16) -> Option<Answer>
+    pub fn acquire(&mut self, seat: u16, mode: Mode, n: u32) -> Option<Answer>
+        requires { seat < self.old.header.seats }
+        ensures done { IfSome result (λ answer.
+            IsStepped self.old seat (Acquire mode n) (Ok answer) self.new) }
+        ensures none { IfNone result (self.new ≡ self.old) }
+    {
+        let step = Step::Acquire(mode, n);
+        if !self.is_idle(seat) {
+            None
+        } else if self.queues(seat, step, mode, n) {
+            self.answer(seat, step, plain(seat, Word::Queued, mode, n))
+        } else if self.takes(seat, step, mode, n) {
+            self.answer(seat, step, plain(seat, Word::Got, mode, n))
+        } else {
+            None
+        }
+    }
+
+    /// Performs a release, which names the head of the queue if that could go now. `None` changes nothing, and
+    /// the caller goes on by [`step`](Core::step): the seat is not idle or has nothing to release, the object
+    /// has no such step, or the history has no room or no memory.
+    #[inline(always)]
+    pub fn give(&mut self, seat: u16, mode: Mode, n: u32) -> Option<Answer>
+        requires { seat < self.old.header.seats }
+        ensures done { IfSome result (λ answer. IsStepped self.old seat (Give mode n) (Ok answer) self.new) }
+        ensures none { IfNone result (self.new ≡ self.old) }
+    {
+        let step = Step::Give(mode, n);
+        if self.is_idle(seat) && self.gives(seat, step, mode, n) {
+            self.answer(seat, step, plain(seat, Word::Gave, mode, n))
+        } else {
+            None
+        }
+    }
+
+    /// Performs a waiter's retry: it acquires if it is the head of the queue and could, and otherwise keeps
+    /// waiting. `None` changes nothing, and the caller goes on by [`step`](Core::step): the seat is not in the
+    /// queue, or it comes back from a condition.
+    #[inline(always)]
+    pub fn look(&mut self, seat: u16) -> Option<Answer>
         requires { seat < self.old.header.seats }
         ensures done { IfSome result (λ answer. IsStepped self.old seat Look (Ok answer) self.new) }
         ensures none { IfNone result (self.new ≡ self.old) }
@@ -55,7 +91,7 @@ impl<H: Hooks + Drop> Core<H> {
         } else if first.back {
             None
         } else {
-            self.answer(ended(seat, Word::Granted, first, End::None))
+            self.answer(seat, Step::Look, ended(seat, Word::Granted, first, End::None))
         }
     }
 

@@ -1,9 +1,10 @@
 //! Recording the entry of a step.
 
-ghost use Rattle.std.specs.Prelude.{◌≡◌, ◌++◌, ◌<◌, true, if◌then◌else◌, None, Ok, IsOk, IfOk, IfSome, IfNone, OnErr};
-ghost use Rattle.frame.specs.Core.{made_by, places_behind};
+ghost use Rattle.std.specs.Prelude.{◌≡◌, ◌++◌, ◌<◌, true, if◌then◌else◌, None, Some, Ok, IsOk, IfOk, IfSome, IfNone, OnErr};
+ghost use Rattle.frame.specs.Below.{Recorded, entry_for};
+ghost use Rattle.frame.specs.Core.{made_by, places_behind, start_of};
 ghost use Rattle.frame.specs.inner.Core.{IsEntered, ready_of};
-ghost use Rattle.frame.specs.Core.{IsAdded, IsNext, IsOf, IsRecorded, IsTold, KeepsHolds, NamesBelow};
+ghost use Rattle.frame.specs.Core.{IsAdded, IsNext, IsOf, IsRecorded, IsStepped, IsTold, KeepsHolds, NamesBelow};
 ghost use Rattle.frame.specs.inner.Effects.{asks_before};
 ghost use Rattle.frame.specs.Tidied.{HasTidied};
 ghost use Rattle.history.specs.Room.{was_owed};
@@ -16,7 +17,7 @@ use condition_queue::following::move_waiters;
 use deciding::room::owed_behind;
 use history::entry::{Entry, Word};
 use history::fault::Fault;
-use history::step::Answer;
+use history::step::{Answer, Step};
 
 impl<H: Hooks + Drop> Core<H> {
     /// Adds an entry if it has room, updates the rest of the core, and marks the waiter that it names.
@@ -65,26 +66,29 @@ impl<H: Hooks + Drop> Core<H> {
         Ok(Answer::Recorded(entry, name))
     }
 
-    /// As `record`. `None` changes nothing: the history had no room or no memory for the entry.
+    /// Answers a step by the entry that it makes. `None` changes nothing: the history had no room or no memory
+    /// for it.
     #[inline(always)]
-    pub(super) fn answer(&mut self, entry: Entry) -> Option<Answer>
-        requires { IsNext self.old entry }
-        ensures entered { IfSome result (λ answer. IsEntered self.old entry (Ok answer) self.new) }
+    pub(super) fn answer(&mut self, seat: u16, step: Step, entry: Entry) -> Option<Answer>
+        requires seat { seat < self.old.header.seats }
+        requires made { entry_for (start_of self.old) self.old.entries seat step ≡ Ok (Some entry) }
+        ensures done { IfSome result (λ answer. IsStepped self.old seat step (Ok answer) self.new) }
         ensures none { IfNone result (self.new ≡ self.old) }
     {
-        match self.record_at_once(entry) {
+        match self.record_at_once(seat, step, entry) {
             Some(name) => Some(Answer::Recorded(entry, name)),
             None => None,
         }
     }
 
-    /// Records the entry of a step, and returns the waiter that it names. `None` changes nothing: the history
-    /// had no room or no memory for it.
+    /// Records the entry that a step makes, and returns the waiter that it names. `None` changes nothing: the
+    /// history had no room or no memory for it.
     #[inline(always)]
-    pub(super) fn record_at_once(&mut self, entry: Entry) -> Option<Option<u16>>
-        requires { IsNext self.old entry }
-        ensures added { IfSome result (λ name. IsAdded self.old entry (Ok name) self.new) }
-        ensures names { IfSome result (λ name. IfSome name (λ seat. seat < self.old.header.seats)) }
+    pub(super) fn record_at_once(&mut self, _seat: u16, _step: Step, entry: Entry) -> Option<Option<u16>>
+        requires seat { _seat < self.old.header.seats }
+        requires made { entry_for (start_of self.old) self.old.entries _seat _step ≡ Ok (Some entry) }
+        ensures done { IfSome result (λ name.
+            IsStepped self.old _seat _step (Ok (Recorded entry name)) self.new) }
         ensures none { IfNone result (self.new ≡ self.old) }
     {
         let before = self.ready_before(entry.word);
