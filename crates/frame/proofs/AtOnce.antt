@@ -1,14 +1,15 @@
 -- An entry that moves nobody, while nobody stands in line.
 use Rattle.std.proofs.Common.{◌≡◌, ◌⊎◌, inl, inr, ℕ, ◌+◌, Bool, true, false, cond, eqb, not, ◌&&◌, List, [], ◌∷◌, length, Option, Some, None, Result, Ok, refl, ap, ◌∙◌, sym, subst, arith, is_none, is_some, IfSome, int_lt, ℤ, pos, ◌+ℤ◌, eqb-true}
 use Rattle.std.proofs.Math.Bool.{and-false}
-use Rattle.frame.specs.Below.{Line, JoinedBy, Keeps, line_behind, Sleepers, asleep_on, available, refused_as, Arrival, Entry, Mode, Word, Fault, Header, Object, Semaphore, Policy, Step, Acquire, Try, TryFair, Give, held_back, is_reentrant, Counts, counts, HistoryView, start_on, max_amount, first_mode, first_of, line, mode_of, place_of, named_by, ready, ready_by, is_semaphore, is_strict, Idle, phase_by, waits, sleepers, sleepers_after, sleeps_below, Start, acquired, entry_for, gave, idle_entry, plain, tried, tried_fairly}
+use Rattle.frame.specs.Below.{Line, JoinedBy, Keeps, line_behind, Sleepers, asleep_on, available, refused_as, Arrival, Entry, Mode, Word, Fault, Header, Object, Recorded, Semaphore, Policy, Step, Acquire, Try, TryFair, Give, held_back, is_reentrant, Counts, counts, HistoryView, start_on, max_amount, first_mode, first_of, line, mode_of, place_of, named_by, ready, ready_by, is_semaphore, is_strict, Idle, phase_by, waits, sleepers, sleepers_after, sleeps_below, Start, acquired, entry_for, gave, idle_entry, plain, tried, tried_fairly}
 use Rattle.condition_queue.specs.declared.sleeper.Sleeper.{Sleeper}
 use Rattle.condition_queue.proofs.Movable.{keeps_next, line_next}
 use Rattle.deciding.proofs.InPhase.{entry_admitted, in_phase_made}
 use Rattle.history.specs.declared.entry.Word.TheVariants as word
 use Rattle.history.specs.declared.fault.Fault.TheVariants as fault
-use Rattle.frame.specs.Prelude.{Gives, IsAtOnce, entry_at_once, CoreView, counts_of, start_of, IsAdded}
+use Rattle.frame.specs.Prelude.{Gives, IsAtOnce, entry_at_once, CoreView, counts_of, start_of, IsAdded, IsStepped}
 use Rattle.frame.specs.inner.AtOnce.{IsAlone, IsIdle, Takes, moves_nobody}
+use Rattle.frame.proofs.Recording.{entered, stepped}
 use Rattle.frame.proofs.Stepping.{Names}
 
 -- who waits, behind such an entry
@@ -219,6 +220,12 @@ pub at_once : (v new : CoreView) (i : ℕ) (step : Step) (e : Entry) (r : Option
 at_once v new i step e None made is = tt
 at_once v new i step e (Some it) made is =
     subst (λ x. IsAtOnce v i step x new) (sym is.0) (record { is = made.entry; made = made.is; added = is.1 })
+
+-- so its step was answered
+pub stepped_alone : (v new : CoreView) (i : ℕ) (step : Step) (e : Entry) → IsAtOnce v i step e new →
+    IsStepped v i step (Ok (Recorded e None)) new
+stepped_alone v new i step e is =
+    stepped v new i step e (Ok (Recorded e None)) is.made (entered v new e None is.added tt)
 
 -- permits that may be given back
 pub gives_permits : (v : CoreView) (i : ℕ) (m : Mode) (n : ℕ) (p : Policy) (permits free : ℤ) (few : Bool) →

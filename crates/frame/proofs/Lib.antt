@@ -17,4 +17,3 @@ pub mod Trimming
 pub mod Runs
 pub mod Acting
 pub mod Tidying
-pub mod Past

@@ -103,12 +103,6 @@ stepped v new i step e r made is =
       tidied = subst (λ j. IfOk r (λ answer. HasTidied j answer)) own is.tidied;
     }
 
-pub stepped_some : (v new : CoreView) (i : ℕ) (step : Step) (e : Entry) (r : Option Answer) →
-    entry_for (start_of v) v.entries i step ≡ Ok (Some e) → IfSome r (λ a. IsEntered v e (Ok a) new) →
-    IfSome r (λ a. IsStepped v i step (Ok a) new)
-stepped_some v new i step e None made is = tt
-stepped_some v new i step e (Some a) made is = stepped v new i step e (Ok a) made is
-
 -- one who waits on is told no more
 pub waited : (v new : CoreView) (i : ℕ) (step : Step) →
     entry_for (start_of v) v.entries i step ≡ Ok None → new ≡ unmarked_at i v → WasTidied i →

@@ -1,3 +1,4 @@
+use Rattle.std.proofs.Common.{sym}
 use Rattle.frame.proofs.Recording.{made_plain}
 use Rattle.frame.proofs.machine.Core.step_past.Goals as goal
 
