@@ -31,9 +31,9 @@ impl<H: Hooks + Drop> Core<H> {
         }
     }
 
-    /// Performs an acquire: it joins the queue, or succeeds past those who wait. `None` changes nothing, and the
-    /// caller goes on by [`step`](Core::step): the seat is not idle or at its limit, the object has no such
-    /// step, or the history has no room or no memory.
+    /// Performs an acquire: it joins the queue, or succeeds past those who wait. `None` changes nothing, and
+    /// the caller goes on by [`step`](Core::step): the seat is not idle or at its limit, the object has no
+    /// such step, or the history has no room or no memory.
     #[inline(always)]
     pub fn acquire(&mut self, seat: u16, mode: Mode, n: u32) -> Option<Answer>
         requires { seat < self.old.header.seats }
@@ -53,9 +53,9 @@ impl<H: Hooks + Drop> Core<H> {
         }
     }
 
-    /// Performs a release, which names the head of the queue if that could go now. `None` changes nothing, and
-    /// the caller goes on by [`step`](Core::step): the seat is not idle or has nothing to release, the object
-    /// has no such step, or the history has no room or no memory.
+    /// Performs a release, which names the head of the queue if that could go now. `None` changes nothing,
+    /// and the caller goes on by [`step`](Core::step): the seat is not idle or has nothing to release, the
+    /// object has no such step, or the history has no room or no memory.
     #[inline(always)]
     pub fn give(&mut self, seat: u16, mode: Mode, n: u32) -> Option<Answer>
         requires { seat < self.old.header.seats }
@@ -71,8 +71,8 @@ impl<H: Hooks + Drop> Core<H> {
     }
 
     /// Performs a waiter's retry: it acquires if it is the head of the queue and could, and otherwise keeps
-    /// waiting. `None` changes nothing, and the caller goes on by [`step`](Core::step): the seat is not in the
-    /// queue, or it comes back from a condition.
+    /// waiting. `None` changes nothing, and the caller goes on by [`step`](Core::step): the seat is not in
+    /// the queue, or comes back from a condition now.
     #[inline(always)]
     pub fn look(&mut self, seat: u16) -> Option<Answer>
         requires { seat < self.old.header.seats }
@@ -91,7 +91,11 @@ impl<H: Hooks + Drop> Core<H> {
         } else if first.back {
             None
         } else {
-            self.answer(seat, Step::Look, ended(seat, Word::Granted, first, End::None))
+            self.answer(
+                seat,
+                Step::Look,
+                ended(seat, Word::Granted, first, End::None),
+            )
         }
     }
 

@@ -66,8 +66,8 @@ impl<H: Hooks + Drop> Core<H> {
         Ok(Answer::Recorded(entry, name))
     }
 
-    /// Answers a step by the entry that it makes. `None` changes nothing: the history had no room or no memory
-    /// for it.
+    /// Answers a step by the entry that it makes. `None` changes nothing: the history had no room or no
+    /// memory for it.
     #[inline(always)]
     pub(super) fn answer(&mut self, seat: u16, step: Step, entry: Entry) -> Option<Answer>
         requires seat { seat < self.old.header.seats }
@@ -84,7 +84,12 @@ impl<H: Hooks + Drop> Core<H> {
     /// Records the entry that a step makes, and returns the waiter that it names. `None` changes nothing: the
     /// history had no room or no memory for it.
     #[inline(always)]
-    pub(super) fn record_at_once(&mut self, _seat: u16, _step: Step, entry: Entry) -> Option<Option<u16>>
+    pub(super) fn record_at_once(
+        &mut self,
+        _seat: u16,
+        _step: Step,
+        entry: Entry,
+    ) -> Option<Option<u16>>
         requires seat { _seat < self.old.header.seats }
         requires made { entry_for (start_of self.old) self.old.entries _seat _step ≡ Ok (Some entry) }
         ensures done { IfSome result (λ name.

@@ -10,6 +10,7 @@ write-requires-clause-next g c =
 
 pub returns-in-Ok-clause-done : goal.returns-in-Ok-clause-done
 returns-in-Ok-clause-done g c =
-    stepped c.args.self.now c.write.new.self c.args._seat c.args._step c.args.entry
-    (Ok (Recorded c.args.entry c.in-Ok.name)) c.requires.made
-    (entered c.args.self.now c.write.new.self c.args.entry c.in-Ok.name c.in-Ok.ensures.added c.in-Ok.ensures.names)
+    let e = c.args.entry in
+    let is = c.in-Ok.ensures in
+    stepped c.args.self.now c.write.new.self c.args._seat c.args._step e (Ok (Recorded e c.in-Ok.name))
+    c.requires.made (entered c.args.self.now c.write.new.self e c.in-Ok.name is.added is.names)

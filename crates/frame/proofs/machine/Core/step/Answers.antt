@@ -5,7 +5,8 @@ use Rattle.frame.proofs.machine.Core.step.Goals as goal
 
 pub returns-in-Some : goal.returns-in-Some
 returns-in-Some g c =
-    stepped_alone c.args.self.now c.step_alone.new.self c.args.seat c.args.step c.in-Some.entry c.in-Some.ensures.done
+    stepped_alone c.args.self.now c.step_alone.new.self c.args.seat c.args.step c.in-Some.entry
+    c.in-Some.ensures.done
 
 pub returns-in-None : goal.returns-in-None
 returns-in-None g c =
