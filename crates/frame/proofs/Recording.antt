@@ -26,15 +26,6 @@ recorded_now v new e name is =
       places = ap (λ (w : CoreView). w.places) is.2;
     })
 
-pub own_entry : (v : CoreView) (i : ℕ) (step : Step) (made : Option Entry) (e : Entry)
-    (r : Result Answer Fault) →
-    Ok made ≡ entry_for (start_of v) v.entries i step → made ≡ Some e → IfOk r (λ a. IsOf e.seat a) →
-    IfOk r (λ a. IsOf i a)
-own_entry v i step made e r q some is =
-    subst (λ j. IfOk r (λ a. IsOf j a))
-    (entry_seat (start_of v) v.entries i step e
-    (sym q ∙ ap (λ x. (let y : Result (Option Entry) Fault = Ok x in y)) some)) is
-
 pub names_below : (seats : ℕ) (e : Entry) (before after name : Option ℕ) → IfSome after (λ j. j < seats) →
     name ≡ named_by before after e.seat → NamesBelow seats (Recorded e name)
 names_below seats e before after name below is =

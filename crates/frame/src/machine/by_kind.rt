@@ -91,11 +91,8 @@ impl<H: Hooks + Drop> Core<H> {
         } else if first.back {
             None
         } else {
-            self.answer(
-                seat,
-                Step::Look,
-                ended(seat, Word::Granted, first, End::None),
-            )
+            let granted = ended(seat, Word::Granted, first, End::None);
+            self.answer(seat, Step::Look, granted)
         }
     }
 

@@ -1,13 +1,10 @@
 //! Recording the entry of a step.
 
-ghost use Rattle.std.specs.Prelude.{◌≡◌, ◌++◌, ◌<◌, true, if◌then◌else◌, None, Some, Ok, IsOk, IfOk, IfSome, IfNone, OnErr};
+ghost use Rattle.std.specs.Prelude.{◌≡◌, ◌<◌, if◌then◌else◌, None, Some, Ok, IfOk, IfSome, IfNone};
 ghost use Rattle.frame.specs.Below.{Recorded, entry_for};
-ghost use Rattle.frame.specs.Core.{made_by, places_behind, start_of};
+ghost use Rattle.frame.specs.Core.{start_of, IsAdded, IsNext, IsStepped};
 ghost use Rattle.frame.specs.inner.Core.{IsEntered, ready_of};
-ghost use Rattle.frame.specs.Core.{IsAdded, IsNext, IsOf, IsRecorded, IsStepped, IsTold, KeepsHolds, NamesBelow};
 ghost use Rattle.frame.specs.inner.Effects.{asks_before};
-ghost use Rattle.frame.specs.Tidied.{HasTidied};
-ghost use Rattle.history.specs.Room.{was_owed};
 
 use super::Core;
 use crate::effects::{change, whom_named};

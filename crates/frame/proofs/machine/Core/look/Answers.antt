@@ -10,8 +10,8 @@ answer-requires-clause-made g c =
     let header = subst (λ (v : CoreView). (start_of v).header ≡ v.header) c.self.view_is c.self.invariant.based in
     let first = subst (λ (v : CoreView). first_of (line (start_of v) v.entries) ≡ Some c.in-Some.first)
     c.self.view_is (ap first_of (sym c.self.invariant.waiting.line) ∙ sym c.first.ensures ∙ c.in-Some.is) in
-    made_plain _ c.ended.result _ (takes_turn c.args.self.now c.args.seat c.in-Some.first header first
-    (sym c.is_ready.ensures ∙ c.if-not-is_ready.false) c.if-first.false) c.ended.ensures
+    made_plain _ c.ended-granted.result _ (takes_turn c.args.self.now c.args.seat c.in-Some.first header first
+    (sym c.is_ready.ensures ∙ c.if-not-is_ready.false) c.if-first.false) c.ended-granted.ensures
 
 pub returns-then-not-is_ready-clause-done : goal.returns-then-not-is_ready-clause-done
 returns-then-not-is_ready-clause-done g c =
