@@ -1,5 +1,5 @@
 -- The fields of a core, written as a base, are the fold of its entries.
-use Rattle.std.proofs.Common.{◌≡◌, ⊎_elim, ℕ, ◌+◌, ◌<◌, ◌≤◌, Bool, true, false, ◌||◌, cond, eqb, List, [], ◌∷◌, ◌++◌, length, map, take, get_or, set, Some, None, refl, ap, ◌∙◌, sym, subst, arith, ℤ, pos, ◌+ℤ◌, slice_get, eq-eqb, ne_eqb, ext_get_or, get_or-set_other, get_or-set_same}
+use Rattle.std.proofs.Common.{◌≡◌, ⊎_elim, ℕ, ◌+◌, ◌<◌, ◌≤◌, Bool, true, false, ◌||◌, cond, eqb, List, [], ◌∷◌, ◌++◌, length, map, take, get_or, set, Some, None, refl, ap, ◌∙◌, sym, subst, arith, pos, ◌+ℤ◌, slice_get, eq-eqb, ne_eqb, ext_get_or, get_or-set_other, get_or-set_same}
 use Rattle.std.specs.List.{AllByRecursion}
 use Rattle.std.proofs.lemmas.Bool.{cases_eq, or_right}
 use Rattle.std.proofs.lemmas.List.{get_or-map, length-map, map-append, map-set, take_more}
