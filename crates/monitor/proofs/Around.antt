@@ -1,57 +1,36 @@
 -- The section of the lock around a step of the core.
 use Rattle.std.proofs.Common.{◌≡◌, ℕ, ◌+◌, Bool, Result, ap, sym, ◌∙◌}
-use Rattle.monitor.specs.Below.{Fault, Answer, Step, ended_calls, opening, CoreView, free, counts_of, made_by, Before, AllAgree, Ticket, first_entries, after_lock, after_unlock}
-use Rattle.monitor.specs.Prelude.{point_of, IsLawfulCore, Moves, Trades, holds_in, IsPass, shown}
-use Rattle.monitor.specs.inner.CoreSteps.{IsCoreStep}
+use Rattle.monitor.specs.Below.{Fault, Answer, Step, ended_calls, opening, CoreView, free, counts_of, made_by, Ticket, first_entries, after_unlock}
+use Rattle.monitor.specs.Prelude.{point_of, IsLawfulCore, Moves, Trades, holds_in, shown}
+use Rattle.frame.specs.Core.{IsStepped}
 use Rattle.monitor.specs.inner.Sections.{Taking, Went}
 use Rattle.monitor.proofs.Freeing.{free_kept, moves_own, section_frees}
 use Rattle.monitor.proofs.Sections.{Section, answered_shown, called_by, owed_shown, section_pass, section_step, sectioned}
-use Rattle.monitor.proofs.Taking.{holds_left, holds_taken}
+use Rattle.monitor.proofs.Taking.{holds_left, holds_taken, names_taken}
 use Rattle.monitor.proofs.Beside.{beside_of}
 
 -- what was taken, and what is put back
 pub record Around (t o n : Ticket) (v w : CoreView) (seat share : ℕ) : Type 0 where
-  pub taken : o ≡ after_lock t (point_of v)
+  pub took : Taking t o v seat share
   pub given : n ≡ after_unlock o (point_of w)
-  pub was : IsPass t seat share
-  pub begins : Before t.seen (point_of v)
-  pub entries : AllAgree (point_of v) t.logs
-  pub kept : IsLawfulCore v
-  pub left_kept : IsLawfulCore w
-
-pub around : (t o n : Ticket) (v w : CoreView) (seat share : ℕ) → Taking t o v seat share →
-    n ≡ after_unlock o (point_of w) → IsLawfulCore w → Around t o n v w seat share
-around t o n v w seat share k given left_kept = record {
-  taken = k.taken;
-  given = given;
-  was = k.was;
-  begins = k.begins;
-  entries = k.entries;
-  kept = k.kept;
-  left_kept = left_kept;
-}
-
-pub around_step : (t o n : Ticket) (v w : CoreView) (seat share : ℕ) (step : Step) (r : Result Answer Fault) →
-    Around t o n v w seat share → IsCoreStep v seat step r w →
-    Section t o n (point_of v) (point_of w) seat share step r
-around_step t o n v w seat share step r a s = record {
-  taken = a.taken;
-  given = a.given;
-  was = a.was;
-  begins = a.begins;
-  entries = a.entries;
-  beside = beside_of v;
-  beside_left = beside_of w;
-  answered = answered_shown v w seat step r a.kept a.left_kept s.answered;
-  told = s.told;
-  found = a.kept.lawful;
-  lawful = a.left_kept.lawful;
-}
+  pub kept : IsLawfulCore w
 
 module _ (t o n : Ticket) (v w : CoreView) (seat share : ℕ) (a : Around t o n v w seat share) (step : Step)
-    (r : Result Answer Fault) (s : IsCoreStep v seat step r w) where
+    (r : Result Answer Fault) (s : IsStepped v seat step r w) where
   section_of : Section t o n (point_of v) (point_of w) seat share step r
-  section_of = around_step t o n v w seat share step r a s
+  section_of = let k = a.took in record {
+    taken = k.taken;
+    given = a.given;
+    was = k.was;
+    begins = k.begins;
+    entries = k.entries;
+    beside = beside_of v;
+    beside_left = beside_of w;
+    answered = answered_shown v w seat step r k.kept a.kept s.answered;
+    told = s.told;
+    found = k.kept.lawful;
+    lawful = a.kept.lawful;
+  }
 
   -- the pass afterwards
   pub went : (next : ℕ) → next ≡ ended_calls (made_by r) + share → Went t n seat share next step r
@@ -62,7 +41,7 @@ module _ (t o n : Ticket) (v w : CoreView) (seat share : ℕ) (a : Around t o n 
         called = called_by t n (point_of v) (point_of w) seat share next
             (sectioned t o n (point_of v) (point_of w) seat share step r section_of) pass;
         stepped = section_step t o n (point_of v) (point_of w) seat share step r section_of next
-            (owed_shown v seat step r a.kept s.owed);
+            (owed_shown v seat step r a.took.kept s.owed) (names_taken t o v seat share a.took r s.names);
       }
 
   -- and what changed hands
@@ -73,17 +52,10 @@ module _ (t o n : Ticket) (v w : CoreView) (seat share : ℕ) (a : Around t o n 
   trades_by next is fit counted amount x y m stays =
       let f = free (opening t.lock.header) (first_entries t.logs) in
       let g = free (opening n.lock.header) (first_entries n.logs) in
-      let frees = section_frees t o n (point_of v) (point_of w) seat share step r section_of in
-      let k : Taking t o v seat share = record {
-        taken = a.taken;
-        was = a.was;
-        begins = a.begins;
-        entries = a.entries;
-        kept = a.kept;
-      } in (
+      let frees = section_frees t o n (point_of v) (point_of w) seat share step r section_of in (
         moves_own fit counted amount x y f g (counts_of v).free (counts_of w).free frees m,
         λ same free_same. stays
             (sym (holds_left n (point_of w) seat next (went next is).called.shows
-            (ap (λ (z : Ticket). z.seen) a.given)) ∙ (same ∙ holds_taken t o v seat share k))
+            (ap (λ (z : Ticket). z.seen) a.given)) ∙ (same ∙ holds_taken t o v seat share a.took))
             (free_kept f g (counts_of v).free (counts_of w).free frees free_same),
       )

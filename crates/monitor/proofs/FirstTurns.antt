@@ -1,5 +1,5 @@
 -- The first turn of a call: whom it names, and how the call ends by it or after it.
-use Rattle.std.proofs.Common.{◌≡◌, ◌≢◌, ℕ, ◌<◌, ◌≤◌, Bool, false, Option, IfSome, Result, Ok, Err, refl, sym, ap, ◌∙◌, subst}
+use Rattle.std.proofs.Common.{◌≡◌, ◌≢◌, ℕ, Bool, false, Option, Result, Ok, Err, refl, ap, subst}
 use Rattle.monitor.specs.Below.{Entry, Fault, Answer, Recorded, Sleep, Step, Acquire, Try, TryFair, Give, waits, entry_at_once, Deed, Before}
 use Rattle.monitor.specs.Prelude.{WasNotInterrupted, IsBegun, IsCall, begins_wait, begun, first_turn, next_by, step_by, Shown, IsSound, IsEntered, IsSame, IsStep, IsUnparked, How, Waits, Request, Turn, Waiting}
 use Rattle.monitor.specs.declared.machine.Request.TheVariants as request

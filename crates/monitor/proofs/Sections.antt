@@ -1,8 +1,8 @@
 -- What a section of the lock with one step of the core leaves.
-use Rattle.std.proofs.Common.{◌≡◌, ◌==◌, ◌⊎◌, inl, inr, ℕ, ◌+◌, ◌<◌, ◌≤◌, ◌^◌, Bool, cond, List, [], ◌∷◌, ◌++◌, length, Result, Ok, Err, Option, Some, None, IsOk, refl, sym, ap, ◌∙◌, subst, arith}
+use Rattle.std.proofs.Common.{◌≡◌, ◌==◌, ◌⊎◌, inl, inr, ℕ, ◌+◌, ◌<◌, ◌≤◌, ◌^◌, Bool, cond, List, [], ◌∷◌, ◌++◌, length, Result, Ok, Err, Option, Some, None, IsOk, IfOk, refl, sym, ap, ◌∙◌, subst, arith}
 use Rattle.std.specs.List.{AllByRecursion, filter}
 use Rattle.std.proofs.lemmas.Bool.{cond_both}
-use Rattle.monitor.specs.Below.{answer, answer_by, ended_calls, ends_call, seat_of, calls, entries_of, named, has_room, Start, entry_for, Entry, Fault, Answer, Recorded, Step, Header, CoreView, start_of, IsAnswered, IsTold, MakesOwed, made_by, Point, SeatLog, header_of, Before, Follows, added, Agrees, AllAgree, LockId, Ticket, first_seat, first_entries, after_lock, after_unlock, after_meet}
+use Rattle.monitor.specs.Below.{answer, answer_by, ended_calls, ends_call, seat_of, calls, entries_of, named, has_room, Start, entry_for, Entry, Fault, Answer, Recorded, Step, Header, CoreView, start_of, IsAnswered, IsTold, MakesOwed, NamesBelow, made_by, Point, SeatLog, header_of, Before, Follows, added, Agrees, AllAgree, LockId, Ticket, first_seat, first_entries, after_lock, after_unlock, after_meet}
 use Rattle.history.proofs.Times.{total_part}
 use Rattle.history.specs.declared.fault.Fault.TheVariants as fault
 use Rattle.history.proofs.Answering.{entry_seat}
@@ -217,8 +217,8 @@ module _ (t o n : Ticket) (p q : Point) (seat share : ℕ) (step : Step) (r : Re
       ∙ (sym (calls_more (made_by r) (first_entries t.logs)) ∙ ap ended_calls (sym (mine_grown s)))))
 
   pub section_step : (s : Section) → (next : ℕ) → (MakesOwed (view_of p s.beside) seat step → IsOk r) →
-      IsStep (shown t seat share) step r (shown n seat next)
-  section_step s next owed = let x = sectioned s in record {
+      IfOk r (λ a. NamesBelow t.lock.header.seats a) → IsStep (shown t seat share) step r (shown n seat next)
+  section_step s next owed names = let x = sectioned s in record {
     found = p;
     begins = s.begins;
     lawful = s.found;
@@ -231,6 +231,7 @@ module _ (t o n : Ticket) (p q : Point) (seat share : ℕ) (step : Step) (r : Re
     told = subst (λ (z : Point). IsTold (view_of p s.beside) seat r (view_of z s.beside_left)) (sym x.seen)
         s.told;
     owed = owed;
+    names = names;
     after = x.begins;
     mine = mine_grown s;
   }

@@ -1,6 +1,6 @@
 -- What a call knows once it has taken the object for its pass, and after it gave it back.
-use Rattle.std.proofs.Common.{◌≡◌, ℕ, ◌<◌, ◌^◌, Result, refl, sym, ap, ◌∙◌, subst}
-use Rattle.monitor.specs.Below.{Mode, Fault, Header, Point, Answer, Step, CoreView, IsAnswered, header_of, Follows, Ticket, after_lock, first_entries, first_seat}
+use Rattle.std.proofs.Common.{◌≡◌, ℕ, ◌<◌, ◌^◌, Result, IfOk, refl, sym, ap, ◌∙◌, subst}
+use Rattle.monitor.specs.Below.{Mode, Fault, Header, Point, Answer, Step, CoreView, IsAnswered, NamesBelow, header_of, Follows, Ticket, after_lock, first_entries, first_seat}
 use Rattle.word_lock.proofs.PointLaws.{before_header}
 use Rattle.word_lock.proofs.Sections.{follows_taken}
 use Rattle.monitor.specs.Prelude.{point_of, IsLawfulCore, LetsGo, holds_in, holds_of, shown, IsPass, IsSound}
@@ -24,6 +24,12 @@ module _ (t o : Ticket) (v : CoreView) (seat share : ℕ) (k : Taking t o v seat
   seat_taken =
       subst (λ (h : Header). seat < h.seats) k.kept.header
       (seat_below (point_of v) t.lock.header t.lock.header seat header_taken refl k.was.shows.below)
+
+  -- whom an answer names has a seat of the pass's object
+  pub names_taken : (r : Result Answer Fault) → IfOk r (λ a. NamesBelow v.header.seats a) →
+      IfOk r (λ a. NamesBelow t.lock.header.seats a)
+  unfolding header_of
+  names_taken r = subst (λ (h : Header). IfOk r (λ a. NamesBelow h.seats a)) (sym k.kept.header ∙ header_taken)
 
   -- the holds of the pass are those of its seat there
   pub holds_taken : holds_of (shown t seat share) ≡ holds_at (point_of v) seat

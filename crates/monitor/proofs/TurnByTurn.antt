@@ -1,10 +1,10 @@
 -- The turns of a call that may wait, as the call that they make.
-use Rattle.std.proofs.Common.{◌≡◌, ◌≢◌, inl, inr, ℕ, ◌<◌, ◌≤◌, Bool, true, false, cond, eqb, List, Option, Some, None, is_some, IsSome, IfSome, IsOk, Result, Ok, Err, refl, sym, ap, ◌∙◌, subst, ℤ}
+use Rattle.std.proofs.Common.{◌≡◌, ◌≢◌, inl, inr, ℕ, ◌<◌, Bool, true, false, cond, eqb, List, Option, Some, None, is_some, IsSome, IfSome, IsOk, Result, Ok, Err, refl, sym, ap, ◌∙◌, subst, ℤ}
 use Rattle.monitor.specs.Below.{Point, Entry, Mode, X, Word, Fault, Answer, Recorded, Sleep, Step, signalled, free, free_after, waits, opening, Deed, interrupted, parked, Woke, Permit, Deadline, Interrupted, Before, LockId}
 use Rattle.history.specs.declared.entry.Word.TheVariants as word
 use Rattle.history.specs.declared.fault.Fault.TheVariants as fault
 use Rattle.history.specs.declared.step.Step.TheVariants as step
-use Rattle.monitor.specs.Prelude.{LimitsFor, WasInterrupted, WasNotInterrupted, first_step, tells_interrupt, LetsGo, free_of, given_by, AsksAwait, IsBegun, IsCall, IsGoneOn, at_stage, begins_wait, begun, first_turn, later_turn, limits_at, limits_from, next_behind, next_by, stage_for, step_at, step_by, step_of_waiting, step_within, Shown, IsSound, IsSame, IsStep, IsStepNow, IsUnparked, answer_of, Now, Done, Busy, AfterPark, Cause, ComesOf, IsNotLost, in_line, is_lapse, no_limits, on_condition, stage_asleep, asking, How, Plain, Interruptible, Timed, Ends, Waits, Request, Acquire, AwaitOn, Turn, Waiting, Limits}
+use Rattle.monitor.specs.Prelude.{CanCall, LimitsFor, WasInterrupted, WasNotInterrupted, first_step, tells_interrupt, LetsGo, free_of, given_by, AsksAwait, IsBegun, IsCall, IsGoneOn, at_stage, begins_wait, begun, first_turn, later_turn, limits_at, limits_from, next_behind, next_by, stage_for, step_at, step_by, step_of_waiting, step_within, Shown, IsSound, IsSame, IsStep, IsStepNow, IsUnparked, answer_of, Now, Done, Busy, AfterPark, Cause, ComesOf, IsNotLost, in_line, is_lapse, no_limits, on_condition, stage_asleep, asking, How, Plain, Interruptible, Timed, Ends, Waits, Request, Acquire, AwaitOn, Turn, Waiting, Limits}
 use Rattle.monitor.specs.inner.Machine.{WasShown}
 use Rattle.monitor.specs.inner.Stepping.{named_in}
 use Rattle.monitor.specs.inner.Waits.{IsReply, MayBegin}
@@ -117,20 +117,19 @@ named_later w s (Ok (Recorded e name)) = refl
 named_later w s (Ok Sleep) = refl
 named_later w s (Err f) = refl
 
-pub place_first : (old new : Shown) (q : Request) (how : How) (moment : ℕ) (was : Bool) (t : Turn) (seats : ℕ) →
-    IsBegun old q how moment was t new → IsSound new → new.lock.header.seats ≤ seats →
-    IfSome t.named (λ j. j < seats)
-place_first old new q how moment was t seats (r, s, is) shows all =
+pub place_first : (lock : LockId) (old new : Shown) (q : Request) (how : How) (moment : ℕ) (was : Bool) (t : Turn)
+    (seats : ℕ) → CanCall lock seats old → IsBegun old q how moment was t new → IfSome t.named (λ j. j < seats)
+place_first lock old new q how moment was t seats can (r, s, is) =
     subst (λ z. IfSome z (λ j. j < seats))
     (sym (ap (λ (z : Turn). z.named) is ∙ named_first q how moment was r))
-    (named_place old new (step_by q how was) r seats s shows all)
+    (named_place lock old new (step_by q how was) r seats can s)
 
-pub place_later : (old new : Shown) (w : Waiting) (woke : Woke) (t : Turn) (seats : ℕ) →
-    IsGoneOn old w woke t new → IsSound new → new.lock.header.seats ≤ seats → IfSome t.named (λ j. j < seats)
-place_later old new w woke t seats (r, s, is) shows all =
+pub place_later : (lock : LockId) (old new : Shown) (w : Waiting) (woke : Woke) (t : Turn) (seats : ℕ) →
+    CanCall lock seats old → IsGoneOn old w woke t new → IfSome t.named (λ j. j < seats)
+place_later lock old new w woke t seats can (r, s, is) =
     subst (λ z. IfSome z (λ j. j < seats))
     (sym (ap (λ (z : Turn). z.named) is ∙ named_later w (step_of_waiting w woke) r))
-    (named_place old new (step_of_waiting w woke) r seats s shows all)
+    (named_place lock old new (step_of_waiting w woke) r seats can s)
 
 -- what a wait begins with
 pub limits_for : (did : Deed → Type 0) (seen : Point) (how : How) (moment : ℕ) → WasShown did seen how moment →

@@ -2,7 +2,7 @@
 -- and word_lock. Declares nothing.
 pub use Rattle.deciding.specs.Balance.{available, balance}
 pub use Rattle.frame.specs.AtOnce.{entry_at_once}
-pub use Rattle.frame.specs.Core.{CoreView, start_of, counts_of, marks_of, IsTold, made_by, MakesOwed, IsAnswered, IsTrimmed}
+pub use Rattle.frame.specs.Core.{CoreView, start_of, counts_of, marks_of, IsTold, made_by, MakesOwed, NamesBelow, IsAnswered, IsTrimmed}
 pub use Rattle.frame.specs.Effects.{IsAllowed}
 pub use Rattle.frame.specs.Hooks.{AreAlike, drain_answer_of}
 pub use Rattle.history.specs.declared.arrival.Arrival.{Arrival}

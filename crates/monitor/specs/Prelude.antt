@@ -12,7 +12,7 @@ pub use Rattle.monitor.specs.declared.step.Now.TheVariants.{Done, Busy}
 pub use Rattle.monitor.specs.declared.waiting.Limits.{Limits}
 pub use Rattle.monitor.specs.Acquire.{is_interruptible, has_time, is_timed, ShowedTo, IsUntil, LimitsFor, first_step, WasInterrupted, WasNotInterrupted, EndsAtOnce, EndsUnrecorded, AtOnce, IsEndFor, IsAcquire}
 pub use Rattle.monitor.specs.AwaitOn.{stage_by, first_stage, MayLapseFor, LapsesAndReturns, ReturnsSignalled, IsAwait}
-pub use Rattle.monitor.specs.Calling.{Called, CalledQuietly}
+pub use Rattle.monitor.specs.Calling.{CanCall, Called, CalledQuietly}
 pub use Rattle.monitor.specs.Closing.{left_by, IsWithin, shares, passes_of, IsMissing, IsBased}
 pub use Rattle.monitor.specs.Interrupts.{tells_interrupt}
 pub use Rattle.monitor.specs.Lawful.{point_of, Beside, view_of, start_at, blank, IsLawful, IsLawfulCore}

@@ -1,6 +1,6 @@
 -- What a step of a pass leaves.
-use Rattle.std.specs.Prelude.{false, ◌≡◌, ◌⊎◌, if◌then◌else◌, ℕ, ◌++◌, Option, Some, None, Result, Ok, Err, IsOk}
-use Rattle.monitor.specs.Below.{HistoryFull, OutOfMemory, entry_for, was_owed, has_room, Entry, Fault, Answer, Recorded, Step, IsAnswered, IsTold, IsTrimmed, MakesOwed, made_by, Point, LockId, Deed, unparked, Before, Agrees}
+use Rattle.std.specs.Prelude.{false, ◌≡◌, ◌⊎◌, if◌then◌else◌, ℕ, ◌++◌, Option, Some, None, Result, Ok, Err, IsOk, IfOk}
+use Rattle.monitor.specs.Below.{HistoryFull, OutOfMemory, entry_for, was_owed, has_room, Entry, Fault, Answer, Recorded, Step, IsAnswered, IsTold, IsTrimmed, MakesOwed, NamesBelow, made_by, Point, LockId, Deed, unparked, Before, Agrees}
 use Rattle.monitor.specs.Lawful.{view_of, Beside, IsLawful, start_at}
 use Rattle.monitor.specs.Shown.{Shown}
 use Rattle.monitor.specs.declared.step.Now.{Now}
@@ -23,6 +23,8 @@ pub record IsStep (old : Shown) (step : Step) (r : Result Answer Fault) (new : S
   pub answered : IsAnswered (view_of found beside) old.seat step r (view_of new.seen beside_left)
   pub told : IsTold (view_of found beside) old.seat r (view_of new.seen beside_left)
   pub owed : MakesOwed (view_of found beside) old.seat step → IsOk r
+  -- whom the answer names is a seat of the object
+  pub names : IfOk r (λ answer. NamesBelow old.lock.header.seats answer)
   pub after : Before old.seen new.seen
   pub mine : new.mine ≡ made_by r ++ old.mine
 

@@ -1,5 +1,4 @@
 -- What only contracts of private functions cite: no promise of the crate rests on it.
-pub mod CoreSteps
 pub mod Waits
 pub mod Load
 pub mod Machine

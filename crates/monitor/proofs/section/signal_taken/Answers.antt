@@ -1,5 +1,5 @@
 use Rattle.word_lock.specs.Held.{held_ticket}
-use Rattle.monitor.proofs.Around.{around, went}
+use Rattle.monitor.proofs.Around.{went}
 use Rattle.monitor.proofs.Taking.{follows_made, seat_taken, share_fits}
 use Rattle.monitor.proofs.section.signal_taken.Goals as goal
 
@@ -21,6 +21,6 @@ returns g c = record {
   went = λ t k.
       went t (held_ticket c.args.held) c.unlock_quietly.new.token c.args.held.value.laden.value.core
       c.signal-told.new.self.laden.value.core c.args.seat c.args.share.now
-      (around t _ _ _ _ _ _ k c.unlock_quietly.ensures c.signal-told.ensures.kept) c.args.step c.signal-told.result
+      record { took = k; given = c.unlock_quietly.ensures; kept = c.signal-told.ensures.kept } c.args.step c.signal-told.result
       c.signal-told.ensures.stepped c.share_behind.result c.share_behind.ensures;
 }

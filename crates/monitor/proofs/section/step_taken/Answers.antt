@@ -2,7 +2,7 @@ use Rattle.std.proofs.Common.{ap}
 use Rattle.monitor.specs.Below.{held_ticket, Ticket}
 use Rattle.monitor.specs.inner.AtOnce.{reply_of}
 use Rattle.monitor.specs.inner.Sections.{Taking, Went}
-use Rattle.monitor.proofs.Around.{around, trades_by, went}
+use Rattle.monitor.proofs.Around.{trades_by, went}
 use Rattle.monitor.proofs.Taking.{carries_left, carries_taken, follows_made, seat_taken, share_fits}
 use Rattle.monitor.proofs.section.step_taken.Goals as goal
 
@@ -29,7 +29,7 @@ gone : (g : _) (c : goal.After-share_after g) (t : Ticket) → Taking t (held_ti
 gone g c t k =
     went t (held_ticket c.args.held) c.unlock_quietly.new.token c.args.held.value.laden.value.core
     c.step-named.new.self.laden.value.core c.args.seat c.args.share.now
-    (around t _ _ _ _ _ _ k c.unlock_quietly.ensures c.step-named.ensures.kept) c.args.step (reply_of c.args.seat c.args.step c.step-named.result c.step-named.new.answer)
+    record { took = k; given = c.unlock_quietly.ensures; kept = c.step-named.ensures.kept } c.args.step (reply_of c.args.seat c.args.step c.step-named.result c.step-named.new.answer)
     c.step-named.ensures.stepped c.share_after.result (c.share_after.ensures c.args.seat c.args.step)
 
 pub returns-clause-went : goal.returns-clause-went
@@ -45,7 +45,7 @@ pub returns-clause-trades : goal.returns-clause-trades
 returns-clause-trades g c = λ t k.
     trades_by t (held_ticket c.args.held) c.unlock_quietly.new.token c.args.held.value.laden.value.core
     c.step-named.new.self.laden.value.core c.args.seat c.args.share.now
-    (around t _ _ _ _ _ _ k c.unlock_quietly.ensures c.step-named.ensures.kept) c.args.step
+    record { took = k; given = c.unlock_quietly.ensures; kept = c.step-named.ensures.kept } c.args.step
     (reply_of c.args.seat c.args.step c.step-named.result c.step-named.new.answer)
     c.step-named.ensures.stepped c.share_after.result (c.share_after.ensures c.args.seat c.args.step) g.L.Load.fit
     g.L.Load.is_counted g.L.Load.amount c.args.load.now c.step-named.new.there c.step-named.ensures.moves

@@ -54,7 +54,3 @@ returns-clause-stays g c = λ same free_same.
     (told_free c.step_into-named.new.core _
     (to_z-of_z w64 c.available-free.result fits ∙ c.available-free.ensures.permits)) free_same)
     (holds_stay _ _ _ _ c.holds_of-before.ensures c.holds_of-after.ensures same)).1
-
-pub returns-clause-stepped : goal.returns-clause-stepped
-returns-clause-stepped g c =
-    let s = c.step_into-named.ensures in record { answered = s.answered; told = s.told; owed = s.owed }

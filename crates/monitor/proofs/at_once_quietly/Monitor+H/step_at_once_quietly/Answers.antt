@@ -2,7 +2,7 @@ use Rattle.std.proofs.Common.{rules, ◌≡◌, ◌∙◌, Ok, ap, sym, subst}
 use Rattle.monitor.specs.Below.{Recorded, entry_at_once, CoreView, Follows, after_unlock, first_seat, held_ticket, Ticket}
 use Rattle.monitor.specs.Prelude.{point_of, CalledQuietly, IsQuietLook, IsStep, Shown, shown}
 use Rattle.monitor.specs.inner.Sections.{Taking, Went}
-use Rattle.monitor.proofs.Around.{Around, went}
+use Rattle.monitor.proofs.Around.{went}
 use Rattle.monitor.proofs.FastWay.{one_more}
 use Rattle.monitor.proofs.Looking.{Looked, look, looked_quietly, may_give_back, not_looked}
 use Rattle.monitor.proofs.Taking.{follows_made, seat_taken, share_fits}
@@ -34,20 +34,13 @@ done : (g : _) (c : After-one_call_more-pass-inside g) → Went c.pass.inside.to
     (Ok (Recorded (entry_at_once c.pass.inside.seat c.args.step) c.in-Some-step_at_once.named))
 done g c =
     let e = c.in-Some.ensures in
-    let around : Around c.pass.inside.token (held_ticket c.in-Some.held) c.unlock_quietly.new.token
-    c.in-Some.held.value.laden.value.core c.step_at_once.new.self.laden.value.core c.pass.inside.seat
-    c.pass.inside.share = record {
-      taken = e.taken.1;
-      given = c.unlock_quietly.ensures;
-      was = c.pass.invariant;
-      begins = e.begins;
-      entries = e.entries;
-      kept = e.fact.0;
-      left_kept = c.in-Some-step_at_once.ensures.kept;
-    } in
     went c.pass.inside.token (held_ticket c.in-Some.held) c.unlock_quietly.new.token
     c.in-Some.held.value.laden.value.core c.step_at_once.new.self.laden.value.core c.pass.inside.seat
-    c.pass.inside.share around c.args.step _ c.in-Some-step_at_once.ensures.done
+    c.pass.inside.share record {
+      took = record { taken = e.taken.1; was = c.pass.invariant; begins = e.begins; entries = e.entries; kept = e.fact.0 };
+      given = c.unlock_quietly.ensures;
+      kept = c.in-Some-step_at_once.ensures.kept;
+    } c.args.step _ c.in-Some-step_at_once.ensures.done
     c.one_call_more-pass-inside.result
     (one_more c.pass.inside.seat c.args.step c.in-Some-step_at_once.named c.one_call_more-pass-inside.result
     c.pass.inside.share c.one_call_more-pass-inside.ensures)

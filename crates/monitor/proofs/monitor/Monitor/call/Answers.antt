@@ -1,5 +1,5 @@
-use Rattle.std.proofs.Common.{rules, ◌≡◌, ◌≤◌, ◌∙◌, false, None, Ok, ℕ, ap, sym, subst}
-use Rattle.monitor.specs.Below.{LockId, Entry, Recorded, Step, entry_at_once}
+use Rattle.std.proofs.Common.{rules, ◌≡◌, ◌∙◌, false, None, Ok, ℕ, ap, sym, subst}
+use Rattle.monitor.specs.Below.{Entry, Recorded, Step, entry_at_once}
 use Rattle.monitor.specs.Prelude.{IsUnparked, WasNotInterrupted, Brings, LetsGo, free_of, given_by, holds_of, begun, step_by, IsBegun, IsCall, IsStep, is_refused, Turn, Waiting}
 use Rattle.monitor.specs.inner.Waits.{MayBegin}
 use Rattle.monitor.specs.declared.machine.Next.TheVariants as next
@@ -40,14 +40,8 @@ begun_so g c = (
 
 pub unpark-requires-in-None : goal.unpark-requires-in-None
 unpark-requires-in-None g c =
-    let seats = g.P.Parking.seats c.args.parking.now in
-    let lock : c.step_into.new.pass.lock ≡ c.args.self.now =
-    c.step_into.ensures.called.same.lock ∙ c.requires.can.is_of in
-    place_first c.args.pass.now c.step_into.new.pass c.args.request c.args.how
-    c.moment-moment.result _ c.first_turn-turn.result seats
+    place_first _ _ _ _ _ _ _ _ _ c.requires.can
     (begun_so g (goal.at.unpark-requires-in-None g c).After-first_turn-turn)
-    c.step_into.ensures.called.shows
-    (subst (λ (l : LockId). l.header.seats ≤ seats) (sym lock) c.requires.can.places)
 
 -- whom that step named was unparked
 woken : (g : _) (c : After-unpark-in-None g) → IsUnparked (g.P.Parking.did c.args.parking.now)
@@ -163,13 +157,7 @@ done_so g c =
 
 pub unpark-requires : goal.unpark-requires
 unpark-requires g c =
-    let seats = g.P.Parking.seats c.args.parking.now in
-    let lock : c.step_into.new.pass.lock ≡ c.args.self.now =
-    c.step_into.ensures.called.same.lock ∙ c.requires.can.is_of in
-    named_place c.args.pass.now c.step_into.new.pass (step_by c.args.request c.args.how false)
-    (Ok (Recorded (entry_at_once c.args.pass.now.seat (step_by c.args.request c.args.how false)) c.in-Some-step_into.named))
-    seats (done_so g (goal.at.unpark-requires g c).In-Some-step_into) c.step_into.ensures.called.shows
-    (subst (λ (l : LockId). l.header.seats ≤ seats) (sym lock) c.requires.can.places)
+    named_place _ _ _ _ _ _ c.requires.can (done_so g (goal.at.unpark-requires g c).In-Some-step_into)
 
 pub returns-in-Some-step_into-clause-made : goal.returns-in-Some-step_into-clause-made
 returns-in-Some-step_into-clause-made g c =

@@ -1,5 +1,5 @@
-use Rattle.std.proofs.Common.{◌≡◌, ◌<◌, ◌≤◌, ◌∙◌, true, ap, sym, subst, Ok, Result, IfSome}
-use Rattle.monitor.specs.Below.{Entry, Fault, Answer, Recorded, entry_at_once, LockId}
+use Rattle.std.proofs.Common.{◌≡◌, ◌<◌, ◌∙◌, true, ap, sym, subst, Ok, Result, IfSome}
+use Rattle.monitor.specs.Below.{Entry, Fault, Answer, Recorded, entry_at_once}
 use Rattle.monitor.specs.Load.{is_refused, was_refused}
 use Rattle.monitor.specs.Stepping.{IsEntered, IsStep}
 use Rattle.monitor.specs.inner.Stepping.{named_in}
@@ -14,12 +14,7 @@ use Rattle.monitor.proofs.monitor.Monitor.enter.Goals as goal
 placed : (g : _) (c : After-step_into g) (r : Result Answer Fault) →
     IsStep c.args.pass.now c.args.step r c.step_into.new.pass →
     IfSome (named_in r) (λ j. j < g.P.Parking.seats c.args.parking.now)
-placed g c r stepped =
-    let seats = g.P.Parking.seats c.args.parking.now in
-    let lock : c.step_into.new.pass.lock ≡ c.args.self.now =
-    c.step_into.ensures.called.same.lock ∙ c.requires.can.is_of in
-    named_place c.args.pass.now c.step_into.new.pass c.args.step r seats stepped
-    c.step_into.ensures.called.shows (subst (λ (l : LockId). l.header.seats ≤ seats) (sym lock) c.requires.can.places)
+placed g c r stepped = named_place _ _ _ _ r _ c.requires.can stepped
 
 pub unpark-requires : goal.unpark-requires
 unpark-requires g c =

@@ -1,5 +1,5 @@
-use Rattle.std.proofs.Common.{◌≡◌, ◌≤◌, ◌∙◌, ap, sym, subst, true}
-use Rattle.monitor.specs.Below.{interrupted, LockId}
+use Rattle.std.proofs.Common.{◌∙◌, ap, sym, subst, true}
+use Rattle.monitor.specs.Below.{interrupted}
 use Rattle.monitor.specs.Prelude.{Turn, step_by}
 use Rattle.monitor.proofs.InLine.{woken_as}
 use Rattle.monitor.proofs.Loads.{refused_stays}
@@ -9,13 +9,7 @@ use Rattle.monitor.proofs.monitor.Monitor.refuse.Goals as goal
 
 pub unpark-requires : goal.unpark-requires
 unpark-requires g c =
-    let seats = g.P.Parking.seats c.args.parking.now in
-    let lock : c.begin-refusal.new.pass.lock ≡ c.args.self.now =
-    c.begin-refusal.ensures.called.same.lock ∙ c.requires.can.is_of in
-    place_first c.args.pass.now c.begin-refusal.new.pass c.args.request
-    c.args.how 0 true c.begin-refusal.result seats c.begin-refusal.ensures.begun
-    c.begin-refusal.ensures.called.shows
-    (subst (λ (l : LockId). l.header.seats ≤ seats) (sym lock) c.requires.can.places)
+    place_first _ _ _ c.args.request c.args.how 0 true _ _ c.requires.can c.begin-refusal.ensures.begun
 
 pub unreachable-requires : goal.unreachable-requires
 unreachable-requires g c =

@@ -1,4 +1,4 @@
-use Rattle.std.proofs.Common.{ℕ, Result, ◌∙◌, sym, ap}
+use Rattle.std.proofs.Common.{ℕ, ◌∙◌, sym, ap}
 use Rattle.word_lock.specs.Held.{held_ticket}
 use Rattle.monitor.specs.Below.{CoreView, Point}
 use Rattle.monitor.specs.Lawful.{point_of}

@@ -1,5 +1,5 @@
-use Rattle.std.proofs.Common.{rules, ◌≡◌, ◌≤◌, ◌∙◌, true, sym, subst, refl}
-use Rattle.monitor.specs.Below.{Interrupt, interrupted, LockId}
+use Rattle.std.proofs.Common.{rules, ◌≡◌, ◌∙◌, true, sym, subst, refl}
+use Rattle.monitor.specs.Below.{Interrupt, interrupted}
 use Rattle.monitor.specs.Prelude.{free_of, step_of_waiting, ComesOf}
 use Rattle.monitor.proofs.StillWaiting.{AllStillWait}
 use Rattle.monitor.proofs.Freeing.{brings_still, fit_still, moves_since, stays}
@@ -34,11 +34,9 @@ go_on-turn-requires-clause-waits g c =
 
 pub unpark-requires : goal.unpark-requires
 unpark-requires g c =
-    let seats = g.P.Parking.seats c.args.parking.now in
-    let lock : c.go_on-turn.new.pass.lock ≡ c.args.self.now = search rules in
-    place_later c.loop.pass c.go_on-turn.new.pass c.loop.waiting c.next_woke-woke.result c.go_on-turn.result seats
-    c.go_on-turn.ensures.gone_on c.go_on-turn.ensures.called.shows
-    (subst (λ (l : LockId). l.header.seats ≤ seats) (sym lock) c.requires.can.places)
+    let lock : c.loop.pass.lock ≡ c.args.self.now = search rules in
+    place_later _ _ _ c.loop.waiting c.next_woke-woke.result _ _
+    record { is_of = lock; places = c.requires.can.places } c.go_on-turn.ensures.gone_on
 
 -- what the step comes of
 comes : (g : _) (c : After-go_on-turn g) →

@@ -1,12 +1,10 @@
 use Rattle.std.proofs.Common.{Ok, subst}
 use Rattle.monitor.specs.Below.{CoreView, Recorded, entry_at_once}
-use Rattle.monitor.specs.inner.CoreSteps.{IsCoreStep}
+use Rattle.frame.specs.Core.{IsStepped}
 use Rattle.monitor.proofs.under_lock.UnderLock+H+Empty.step_at_once.Goals as goal
 
 pub returns-clause-done : goal.returns-clause-done
 returns-clause-done g c =
-    let s = c.in-Some.ensures.done in
-    subst (λ (v : CoreView). IsCoreStep v c.args.seat c.args.step
+    subst (λ (v : CoreView). IsStepped v c.args.seat c.args.step
     (Ok (Recorded (entry_at_once c.args.seat c.args.step) c.in-Some.named)) c.step_at_once.new.self)
-    (λ d. (c.deref_mut-laden.ensures.value d).core)
-    record { answered = s.answered; told = s.told; owed = s.owed }
+    (λ d. (c.deref_mut-laden.ensures.value d).core) c.in-Some.ensures.done
