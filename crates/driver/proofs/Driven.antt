@@ -1,7 +1,7 @@
 -- The acts of a text are done as their lines are read.
 use Rattle.std.proofs.Common.{◌≡◌, ℕ, ◌+◌, false, ltb, List, [], ◌∷◌, ◌++◌, length, Option, None, Some, Result, Ok, Err, IfSome, inl, inr, refl, ap, sym, ◌∙◌, subst, arith, append_assoc, append-nil, lt-ltb}
 use Rattle.std.proofs.lemmas.Bool.Decides.{nat_tests}
-use Rattle.driver.specs.Below.{Act, Do, Trim, as_answered, CoreView, IsAnswered, IsTrimmed, start_of, Entry, Fault, OutOfMemory, Answer, Step, answer, MOST_FOLDED, opening_base, outcome, ended, IsText, StepsHeader, steps_form}
+use Rattle.driver.specs.Below.{Act, Do, Trim, as_answered, CoreView, IsAnswered, IsTrimmed, start_of, Fault, OutOfMemory, Answer, Step, answer, MOST_FOLDED, opening_base, ended, IsText, StepsHeader, steps_form}
 use Rattle.driver.specs.Prelude.{Form, Replay, History, AllAnswers, answers_text, AreAnswersBehind, IsLawful, answer_text, answer_line, behind_acts, entries_of, Told, told_more, trim_line, Progress, IsNext, WereRead}
 use Rattle.driver.specs.ReplayText.{done_line, done_lines, entries_done}
 use Rattle.driver.specs.inner.Answering.{Answered, answers_with}

@@ -1,8 +1,8 @@
 -- What is written for a steps text.
 use Rattle.std.proofs.Common.{◌≡◌, ℕ, List, Option, None, Some, Result, Ok, Err, subst}
 use Rattle.std.specs.Io.KnownBytes.{Appends}
-use Rattle.driver.specs.Below.{Act, IsText, StepsHeader, steps_form, StreamFault, Text, ReadFailed, WriteFailed, Memory, AppendsFront}
-use Rattle.driver.specs.Prelude.{Form, AllAnswers, Writes, answers_text, IsLawful, Replayed, WritesReplay, answer_text, behind_acts}
+use Rattle.driver.specs.Below.{StreamFault, Text, ReadFailed, WriteFailed, Memory, AppendsFront}
+use Rattle.driver.specs.Prelude.{Form, AllAnswers, Writes, answers_text, Replayed, WritesReplay}
 use Rattle.driver.specs.inner.ReplayStream.{AreAnswersTo}
 
 -- what is written, said in another way

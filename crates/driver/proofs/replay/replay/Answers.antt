@@ -1,7 +1,7 @@
-use Rattle.std.proofs.Common.{◌≡◌, ◌++◌, [], ap, sym, ◌∙◌, subst, arith}
+use Rattle.std.proofs.Common.{◌++◌, [], ap, sym, ◌∙◌, subst, arith}
 use Rattle.driver.specs.Below.{IsOfSeats, Header, Memory, StepsHeader, steps_form, steps_so_far}
 use Rattle.streams.proofs.Faults.{err_is}
-use Rattle.driver.specs.StepReader.{Held, progress}
+use Rattle.driver.specs.StepReader.{progress}
 use Rattle.driver.specs.inner.Answering.{Answered}
 use Rattle.driver.proofs.Doing.{of_seats, spelt_on}
 use Rattle.driver.proofs.Driven.{answered_none, answered_act, answered_all, answered_more}
