@@ -1,6 +1,5 @@
 -- The line of an answer is made of pieces.
-use Rattle.std.proofs.Common.{arith, ◌≡◌, ◌⊎◌, inl, inr, ℕ, ◌+◌, ◌-◌, ◌<◌, ◌≤◌, List, [], ◌∷◌, ◌++◌, length, take, drop, get_or, Some, None, Result, Ok, Err, refl, ap, sym, ◌∙◌, append_assoc, codes, decimal, take-append-drop, append-nil, length-append, length-take-le}
-use Rattle.std.proofs.lemmas.List.{take_more}
+use Rattle.std.proofs.Common.{arith, ◌≡◌, ◌⊎◌, inl, inr, ℕ, ◌+◌, ◌-◌, ◌<◌, ◌≤◌, List, [], ◌∷◌, ◌++◌, length, take, get_or, Some, None, Result, Ok, Err, refl, ap, sym, ◌∙◌, append_assoc, codes, decimal, append-nil, length-append, length-take-le}
 use Rattle.history.proofs.PieceFronts.{front_of_piece}
 use Rattle.std.proofs.lemmas.Bool.{cases_lt}
 use Rattle.std.proofs.lemmas.Bool.Decides.{nat_tests}
@@ -9,7 +8,7 @@ use Rattle.std.proofs.lemmas.Grind.{common_steps}
 use Rattle.driver.specs.Below.{Fault, Answer, Recorded, Sleep, fault_name, ended, entry_words, line_of}
 use Rattle.driver.specs.declared.code.Code.{Code}
 use Rattle.driver.specs.Prelude.{answer_line, entries_of}
-use Rattle.driver.specs.inner.Codes.{AreParts, IsCodeOf, IsKindOf, IsOf, answer_words, code_line, end_part, ending, entries_in, is_entry, number_part, part, rows, seat_part, written}
+use Rattle.driver.specs.inner.Codes.{AreParts, IsCodeOf, IsKindOf, IsOf, answer_words, end_part, ending, entries_in, is_entry, number_part, part, rows, seat_part, written}
 
 -- ---- the pieces of a number
 

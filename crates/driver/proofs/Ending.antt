@@ -5,7 +5,7 @@ use Rattle.std.specs.Result.{IfErr}
 use Rattle.std.specs.Io.KnownBytes.{IsAtEnd}
 use Rattle.driver.specs.Below.{Form, StreamFault, Memory, ReadFailed, WriteFailed, IsReadNoFurther, IsReadOut, IsReadTo, Streams, IsOfReading, IsToldFor, IsTooLong}
 use Rattle.driver.specs.Prelude.{Writes, IsFaultOf, IsPartLeft, Progress, WereRead}
-use Rattle.driver.specs.inner.TextReader.{IsFaultBehind}
+use Rattle.driver.specs.TextReader.{IsFaultOn}
 use Rattle.driver.proofs.ReadingAhead.{too_long}
 
 -- ---- after a header
@@ -13,12 +13,12 @@ use Rattle.driver.proofs.ReadingAhead.{too_long}
 -- of the text of which the header was read
 pub fault_of : {H I T : Type 0} (form : Form H I) (text : Option (List ℕ)) (first : Progress H I)
     (left : Option (List ℕ)) (r : Result T StreamFault) → WereRead form text first [] →
-    IfErr r (IsFaultBehind form first left) → IfErr r (IsFaultOf form text left)
+    IfErr r (IsFaultOn form first left) → IfErr r (IsFaultOf form text left)
 fault_of form text first left r were err = grind (arith, were)
 
 pub memory_left : {H I T : Type 0} (form : Form H I) (text : Option (List ℕ)) (first : Progress H I)
     (left : Option (List ℕ)) (r : Result T StreamFault) → WereRead form text first [] →
-    OnOk r (IsFaultBehind form first left Memory) → OnOk r (IsReadNoFurther form text left)
+    OnOk r (IsFaultOn form first left Memory) → OnOk r (IsReadNoFurther form text left)
 memory_left form text first left r were memory = grind (arith, were)
 
 -- ---- what is returned at the end

@@ -5,7 +5,7 @@ use Rattle.std.proofs.lemmas.Bool.{cases_lt}
 use Rattle.std.proofs.lemmas.List.{take-append-le}
 use Rattle.std.proofs.KnownBytes.{Appends-trans}
 use Rattle.std.specs.Io.KnownBytes.{Appends}
-use Rattle.std.specs.Result.{IsErr, OnErr, OnOk}
+use Rattle.std.specs.Result.{IsErr, OnErr}
 use Rattle.driver.specs.Below.{DeviceFailed, AppendsFront}
 use Rattle.driver.specs.LineWriter.{Gathers, IsGathered}
 

@@ -370,13 +370,6 @@ pub stands_here : {I : Type 0} (old : List ℕ) (left : Option (List ℕ)) (r : 
     KeepsPlace old left r old left
 stands_here old left r = stands_still old old left left r (Keeps-refl (prepend_known old left))
 
--- ---- from the header on
-
--- from the header on, these items were read
-abbrev pub ReadOn : {H I : Type 0} → Form H I → Progress H I → List I → Progress H I → Type 0
-ReadOn form first items now =
-    (text : Option (List ℕ)) → WereRead form text first [] → WereRead form text now items
-
 abbrev sure : {T : Type 0} → T → Result T StreamFault
 sure x = Ok x
 
@@ -384,23 +377,3 @@ sure x = Ok x
 pub goes_on : {T : Type 0} (x : T) (failed : Bool) → (failed ≡ true →
     sure x ≡ Err ReadFailed) → failed ≡ false
 goes_on x failed failing = grind arith
-
--- ---- where memory is refused
-
--- after these items no further line was read, except for what is in the window
-pub memory_after : {H I : Type 0} (form : Form H I) (first : Progress H I) (items : List I)
-    (so_far : SoFar H I) (window : List ℕ) (left : Option (List ℕ)) → length window ≤ room →
-    ReadOn form first items (reader_at so_far window left) → (text : Option (List ℕ)) →
-    WereRead form text first [] → IsReadNoFurther form text left
-memory_after form first items so_far window left few read text were =
-    no_further form text so_far window left items few (read text were)
-
--- the reader gave no more, and stands where it stood
-pub memory_at_end : {H I : Type 0} (form : Form H I) (first : Progress H I) (items : List I)
-    (so_far : SoFar H I) (old window : List ℕ) (left after : Option (List ℕ)) → length window ≤ room →
-    Keeps (prepend_known old left) (prepend_known window after) →
-    ReadOn form first items (reader_at so_far old left) → (text : Option (List ℕ)) →
-    WereRead form text first [] → IsReadNoFurther form text after
-memory_at_end form first items so_far old window left after few keeps read text were =
-    no_further form text so_far window after items few
-    (kept form text so_far (prepend_known old left) (prepend_known window after) items keeps (read text were))

@@ -5,7 +5,7 @@ use Rattle.std.proofs.lemmas.Grind.{common_steps}
 use Rattle.std.proofs.lemmas.List.{length-reverse, reverse-append, reverse-reverse}
 use Rattle.std.proofs.lemmas.List.Elements.{All-take, recursion_from_All}
 use Rattle.std.proofs.lemmas.Option.{get_or_from_slice_get, slice_get_within}
-use Rattle.driver.specs.Below.{Judgement, Verdict, IsJudgement, front, verdict_of, Entry, Base, based, folded, IsGood, IsInRange, AreSeated, IsLegal, CanFold, Start}
+use Rattle.driver.specs.Below.{Judgement, Verdict, IsJudgement, front, verdict_of, Entry, Base, based, folded, IsInRange, AreSeated, IsLegal, CanFold, Start}
 use Rattle.audit.specs.declared.verdict.Judgement.TheVariants.{Legal, NotLegal}
 use Rattle.audit.specs.declared.verdict.Verdict.TheVariants as verdict
 use Rattle.history_text.proofs.Lists.{each-reverse}

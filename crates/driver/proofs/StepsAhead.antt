@@ -3,6 +3,7 @@ use Rattle.std.proofs.Common.{◌≡◌, ℕ, zero, suc, ◌<◌, ◌≤◌, ◌
 use Rattle.driver.specs.Below.{Act, IsInRange, ended, LINE_BYTES, Form, IsLineBehind, StepsHeader, stepped, Common, IsAct, IsStep, act_line, step_line, steps_form, steps_so_far, IsReadNoFurther}
 use Rattle.steps.proofs.ShortSteps.{short}
 use Rattle.driver.specs.Prelude.{Held, common_act, progress, IsNext, IsOfNoText, Progress, WereRead}
+use Rattle.driver.specs.inner.StepReader.{ReadMore}
 
 repeated : ℕ → Act → List Act
 repeated zero act = []
@@ -37,12 +38,6 @@ next_short h count window act left range is =
     short.item h [] act range tt (next_act h count window act left is)
 
 -- ---- more acts than a good text has
-
--- from some items on, these were read
-abbrev pub ReadMore : Progress StepsHeader Act → List Act → Progress StepsHeader Act → Type 0
-ReadMore first more now =
-    (text : Option (List ℕ)) (items : List Act) → WereRead steps_form text first items →
-    WereRead steps_form text now (items ++ more)
 
 -- so many acts are not all of a text
 pub never_all : (first : Progress StepsHeader Act) (held : Held) (left after : Option (List ℕ)) (more :

@@ -1,15 +1,9 @@
 -- What is written for a steps text.
 use Rattle.std.proofs.Common.{◌≡◌, ℕ, List, Option, None, Some, Result, Ok, Err, subst}
 use Rattle.std.specs.Io.KnownBytes.{Appends}
-use Rattle.driver.specs.Below.{Act, IsText, StepsHeader, steps_form, StreamFault, Text, ReadFailed, WriteFailed, Memory, AppendsFront}
-use Rattle.driver.specs.Prelude.{Form, AllAnswers, Writes, answers_text, IsLawful, Replayed, WritesReplay, answer_text, behind_acts}
+use Rattle.driver.specs.Below.{StreamFault, Text, ReadFailed, WriteFailed, Memory, AppendsFront}
+use Rattle.driver.specs.Prelude.{Form, AllAnswers, Writes, answers_text, Replayed, WritesReplay}
 use Rattle.driver.specs.inner.ReplayStream.{AreAnswersTo}
-
-pub replayed : (form : Form) (text : List ℕ) (h : StepsHeader) (acts : List Act) (written : List ℕ) →
-    IsText steps_form text h acts → IsLawful (behind_acts h acts).base (behind_acts h acts).entries →
-    written ≡ answer_text form h acts → Replayed form text (λ bytes. written ≡ bytes)
-replayed form text h acts written is lawful same =
-    record { header = h; acts = acts; is = is; lawful = lawful; written = same }
 
 -- what is written, said in another way
 rewritten : (form : Form) (text all : List ℕ) (Written : List ℕ → Type 0) →

@@ -1,5 +1,5 @@
 -- The answers to the steps and trims of a text, and what is written of them.
-use Rattle.std.specs.Prelude.{◌≡◌, ℕ, ◌+◌, List, ◌++◌, Option, Result, Ok, Err, codes, length, reverse}
+use Rattle.std.specs.Prelude.{ℕ, ◌+◌, List, ◌++◌, Option, Result, Ok, Err, codes, length, reverse}
 use Rattle.std.specs.Io.KnownBytes.{Appends, Keeps}
 use Rattle.driver.specs.Below.{Entry, Base, based, calls, part_of, ended, counts_line, entry_lines, history_text, StepsHeader, StreamFault, WriteFailed, Memory, AppendsFront}
 use Rattle.driver.specs.declared.form.Form.{Form}

@@ -12,10 +12,10 @@ pub use Rattle.frame.specs.declared.acts.Act.TheVariants.{Do, Trim}
 pub use Rattle.frame.specs.declared.acts.Done.{Done}
 pub use Rattle.frame.specs.declared.acts.Done.TheVariants.{Answered, Trimmed}
 pub use Rattle.frame.specs.Acts.{IsOfSeats, as_answered, Outcome, outcome}
-pub use Rattle.frame.specs.Core.{CoreView, start_of, IsAnswered, IsStepped, IsTrimmed, made_by}
+pub use Rattle.frame.specs.Core.{CoreView, start_of, IsAnswered, IsStepped, IsTrimmed}
 pub use Rattle.history.specs.declared.entry.Entry.{Entry}
 pub use Rattle.history.specs.declared.fault.Fault.{Fault}
-pub use Rattle.history.specs.declared.fault.Fault.TheVariants.{HistoryFull, OutOfMemory, TrimFull}
+pub use Rattle.history.specs.declared.fault.Fault.TheVariants.{OutOfMemory}
 pub use Rattle.history.specs.declared.header.Header.{Header}
 pub use Rattle.history.specs.declared.header.Object.{Object}
 pub use Rattle.history.specs.declared.header.Object.TheVariants.{Lock, ReadWrite, Semaphore, Latch}
@@ -23,23 +23,20 @@ pub use Rattle.history.specs.declared.limits.TheConstants.{MOST_FOLDED}
 pub use Rattle.history.specs.declared.step.Answer.{Answer}
 pub use Rattle.history.specs.declared.step.Answer.TheVariants.{Recorded, Sleep}
 pub use Rattle.history.specs.declared.step.Step.{Step}
-pub use Rattle.history.specs.Answers.{recorded, answer_by, answer}
+pub use Rattle.history.specs.Answers.{recorded, answer}
 pub use Rattle.history.specs.Base.{Base, opening_base, based, folded}
-pub use Rattle.history.specs.Entries.{ended_calls, or_opening, start_on, IsBasedWell}
+pub use Rattle.history.specs.Entries.{or_opening, IsBasedWell}
 pub use Rattle.history.specs.Entry.{ends_call}
 pub use Rattle.history.specs.EntryWords.{IsSpelt, entry_words}
 pub use Rattle.history.specs.Fault.{fault_name}
-pub use Rattle.history.specs.Fold.{MayFold}
 pub use Rattle.history.specs.GoodBase.{IsGood, IsBaseOf}
 pub use Rattle.history.specs.Header.{IsInRange}
 pub use Rattle.history.specs.Legal.{IsLegal, AreSeated, calls}
 pub use Rattle.history.specs.Naming.{named}
 pub use Rattle.history.specs.Order.{IsInOrder, IsFairOrder}
 pub use Rattle.history.specs.Point.{CanFold}
-pub use Rattle.history.specs.Room.{has_room}
 pub use Rattle.history.specs.Spelling.{part_of}
 pub use Rattle.history.specs.Start.{Start}
-pub use Rattle.history.specs.Steps.{entry_for}
 pub use Rattle.history.specs.Text.{ended, line_of, HasNoBreak}
 pub use Rattle.history_text.specs.declared.base_line.BaseLine.{BaseLine}
 pub use Rattle.history_text.specs.declared.base_under_way.TheConstants.{MOST_LINES}

@@ -1,4 +1,5 @@
 -- What only contracts of private functions cite: no promise of the crate rests on it.
+pub mod Answering
 pub mod BaseReader
 pub mod Choice
 pub mod Codes

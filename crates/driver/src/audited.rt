@@ -1,6 +1,6 @@
 //! The text of an audit.
 
-ghost use Rattle.std.specs.Prelude.{◌≡◌, List, IfOk};
+ghost use Rattle.std.specs.Prelude.{List, IfOk};
 ghost use Rattle.audit.specs.Verdict.{verdict_of};
 ghost use Rattle.history.specs.declared.entry.Entry.{Entry};
 ghost use Rattle.driver.specs.Telling.{Tells};

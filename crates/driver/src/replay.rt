@@ -1,12 +1,13 @@
 //! The answers to the steps and trims of a text.
 
-ghost use Rattle.std.specs.Prelude.{◌≡◌, ◌<◌, ◌↔◌, [], All, Err, false, IfErr, IfOk, IsErrOf, IsTrue, OnOk, reverse};
+ghost use Rattle.std.specs.Prelude.{◌≡◌, ◌≢◌, ◌<◌, ◌≤◌, ◌↔◌, [], All, Err, false, IfErr, IfOk, IsErrOf, IsTrue, List, ℕ, OnErr, OnOk, Option, reverse};
 ghost use Rattle.std.specs.Io.KnownBytes.{IsAtEnd};
 ghost use Rattle.driver.specs.Below.{CoreView, IsOfSeats, IsStepped, Step, opening_base, IsBasedWell, IsSpelt, Memory, step_of, steps_form};
+ghost use Rattle.driver.specs.inner.Answering.{Answered};
 ghost use Rattle.driver.specs.inner.Logged.{IsLogged, IsStepLogged};
 ghost use Rattle.driver.specs.ReplayStream.{AreAnswersBehind};
 ghost use Rattle.driver.specs.StepReader.{progress};
-ghost use Rattle.driver.specs.inner.TextReader.{IsFaultBehind};
+ghost use Rattle.driver.specs.TextReader.{IsFaultOn};
 
 use crate::code::Code;
 use crate::step_reader::StepReader;
@@ -23,15 +24,7 @@ use steps::common_step::Common;
 use streams::source::Source;
 use streams::stream_fault::StreamFault;
 
-/// Returns whether a step failed because of a failed allocation.
-#[inline(always)]
-fn lacks_memory(answer: &Result<Answer, Fault>) -> bool
-    ensures { IsTrue result ↔ (answer.now ≡ Err Fault.OutOfMemory) }
-{
-    matches!(answer, Err(Fault::OutOfMemory))
-}
-
-/// Keeps the line of the answer to a step, unless memory was lacking for it.
+/// Keeps the line of the answer to a step.
 #[inline(always)]
 fn keep<H: Hooks + Drop>(
     core: &Core<H>,
@@ -39,13 +32,11 @@ fn keep<H: Hooks + Drop>(
     seat: u16,
     answer: Result<Answer, Fault>,
 ) -> Result<(), AllocError>
-    requires { (old : CoreView) × (step : Step) × IsStepped old seat step answer core.now }
+    requires told { (old : CoreView) × (step : Step) × IsStepped old seat step answer core.now }
+    requires made { answer ≢ Err Fault.OutOfMemory }
     ensures { (old : CoreView) (step : Step) → IsStepped old seat step answer core.now →
         OnOk result (IsStepLogged old tape.old seat step core.now tape.new) }
 {
-    if lacks_memory(&answer) {
-        return Err(AllocError);
-    }
     if let Some(code) = Code::of(seat, &answer) {
         return tape.push(code);
     }
@@ -65,6 +56,9 @@ fn answer_step<H: Hooks + Drop>(
     ensures { OnOk result (IsStepLogged core.old tape.old seat step core.new tape.new) }
 {
     let answer = core.step(seat, step);
+    if let Err(Fault::OutOfMemory) = answer {
+        return Err(AllocError);
+    }
     keep(core, tape, seat, answer)
 }
 
@@ -82,12 +76,8 @@ fn at_once<H: Hooks + Drop>(
     let Some(name) = core.step_at_once(seat, step) else {
         return answer_step(core, tape, seat, step);
     };
-    keep(
-        core,
-        tape,
-        seat,
-        Ok(Answer::Recorded(entry_at_once(seat, step), name)),
-    )
+    let answer = Answer::Recorded(entry_at_once(seat, step), name);
+    keep(core, tape, seat, Ok(answer))
 }
 
 // The next three are called for most steps of a lock that is asked for. Each knows its step.
@@ -96,8 +86,10 @@ fn queue<H: Hooks + Drop>(core: &mut Core<H>, tape: &mut Tape, seat: u16) -> Res
     requires { seat < core.old.header.seats }
     ensures { OnOk result (IsStepLogged core.old tape.old seat (Step.Acquire Mode.X 1) core.new tape.new) }
 {
-    let answer = core.step_by_kind(seat, Step::Acquire(Mode::X, 1));
-    keep(core, tape, seat, answer)
+    let Some(answer) = core.acquire(seat, Mode::X, 1) else {
+        return answer_step(core, tape, seat, Step::Acquire(Mode::X, 1));
+    };
+    keep(core, tape, seat, Ok(answer))
 }
 
 #[inline(never)]
@@ -105,7 +97,10 @@ fn give<H: Hooks + Drop>(core: &mut Core<H>, tape: &mut Tape, seat: u16) -> Resu
     requires { seat < core.old.header.seats }
     ensures { OnOk result (IsStepLogged core.old tape.old seat (Step.Give Mode.X 1) core.new tape.new) }
 {
-    at_once(core, tape, seat, Step::Give(Mode::X, 1))
+    let Some(answer) = core.give(seat, Mode::X, 1) else {
+        return answer_step(core, tape, seat, Step::Give(Mode::X, 1));
+    };
+    keep(core, tape, seat, Ok(answer))
 }
 
 #[inline(never)]
@@ -113,8 +108,10 @@ fn look<H: Hooks + Drop>(core: &mut Core<H>, tape: &mut Tape, seat: u16) -> Resu
     requires { seat < core.old.header.seats }
     ensures { OnOk result (IsStepLogged core.old tape.old seat Step.Look core.new tape.new) }
 {
-    let answer = core.step_by_kind(seat, Step::Look);
-    keep(core, tape, seat, answer)
+    let Some(answer) = core.look(seat) else {
+        return answer_step(core, tape, seat, Step::Look);
+    };
+    keep(core, tape, seat, Ok(answer))
 }
 
 /// Performs a common step, and keeps its line. In most arms the step is known.
@@ -139,6 +136,27 @@ fn answer_common<H: Hooks + Drop>(
         Common::Look => look(core, tape, seat),
         _ => answer_step(core, tape, seat, common.step()),
     }
+}
+
+/// Performs the common steps that are next, and keeps their lines. It is the only one that calls
+/// `answer_common` for a kind of hooks, whatever the source, so that it is compiled with it as one.
+#[inline(never)]
+fn answer_commons<H: Hooks + Drop>(
+    core: &mut Core<H>,
+    tape: &mut Tape,
+    steps: &mut StepReader,
+) -> Result<(), AllocError>
+    requires { core.old.header ≡ steps.old.header.header }
+    ensures further { OnOk result (steps.old.count ≤ steps.new.count) }
+    ensures ok { OnOk result ((left : Option (List ℕ)) → Answered (progress steps.old left)
+        (progress steps.new left) core.old tape.old core.new tape.new) }
+    ensures err { OnErr result ((left : Option (List ℕ)) →
+        IsFaultOn steps_form (progress steps.old left) left Memory) }
+{
+    while let Some((seat, common)) = steps.next_common() {
+        answer_common(core, tape, seat, common)?;
+    }
+    Ok(())
 }
 
 /// Performs an act, and keeps its line.
@@ -180,18 +198,16 @@ pub fn replay<H: Hooks + Drop, R: Source>(
         })) }
     ensures based { OnOk result (IsBasedWell steps.old.header.header (Some core.new.base)) }
     ensures spelt { OnOk result (All IsSpelt (reverse core.new.entries)) }
-    ensures err { IfErr result (IsFaultBehind steps_form (progress steps.old (R.left reader.old))
+    ensures err { IfErr result (IsFaultOn steps_form (progress steps.old (R.left reader.old))
         (R.left reader.new)) }
-    ensures memory { OnOk result (IsFaultBehind steps_form (progress steps.old (R.left reader.old))
+    ensures memory { OnOk result (IsFaultOn steps_form (progress steps.old (R.left reader.old))
         (R.left reader.new) Memory) }
     ensures ended { OnOk result (IsAtEnd (R.left reader.new)) }
     ensures failing { IsErrOf result StreamFault.ReadFailed ↔ IsTrue (R.failed reader.new) }
 {
     let mut tape = Tape::new(alloc);
     loop {
-        while let Some((seat, common)) = steps.next_common() {
-            answer_common(core, &mut tape, seat, common)?;
-        }
+        answer_commons(core, &mut tape, steps)?;
         let Some(act) = steps.next(reader)? else {
             core.recall_lawful();
             return Ok(tape);

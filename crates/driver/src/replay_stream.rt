@@ -6,8 +6,7 @@ ghost use Rattle.driver.specs.ReplayStream.{AreAnswersBehind, Replays};
 ghost use Rattle.driver.specs.inner.ReplayStream.{AreAnswersTo};
 ghost use Rattle.driver.specs.Below.{IsReadNoFurther, Memory, steps_form};
 ghost use Rattle.driver.specs.StepReader.{progress};
-ghost use Rattle.driver.specs.TextReader.{IsFaultOf};
-ghost use Rattle.driver.specs.inner.TextReader.{IsFaultBehind};
+ghost use Rattle.driver.specs.TextReader.{IsFaultOf, IsFaultOn};
 
 use crate::answers::Answers;
 use crate::form::Form;
@@ -73,9 +72,9 @@ fn answered<H: Hooks + Drop, R: Source>(
     requires hooks { H.is_opened hooks steps.old.header.header.seats }
     requires object { H.object_of hooks ≡ steps.old.header.header.object }
     ensures ok { IfOk result (AreAnswersBehind (progress steps.old (R.left reader.old))) }
-    ensures err { IfErr result (IsFaultBehind steps_form (progress steps.old (R.left reader.old))
+    ensures err { IfErr result (IsFaultOn steps_form (progress steps.old (R.left reader.old))
         (R.left reader.new)) }
-    ensures memory { OnOk result (IsFaultBehind steps_form (progress steps.old (R.left reader.old))
+    ensures memory { OnOk result (IsFaultOn steps_form (progress steps.old (R.left reader.old))
         (R.left reader.new) Memory) }
     ensures ended { OnOk result (IsAtEnd (R.left reader.new)) }
     ensures failing { IsErrOf result StreamFault.ReadFailed ↔ IsTrue (R.failed reader.new) }
@@ -101,9 +100,9 @@ fn answers_after_header<R: Source>(
 ) -> Result<Answers, StreamFault>
     requires reader { R.failed reader.old ≡ false }
     ensures ok { IfOk result (AreAnswersBehind (progress steps.old (R.left reader.old))) }
-    ensures err { IfErr result (IsFaultBehind steps_form (progress steps.old (R.left reader.old))
+    ensures err { IfErr result (IsFaultOn steps_form (progress steps.old (R.left reader.old))
         (R.left reader.new)) }
-    ensures memory { OnOk result (IsFaultBehind steps_form (progress steps.old (R.left reader.old))
+    ensures memory { OnOk result (IsFaultOn steps_form (progress steps.old (R.left reader.old))
         (R.left reader.new) Memory) }
     ensures ended { OnOk result (IsAtEnd (R.left reader.new)) }
     ensures failing { IsErrOf result StreamFault.ReadFailed ↔ IsTrue (R.failed reader.new) }

@@ -1,6 +1,6 @@
 //! Reading the steps and trims of a text from their source, one at a time.
 
-ghost use Rattle.std.specs.Prelude.{◌≡◌, ◌⊎◌, ◌+◌, ◌^◌, ◌<◌, ◌≤◌, ◌∷◌, ◌++◌, ◌↔◌, ◌-◌, [], false, length, List, None, Ok, Option, Some, ℕ, IsErr, IsTrue, IsErrOf, IfOk, IfErr, IfNone, IfSome, OnErr, OnOk};
+ghost use Rattle.std.specs.Prelude.{◌≡◌, ◌⊎◌, ◌+◌, ◌^◌, ◌<◌, ◌≤◌, ◌↔◌, ◌-◌, [], false, length, List, None, Ok, Option, Some, ℕ, IsErr, IsTrue, IsErrOf, IfOk, IfErr, IfNone, IfSome, OnErr, OnOk};
 ghost use Rattle.std.specs.Io.KnownBytes.{IsAtEnd};
 ghost use Rattle.driver.specs.Below.{IsInRange, HasNoBreak, IsAct, MOST_ACTS, steps_form, IsTooLong, room, Memory};
 ghost use Rattle.driver.specs.StepReader.{common_act, progress};

@@ -1,7 +1,7 @@
 //! The lines of the answers to steps and trims, most of them in three bytes.
 
 ghost use Rattle.std.specs.Prelude.{◌≡◌, ◌↔◌, ◌<◌, ◌≤◌, [], false, if◌then◌else◌, IsErr, IsTrue, OnOk, length};
-ghost use Rattle.driver.specs.ReplayText.{HasLine, entries_of, told_more};
+ghost use Rattle.driver.specs.ReplayText.{HasLine, told_more};
 ghost use Rattle.driver.specs.LineWriter.{Gathers};
 ghost use Rattle.driver.specs.inner.Codes.{code_line, entries_in, kept_by, lines_by};
 ghost use Rattle.driver.specs.inner.Logged.{IsAnswerTold, IsTrimTold};

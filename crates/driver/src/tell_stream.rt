@@ -2,7 +2,7 @@
 
 ghost use Rattle.std.specs.Prelude.{◌≡◌, ◌↔◌, List, IsTrue, IfErr, IfOk, IsErrOf, OnOk, false};
 ghost use Rattle.std.specs.Io.KnownBytes.{IsAtEnd};
-ghost use Rattle.driver.specs.Below.{verdict_of, Entry, history_form, IsReadNoFurther};
+ghost use Rattle.driver.specs.Below.{verdict_of, Entry, history_form};
 ghost use Rattle.driver.specs.Telling.{Tells, TellsHistory};
 ghost use Rattle.driver.specs.TextReader.{IsFaultOf};
 ghost use Rattle.driver.specs.inner.Judged.{IsJudged, IsJudgedFor};

@@ -1,8 +1,7 @@
 -- What follows the end line of a text.
 use Rattle.std.specs.Prelude.{◌≡◌, ◌≢◌, ◌+◌, ℕ, List, [], Option, Some, None, Result, Ok, Err, IfSome}
 use Rattle.std.specs.Io.KnownBytes.{IsAtEnd}
-use Rattle.driver.specs.Below.{BadLine, StreamFault, Text, ReadFailed, WriteFailed, Memory, Form}
-use Rattle.driver.specs.TextReader.{IsFaultOf, Progress, WereRead}
+use Rattle.driver.specs.Below.{BadLine, StreamFault, Text, ReadFailed, WriteFailed, Memory}
 
 -- what follows the end line after `count` items: nothing, or what makes the next line a bad one
 abbrev pub IsAfterEnd : {I : Type 0} → ℕ → Option (List ℕ) → Result (Option I) StreamFault → Type 0
@@ -12,8 +11,3 @@ IsAfterEnd count left (Err (Text fault)) = (fault ≡ BadLine (count + 3)) × If
 IsAfterEnd count left (Err ReadFailed) = Unit {0}
 IsAfterEnd count left (Err Memory) = ⊥
 IsAfterEnd count left (Err WriteFailed) = ⊥
-
--- the faults after a header, whatever the text
-abbrev pub IsFaultBehind : {H I : Type 0} → Form H I → Progress H I → Option (List ℕ) → StreamFault → Type 0
-IsFaultBehind form p left fault =
-    (text : Option (List ℕ)) → WereRead form text p [] → IsFaultOf form text left fault

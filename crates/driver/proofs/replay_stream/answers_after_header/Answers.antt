@@ -1,4 +1,4 @@
-use Rattle.std.proofs.Common.{[], ap, sym, ◌∙◌}
+use Rattle.std.proofs.Common.{ap, sym, ◌∙◌}
 use Rattle.driver.specs.Below.{steps_form, steps_so_far, StepsHeader}
 use Rattle.driver.proofs.ReadingAhead.{no_further}
 use Rattle.driver.proofs.replay_stream.answers_after_header.Goals as goal
@@ -20,7 +20,7 @@ answered-requires-clause-object g c =
     ∙ ap (λ (k : StepsHeader). k.header.object) c.header.ensures.value
 
 pub returns-in-Err-clause-err : goal.returns-in-Err-clause-err
-returns-in-Err-clause-err g c = λ text were.
+returns-in-Err-clause-err g c = λ text items were.
     let steps = c.args.steps.now in
     no_further steps_form text (steps_so_far steps.header steps.count) steps.bytes
-    (g.R.Source.left c.args.reader.now) [] c.header.ensures.held were
+    (g.R.Source.left c.args.reader.now) items c.header.ensures.held were

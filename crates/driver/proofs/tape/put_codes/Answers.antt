@@ -1,4 +1,4 @@
-use Rattle.std.proofs.Common.{◌≡◌, ℕ, ◌-◌, ◌+◌, List, [], length, take, take_all, drop, drop-drop, get_or, length-drop, arith}
+use Rattle.std.proofs.Common.{◌≡◌, ℕ, ◌-◌, List, length, take, take_all, drop, drop-drop, get_or, length-drop, arith}
 use Rattle.driver.specs.declared.code.Code.{Code}
 use Rattle.driver.specs.inner.Codes.{kept_in}
 use Rattle.driver.proofs.Gathering.{front_of_all, gathered_more, gathers_failed}

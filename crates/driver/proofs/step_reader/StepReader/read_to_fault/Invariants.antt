@@ -1,7 +1,7 @@
 use Rattle.std.proofs.Common.{◌≡◌, ◌-◌, ◌≤◌, ◌^◌, List, false}
 use Rattle.frame.specs.declared.acts.Act.{Act}
 use Rattle.driver.specs.StepReader.{progress}
-use Rattle.driver.proofs.StepsAhead.{ReadMore}
+use Rattle.driver.specs.inner.StepReader.{ReadMore}
 use Rattle.driver.proofs.step_reader.StepReader.read_to_fault.Given as goal
 
 abbrev pub invariant-loop : goal.invariant-loop

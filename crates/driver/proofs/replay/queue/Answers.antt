@@ -1,0 +1,4 @@
+use Rattle.driver.proofs.replay.queue.Goals as goal
+
+pub returns : goal.returns
+returns g c = c.keep.ensures c.args.core.now _ c.in-Some.ensures.done
