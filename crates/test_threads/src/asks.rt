@@ -48,7 +48,7 @@ pub enum Ask {
     AwaitZero,
     AwaitZeroFor(u32),
     CountDown,
-    /// A step of the monitor, which parks and unparks nobody.
+    /// A step of the monitor, and an unpark of the seat that it names.
     Step(Step),
     /// The monitor folds its entries.
     Trim,
@@ -316,7 +316,13 @@ pub fn perform<H: Front, P: Parking, R: Wait + Clock>(
 {
     pass.is_true();
     match ask {
-        Ask::Step(step) => stepped(monitor.step(rt, pass, step)),
+        Ask::Step(step) => {
+            let answer = monitor.step(rt, pass, step);
+            if let Ok(Answer::Recorded(_, named)) = answer {
+                pass.unpark(parking, named);
+            }
+            stepped(answer)
+        }
         Ask::Trim => folded(monitor.trim(rt, pass)),
         Ask::Interrupt => {
             parking.interrupt(pass.seat());

@@ -4,6 +4,8 @@
 #[cfg(test)]
 mod asks;
 #[cfg(test)]
+mod beside;
+#[cfg(test)]
 mod chance;
 #[cfg(test)]
 mod memory;

@@ -3,6 +3,7 @@
 //! A test takes all memory first, a part of it as adjacent pieces, and frees these one by one. So the
 //! allocations really fail, one after another.
 ghost use Rattle.std.specs.Prelude.{◌≡◌, ◌≤◌, true};
+ghost use Rattle.monitor.specs.Calling.{CanCall};
 ghost use Rattle.monitor.specs.Stepping.{IsSame};
 ghost use Rattle.word_lock.specs.Ready.{IsReady};
 
@@ -158,8 +159,7 @@ fn refusals_of_acquire<R: Abort + AllocGlobal + Wait + Clock>(
     monitor: &Monitor<LockHooks>,
     pass: &mut Pass,
 ) -> usize
-    requires is_of { pass.old.lock ≡ monitor.now }
-    requires places { monitor.now.header.seats ≤ 256 }
+    requires { CanCall monitor.now 256 pass.old }
     ensures { IsSame pass.old pass.new }
 {
     let mut memory = Memory::take_all(rt.alloc(), FINE).expect(rt, "memory");
@@ -178,29 +178,17 @@ fn refusals_of_acquire<R: Abort + AllocGlobal + Wait + Clock>(
 }
 
 /// The first acquire of a pass takes the interrupt that is pending, if it does not lack memory.
-fn acquire_at_last<R: Abort + AllocGlobal + Wait + Clock>(
-    rt: &R,
-    parking: &NotedParking,
-    monitor: &Monitor<LockHooks>,
-    pass: &mut Pass,
-)
-    requires is_of { pass.old.lock ≡ monitor.now }
-    requires places { monitor.now.header.seats ≤ 256 }
-{
-    parking.interrupt(0);
-    let refused = refusals_of_acquire(rt, parking, monitor, pass);
-    let is_taken = pass.share() == 1 && !parking.take_interrupt(0);
-    assert!(rt;
-        is_taken && 1 <= refused && refused < MOST,
-        "refused {refused} times"
-    );
-}
-
 #[test]
 fn a_call_that_is_refused_memory_answers_later_as_if_it_came_first(rt: HostRuntime) {
     let parking = NotedParking::open(rt.alloc(), &[]).expect(&rt, "memory");
     let opened = open_lock(rt.alloc(), Policy::Fair, 1, 0, 16);
     let (monitor, mut passes) = opened.expect(&rt, "memory");
     let mut pass = passes.pop().expect(&rt, "a pass");
-    acquire_at_last(&rt, &parking, &monitor, &mut pass);
+    parking.interrupt(0);
+    let refused = refusals_of_acquire(&rt, &parking, &monitor, &mut pass);
+    let is_taken = pass.share() == 1 && !parking.take_interrupt(0);
+    assert!(rt;
+        is_taken && 1 <= refused && refused < MOST,
+        "refused {refused} times"
+    );
 }

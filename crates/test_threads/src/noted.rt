@@ -1,20 +1,17 @@
 //! A parking that records what a monitor asks of it, and whose parks end when the test lets them.
 ghost use Rattle.std.specs.Prelude.{◌≡◌, ◌<◌};
 
+use crate::storms::wait_for;
 use history::fault::Fault;
 use permit::{Call, Parking, ScriptedParking, Woke};
 use std::alloc::{AllocError, Global};
 use std::sync::Wait;
 use std::sync::atomic::{AtomicBool, AtomicU64, Ordering};
-use std::thread;
-use std::time::{Clock, Duration};
+use std::time::Clock;
 use word_lock::Token;
 
 /// How many calls are recorded.
 const PLACES: u32 = 16;
-
-/// How often a wait checks, once a millisecond, before it gives up.
-const TURNS: u32 = 10_000;
 
 /// How often an unpark that is kept checks whether it may return.
 const SPINS: u32 = 500_000_000;
@@ -57,13 +54,7 @@ impl NotedParking {
 
     /// Waits until this number of parks have begun, and returns whether they have.
     pub fn wait_for_parks<R: Clock>(&self, rt: &R, parks: u64) -> bool {
-        for _ in 0..TURNS {
-            if parks <= self.parks.load(Ordering::SeqCst) {
-                return true;
-            }
-            thread::sleep(rt, Duration::from_millis(1));
-        }
-        false
+        wait_for(rt, &self.parks, parks)
     }
 
     /// Ends a park, waits for the next one, and returns whether it came.
@@ -117,12 +108,7 @@ impl Parking for NotedParking {
     ) -> Woke {
         let answer = self.notes.park(rt, seat, until, interruptible);
         let number = self.parks.fetch_add(1, Ordering::SeqCst);
-        for _ in 0..TURNS {
-            if number < self.ends.load(Ordering::SeqCst) {
-                break;
-            }
-            thread::sleep(rt, Duration::from_millis(1));
-        }
+        let _ended = wait_for(rt, &self.ends, number.saturating_add(1));
         answer
     }
 

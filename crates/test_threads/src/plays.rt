@@ -308,40 +308,43 @@ fn play<H: Front + Send, R: Abort + AllocGlobal + Threads + Wait + Clock + Sync>
     assert!(rt; calls.as_slice() == tale.parked, "{}: {calls:?}", tale.name);
 }
 
-/// Plays a tale at its object.
-fn play_tale<R: Abort + AllocGlobal + Threads + Wait + Clock + Sync>(rt: &R, tale: &Tale) {
-    let header = tale.header;
-    assert!(rt; header.in_range());
-    let Header {
-        object,
-        seats,
-        conditions,
-        cap,
-    } = header;
-    let alloc = rt.alloc();
-    match object {
-        Object::Lock(policy) => {
-            let opened = open_lock(alloc, policy, seats, conditions, cap).expect(rt, "memory");
-            play(rt, tale, opened);
+/// Opens the object of a tale or a storm, and plays at it.
+macro_rules! at_object {
+    ($rt:expr, $of:expr, $play:ident) => {{
+        let Header {
+            object,
+            seats,
+            conditions,
+            cap,
+        } = $of.header;
+        assert!($rt; $of.header.in_range());
+        let alloc = $rt.alloc();
+        match object {
+            Object::Lock(policy) => {
+                let opened = open_lock(alloc, policy, seats, conditions, cap);
+                $play($rt, $of, opened.expect($rt, "memory"));
+            }
+            Object::ReadWrite(policy) => {
+                let opened = open_read_write_lock(alloc, policy, seats, conditions, cap);
+                $play($rt, $of, opened.expect($rt, "memory"));
+            }
+            Object::Semaphore(policy, permits) => {
+                let opened = open_semaphore(alloc, policy, permits, seats, cap);
+                $play($rt, $of, opened.expect($rt, "memory"));
+            }
+            Object::Latch(count) => {
+                let opened = open_latch(alloc, count, seats, cap);
+                $play($rt, $of, opened.expect($rt, "memory"));
+            }
         }
-        Object::ReadWrite(policy) => {
-            let opened = open_read_write_lock(alloc, policy, seats, conditions, cap);
-            play(rt, tale, opened.expect(rt, "memory"));
-        }
-        Object::Semaphore(policy, permits) => {
-            let opened = open_semaphore(alloc, policy, permits, seats, cap).expect(rt, "memory");
-            play(rt, tale, opened);
-        }
-        Object::Latch(count) => {
-            let opened = open_latch(alloc, count, seats, cap).expect(rt, "memory");
-            play(rt, tale, opened);
-        }
-    }
+    }};
 }
+
+pub(crate) use at_object;
 
 /// Plays tales one after another.
 pub fn play_all<R: Abort + AllocGlobal + Threads + Wait + Clock + Sync>(rt: &R, tales: &[Tale]) {
     for tale in tales {
-        play_tale(rt, tale);
+        at_object!(rt, tale, play);
     }
 }

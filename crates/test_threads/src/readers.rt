@@ -1,18 +1,18 @@
 //! Readers of a guarded value: many at once and no writer, and each ends its share of it before its hold.
-ghost use Rattle.std.specs.Prelude.{◌≡◌, ◌≤◌, All};
+ghost use Rattle.std.specs.Prelude.{◌≡◌, ◌≤◌};
 ghost use Rattle.guarded.specs.Guarding.{CanLock};
 ghost use Rattle.monitor.specs.Stepping.{IsSame};
 ghost use Rattle.monitor_fronts.specs.Holding.{holds};
 
 use crate::noted::NotedParking;
-use crate::storms::{LOOKS, rest};
+use crate::storms::wait_for;
 use guarded::{RwMutex, TryLockFault};
 use history::fault::Fault;
 use monitor::Pass;
 use permit::{Parking, ThreadParking};
 use std::process::Abort;
 use std::sync::Wait;
-use std::sync::atomic::{AtomicU32, Ordering};
+use std::sync::atomic::{AtomicU64, Ordering};
 use std::thread;
 use std::time::Clock;
 
@@ -24,24 +24,13 @@ const VALUE: u64 = 7;
 /// How often a thread reads while others stay inside, and how often each writes after that.
 const ROUNDS: u64 = 200;
 
-/// Waits until a number is this great, and returns whether it is.
-fn wait_for<R: Clock>(rt: &R, number: &AtomicU32, least: u32) -> bool {
-    for _ in 0..LOOKS {
-        if least <= number.load(Ordering::SeqCst) {
-            return true;
-        }
-        rest(rt);
-    }
-    false
-}
-
 /// Reads until the other thread waits to write, and lets it in.
 fn read_first<R: Wait + Clock>(
     rt: &R,
     parking: &NotedParking,
     lock: &RwMutex<u64>,
     pass: &mut Pass,
-    reads: &AtomicU32,
+    reads: &AtomicU64,
 ) -> Result<bool, Fault>
     requires { CanLock lock.now 256 pass.old }
 {
@@ -56,7 +45,7 @@ fn write_then<R: Wait + Clock>(
     parking: &NotedParking,
     lock: &RwMutex<u64>,
     pass: &mut Pass,
-    reads: &AtomicU32,
+    reads: &AtomicU64,
 ) -> Result<bool, Fault>
     requires { CanLock lock.now 256 pass.old }
 {
@@ -74,7 +63,7 @@ fn a_reader_ends_its_share_before_its_hold(rt: HostRuntime) {
     let (lock, mut passes) = RwMutex::new(rt.alloc(), VALUE, SEATS).expect(&rt, "memory");
     let mut one = passes.pop().expect(&rt, "a pass");
     let mut other = passes.pop().expect(&rt, "a pass");
-    let reads = AtomicU32::new(0);
+    let reads = AtomicU64::new(0);
     let (read, written) = thread::join_mut(
         &rt,
         &mut || read_first(&rt, &parking, &lock, &mut one, &reads),
@@ -90,7 +79,7 @@ fn stay<R: Wait + Clock>(
     parking: &ThreadParking,
     lock: &RwMutex<u64>,
     pass: &mut Pass,
-    steps: &AtomicU32,
+    steps: &AtomicU64,
 ) -> Result<bool, Fault>
     requires { CanLock lock.now parking.now pass.old }
     ensures same { IsSame pass.old pass.new }
@@ -157,7 +146,7 @@ fn look_beside<R: Wait + Clock>(
     parking: &ThreadParking,
     lock: &RwMutex<u64>,
     pass: &mut Pass,
-    steps: &AtomicU32,
+    steps: &AtomicU64,
 ) -> bool
     requires { CanLock lock.now parking.now pass.old }
     ensures same { IsSame pass.old pass.new }
@@ -178,7 +167,7 @@ fn play<R: Abort + Wait + Clock>(
     parking: &ThreadParking,
     lock: &RwMutex<u64>,
     pass: Pass,
-    steps: &AtomicU32,
+    steps: &AtomicU64,
 ) -> Pass
     requires { CanLock lock.now parking.now pass }
     ensures same { IsSame pass result }
@@ -196,21 +185,11 @@ fn play<R: Abort + Wait + Clock>(
     own
 }
 
-/// Returns the value at the end.
-fn close<R: Wait>(rt: &R, lock: RwMutex<u64>, passes: Vec<Pass>) -> Option<u64>
-    requires { All (λ p. p.lock ≡ lock.lock) passes.items }
-{
-    match lock.close(rt, passes) {
-        Ok((_closed, value)) => value,
-        Err(_) => None,
-    }
-}
-
 #[test]
 fn two_readers_are_inside_at_once_and_no_writer(rt: HostRuntime) {
     let parking = ThreadParking::open(&rt, rt.alloc(), SEATS).expect(&rt, "memory");
     let (lock, passes) = RwMutex::new(rt.alloc(), VALUE, SEATS).expect(&rt, "memory");
-    let steps = AtomicU32::new(0);
+    let steps = AtomicU64::new(0);
     let played = thread::map_vec(
         &rt,
         passes,
@@ -219,6 +198,8 @@ fn two_readers_are_inside_at_once_and_no_writer(rt: HostRuntime) {
             ensures { result.lock ≡ lock.lock }
         { play(&rt, &parking, &lock, pass, &steps) },
     );
-    let left = close(&rt, lock, played.expect(&rt, "memory"));
-    assert!(rt; left == Some(VALUE + 3 * ROUNDS), "{left:?}");
+    match lock.close(&rt, played.expect(&rt, "memory")) {
+        Ok((_closed, left)) => assert_eq!(rt; left, Some(VALUE + 3 * ROUNDS)),
+        Err(_) => panic!(rt; "a pass is missing"),
+    }
 }

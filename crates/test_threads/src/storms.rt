@@ -1,6 +1,7 @@
 //! Storms: one list of 10,000 steps of four seats at a lock, taken in each way; and steps of each thread's own at
 //! each object. After a storm the history is legal, and each of its calls was counted by a pass.
 ghost use Rattle.std.specs.Prelude.{◌≡◌, ◌≤◌, All};
+ghost use Rattle.monitor.specs.Calling.{CanCall};
 ghost use Rattle.monitor.specs.Stepping.{IsSame};
 
 mod each_object;
@@ -19,7 +20,7 @@ use permit::{ScriptedParking, Woke};
 use reentrant::lock::LockHooks;
 use std::process::Abort;
 use std::sync::Wait;
-use std::sync::atomic::{AtomicU32, Ordering};
+use std::sync::atomic::{AtomicU32, AtomicU64, Ordering};
 use std::thread;
 use std::thread::Threads;
 use std::time::{Clock, Duration};
@@ -57,6 +58,17 @@ const TIME: u32 = 5;
 
 pub fn rest<R: Clock>(rt: &R) {
     thread::sleep(rt, Duration::from_millis(1));
+}
+
+/// Waits until a number is this great, and returns whether it is.
+pub fn wait_for<R: Clock>(rt: &R, number: &AtomicU64, least: u64) -> bool {
+    for _ in 0..LOOKS {
+        if least <= number.load(Ordering::SeqCst) {
+            return true;
+        }
+        rest(rt);
+    }
+    false
 }
 
 /// Steps when the monitor isn't busy.
@@ -117,27 +129,6 @@ pub fn start_together<R: Clock>(rt: &R, started: &AtomicU32, threads: u16) {
     }
 }
 
-fn take_in_threads<R: Abort + Threads + Wait + Clock + Sync>(
-    rt: &R,
-    monitor: &Monitor<LockHooks>,
-    passes: Vec<Pass>,
-    way: Way,
-    started: &AtomicU32,
-) -> Vec<Pass>
-    requires { All (λ p. p.lock ≡ monitor.now) passes.items }
-    ensures { All (λ p. p.lock ≡ monitor.now) result.items }
-{
-    let worked = thread::map_vec(
-        rt,
-        passes,
-        &|pass: Pass| -> Pass
-            requires { pass.lock ≡ monitor.now }
-            ensures { result.lock ≡ monitor.entry.now }
-        { work(rt, monitor, pass, way, started) },
-    );
-    worked.expect(rt, "memory")
-}
-
 /// Makes the call that stands for a step of the list. A wait for the lock or on the condition ends by a
 /// deadline or an interrupt, and by an interrupt if it has no deadline.
 fn call<R: Wait + Clock>(
@@ -147,8 +138,7 @@ fn call<R: Wait + Clock>(
     pass: &mut Pass,
     step: Step,
 ) -> bool
-    requires own { pass.old.lock ≡ monitor.now }
-    requires places { monitor.now.header.seats ≤ 256 }
+    requires { CanCall monitor.now 256 pass.old }
     ensures { IsSame pass.old pass.new }
 {
     let reply = match step {
@@ -234,7 +224,16 @@ fn rage<R: Abort + AllocGlobal + Threads + Wait + Clock + Sync>(rt: &R, way: Way
     if matches!(way, Way::Alone | Way::Calls) {
         take_all(rt, &monitor, &mut passes, way);
     } else {
-        passes = take_in_threads(rt, &monitor, passes, way, &AtomicU32::new(0));
+        let started = AtomicU32::new(0);
+        let worked = thread::map_vec(
+            rt,
+            passes,
+            &|pass: Pass| -> Pass
+                requires { pass.lock ≡ monitor }
+                ensures { result.lock ≡ monitor }
+            { work(rt, &monitor, pass, way, &started) },
+        );
+        passes = worked.expect(rt, "memory");
     }
     let closed = close_and_audit(rt, monitor, &LOCK, passes, "");
     assert!(rt; LEAST <= closed.share, "{} calls", closed.share);

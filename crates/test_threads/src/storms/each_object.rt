@@ -6,14 +6,14 @@ ghost use Rattle.monitor.specs.Stepping.{IsSame};
 
 use crate::asks::Front;
 use crate::chance::Chance;
-use crate::plays::close_and_audit;
+use crate::plays::{at_object, close_and_audit};
 use crate::storms::{LOOKS, rest, start_together, step_by_turn};
 use history::entry::{Mode, Word};
 use history::fault::Fault;
 use history::header::{Header, Object, Policy};
 use history::step::{Answer, Step};
 use monitor::{Closed, Monitor, Pass};
-use monitor_fronts::{open_lock, open_read_write_lock, open_semaphore};
+use monitor_fronts::{open_latch, open_lock, open_read_write_lock, open_semaphore};
 use std::process::Abort;
 use std::sync::Wait;
 use std::sync::atomic::AtomicU32;
@@ -141,27 +141,6 @@ fn work<H: Front, R: Abort + Wait + Clock>(
     own
 }
 
-fn work_in_threads<H: Front + Send, R: Abort + Threads + Wait + Clock + Sync>(
-    rt: &R,
-    monitor: &Monitor<H>,
-    passes: Vec<Pass>,
-    storm: &Storm,
-    started: &AtomicU32,
-) -> Vec<Pass>
-    requires { All (λ p. p.lock ≡ monitor.now) passes.items }
-    ensures { All (λ p. p.lock ≡ monitor.now) result.items }
-{
-    let worked = thread::map_vec(
-        rt,
-        passes,
-        &|pass: Pass| -> Pass
-            requires { pass.lock ≡ monitor.now }
-            ensures { result.lock ≡ monitor.entry.now }
-        { work(rt, monitor, pass, storm, started) },
-    );
-    worked.expect(rt, "memory")
-}
-
 /// Returns whether nobody waits or holds a lock. A semaphore's permits may be held.
 fn is_idle(object: &Object, closed: &Closed) -> bool {
     let balance = closed.balance;
@@ -184,40 +163,21 @@ fn rage<H: Front + Send, R: Abort + AllocGlobal + Threads + Wait + Clock + Sync>
 {
     let (monitor, passes) = opened;
     let started = AtomicU32::new(0);
-    let passes = work_in_threads(rt, &monitor, passes, storm, &started);
+    let worked = thread::map_vec(
+        rt,
+        passes,
+        &|pass: Pass| -> Pass
+            requires { pass.lock ≡ monitor }
+            ensures { result.lock ≡ monitor }
+        { work(rt, &monitor, pass, storm, &started) },
+    );
+    let passes = worked.expect(rt, "memory");
     let closed = close_and_audit(rt, monitor, &storm.header, passes, "");
     assert!(rt; storm.least <= closed.share, "{} calls", closed.share);
     assert!(rt;
         is_idle(&storm.header.object, &closed),
         "somebody waits or holds"
     );
-}
-
-fn storm_at<R: Abort + AllocGlobal + Threads + Wait + Clock + Sync>(rt: &R, storm: &Storm) {
-    let header = storm.header;
-    assert!(rt; header.in_range());
-    let Header {
-        object,
-        seats,
-        conditions,
-        cap,
-    } = header;
-    let alloc = rt.alloc();
-    match object {
-        Object::Lock(policy) => {
-            let opened = open_lock(alloc, policy, seats, conditions, cap).expect(rt, "memory");
-            rage(rt, storm, opened);
-        }
-        Object::ReadWrite(policy) => {
-            let opened = open_read_write_lock(alloc, policy, seats, conditions, cap);
-            rage(rt, storm, opened.expect(rt, "memory"));
-        }
-        Object::Semaphore(policy, permits) => {
-            let opened = open_semaphore(alloc, policy, permits, seats, cap).expect(rt, "memory");
-            rage(rt, storm, opened);
-        }
-        Object::Latch(_) => panic!(rt; "no step of a latch is undone"),
-    }
 }
 
 const FOUR: Header = Header {
@@ -271,6 +231,6 @@ const CROWD: Storm = Storm {
 #[test]
 fn threads_step_each_object_10_000_times(rt: HostRuntime) {
     for storm in &[LOCK, READ_WRITE, SEMAPHORE, CROWD] {
-        storm_at(&rt, storm);
+        at_object!(&rt, storm, rage);
     }
 }

@@ -1,7 +1,7 @@
 //! What each call of a front type returns, in one thread. A wait ends as the parking is scripted.
 use crate::asks::{DONE, INTERRUPTED, NAMES, NO, NOT_OWNER, Reply, YES};
 use crate::plays::{LOCK, TWO, Tale, play_all};
-use crate::tales::{A_MINUTE, HEARS, INTERRUPTS, TIMED};
+use crate::tales::{A_MINUTE, HEARS, INTERRUPTS, TIMED, WAKES};
 use history::entry::Mode;
 use history::fault::Fault;
 use history::header::{Header, Object, Policy};
@@ -53,6 +53,7 @@ const OBSERVED: Tale = Tale {
         1 QueueLength => Ok(1), 1 Available => Ok(0), 1 Count => Ok(0),
     ],
     calls: 4,
+    parked: &[WAKES],
     ..LOCK
 };
 
