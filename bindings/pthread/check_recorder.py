@@ -447,6 +447,7 @@ KNOWN_TIMES = {
     "a_sleep_between_two_holds": ([], [40, 40], 1, 1),
     "a_wait_for_a_permit": ([120], [], 1, 1),
     "twelve_waits": ([10, 10, 120, *[30] * 9], [10, 10, 120, *[30] * 9], 24, 2),
+    "more_readers_than_seats": ([], [40] * 5, 5, 5),
 }
 
 
@@ -661,6 +662,11 @@ def check_now(tests):
     """Each report of a program that runs is of now, also if it does nothing meanwhile."""
     with Hanging(tests, "an_owner_that_has_ended") as hanging:
         began, told, asked = time.monotonic(), [], []
+        other = pathlib.Path(hanging.folder, f"times.{hanging.run.pid}0")  # of another process, written later
+        other.mkdir()
+        (other / "times").touch()
+        for path in (other, other / "times"):
+            os.utime(path, (2**31, 2**31))
         for _ in range(3):
             asked.append(1e9 * (time.monotonic() - began))
             told.append(report_of(["--now", str(hanging.run.pid)]))

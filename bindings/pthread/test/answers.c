@@ -1391,7 +1391,10 @@ static void writes_a_little_and_much(void) {
     use(&second);
     ask_to_write();
     for (int i = 0; i < 3000; i++) use(&second);
-    use(&third);
+    int next = dup(2);
+    CHECK(raise(SIGUSR2) == 0);
+    use(&third); /* it writes, and keeps no file open */
+    CHECK(dup(2) == next + 1);
     printf("done\n");
 }
 

@@ -256,6 +256,27 @@ static void is_asked_as_it_writes(void) {
     printf("%s\n", times_written == 1 ? "written once" : "done");
 }
 
+static void limit_memory(rlim_t most) {
+    struct rlimit limit;
+    CHECK(getrlimit(RLIMIT_AS, &limit) == 0);
+    limit.rlim_cur = most < limit.rlim_max ? most : limit.rlim_max;
+    CHECK(setrlimit(RLIMIT_AS, &limit) == 0);
+}
+
+/* No thread can be made, nor a helper. So the next call writes. */
+static void no_thread_can_be_made(void) {
+    pthread_t none;
+    survive_sigusr2();
+    use_mutex();
+    limit_memory(1);
+    int error = pthread_create(&none, NULL, lock_in_time, NULL);
+    limit_memory(RLIM_INFINITY);
+    as_it_ends = wait_until_asked, has_asked = true;
+    CHECK(raise(SIGUSR2) == 0);
+    use_mutex(); /* it writes */
+    printf("%s, %s\n", strerrorname_np(error), getenv("AQS_RECORD") && !times_written ? "not written" : "written");
+}
+
 static __attribute__((noinline)) void make_mutexes(int count) {
     pthread_mutex_t own;
     while (count-- > 0) {
@@ -1129,13 +1150,6 @@ enum { VARIABLES = 20000 };
 static pthread_cond_t variables[VARIABLES];
 static atomic_int initialised;
 
-static void limit_memory(rlim_t most) {
-    struct rlimit limit;
-    CHECK(getrlimit(RLIMIT_AS, &limit) == 0);
-    limit.rlim_cur = most < limit.rlim_max ? most : limit.rlim_max;
-    CHECK(setrlimit(RLIMIT_AS, &limit) == 0);
-}
-
 /* Lets memory be had again when the main thread gets no further, or waits. Then it signals. */
 static void *give_memory(void *last) {
     for (int before = 1; before == 1 || before != initialised;) before = initialised, usleep(50000);
@@ -1367,6 +1381,7 @@ static const struct {
     CASE(is_asked_to_write_often),
     CASE(writes_where_it_may_not_be_cancelled),
     CASE(is_asked_as_it_writes),
+    CASE(no_thread_can_be_made),
     CASE(mutexes_go_as_it_writes),
     CASE(files_are_written_in_parts),
     CASE(handler_posts_while_files_are_written),
