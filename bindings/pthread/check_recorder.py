@@ -247,7 +247,7 @@ def check_gone(tests):
     folder = first_process(tests.histories("answers-mutexes_that_are_gone"))
     lines = index_of(folder)
     told = [(line.entries, line.kept, line.waits, line.sleeps) for line in lines]
-    wanted = [*[(9, 9, 0, 1)] * 2, (8, 8, 0, 0), *[(5, 5, 0, 1)] * 16, (20, 0, 0, 4)]
+    wanted = [*[(9, 9, 0, 1)] * 2, (8, 8, 0, 0), *[(5, 5, 0, 1)] * 16, (8020, 0, 0, 4)]
     is_good = told == wanted and all(line.waited == 0 and (line.slept > 0) == (line.sleeps > 0) for line in lines)
     tests.count("the index adds up what is gone and has no file", is_good, str(lines))
     text = pathlib.Path(folder, "index").read_text()
@@ -304,6 +304,8 @@ def check_counts(tests):
     is_good = [(line.sleeps, line.slept) for line in waits] == [(0, 0.0)]
     is_good = is_good and waits[0].waits > 0 and waits[0].waited >= 20
     tests.count("a wait for a permit is no sleep", is_good, str(waits))
+    lines = index_of(first_process(tests.histories("answers-each_folded_entry_is_counted")))
+    tests.count("each folded entry is counted", [it.entries for it in lines] == [30030, 10030], str(lines))
     [text] = texts_of(first_process(tests.histories("answers-a_folded_history_gets_more_seats")))
     listed = re.findall(r"(?m)^seat (\d+) ", text)
     is_good = listed == [str(seat) for seat in range(17)] and seats_of(text)[1] == "17"
