@@ -169,6 +169,11 @@ def check_what_is_recorded(tests):
     seats = [re.findall(r"(?m)^\d+ (\d+) gave s 1$", text) for text in texts if " rw " in text.split("\n")[0]]
     is_good = seats == [["0", "1", "0"], ["0"]]
     tests.count("a reader gives back the seat that it has", is_good, str(seats))
+    folder = first_process(tests.histories("record-a_lock_grows_while_it_is_read"))
+    [text] = [text for text in texts_of(folder) if " rw " in text]
+    seats = re.findall(r"(?m)^\d+ (\d+) gave s 1$", text)
+    is_good = seats[0] == "1" and seats[-1] == "0" and len({*seats}) == 6
+    tests.count("a reader finds its seat in a lock that has grown", is_good, str(seats))
     folder = first_process(tests.histories("record-two_signals_and_a_broadcast"))
     signals = [re.findall(r"(?m)^\d+ \d+ (signal|signalall) 0 (\d+)$", text) for text in texts_of(folder)]
     is_good = signals == [[*[("signal", "1")] * 2, ("signalall", "4")]]

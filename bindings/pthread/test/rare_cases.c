@@ -1100,6 +1100,32 @@ static void a_reader_has_another_seat(void) {
     printf("%d threads\n", stage);
 }
 
+/* Threads of the numbers 0, 5, 1 and 2 have all seats of a lock. For the next one it gets more of them. */
+static void *read_in_turn(void *mine) {
+    int number = (int)(long)mine;
+    wait_for_stage(number);
+    use_mutex(); /* now it has a number */
+    stage++;
+    wait_for_stage(6 + number % 5);
+    CHECK(pthread_rwlock_rdlock(&crowded) == 0);
+    stage++;
+    wait_for_stage(number == 5 ? 11 : 12);
+    CHECK(pthread_rwlock_unlock(&crowded) == 0);
+    if (number == 5) stage++;
+    return NULL;
+}
+
+static void a_lock_grows_while_it_is_read(void) {
+    pthread_t threads[5];
+    CHECK(pthread_rwlock_rdlock(&crowded) == 0);
+    stage = 1;
+    for (long i = 0; i < 5; i++) threads[i] = started(read_in_turn, (void *)(i + 1));
+    wait_for_stage(12);
+    for (int i = 0; i < 5; i++) join(threads[i]);
+    CHECK(pthread_rwlock_unlock(&crowded) == 0);
+    printf("%d threads\n", stage);
+}
+
 static long resident(void) {
     long pages = 0, all = 0;
     FILE *file = fopen("/proc/self/statm", "r");
@@ -1407,6 +1433,7 @@ static const struct {
     CASE(waits_until_long_ago),
     CASE(threads_come_one_after_another),
     CASE(a_reader_has_another_seat),
+    CASE(a_lock_grows_while_it_is_read),
     CASE(destroyed_mutexes_leave_no_memory),
     CASE(memory_lacks_for_conditions),
     CASE(two_signals_and_a_broadcast),
