@@ -161,15 +161,10 @@ static void mutexes_of_many_threads_are_gone(void) {
 
 enum { READERS = 5 };
 
-static void read_until_all_do(void) {
-    pthread_barrier_wait(&all);
-    usleep(SHORT);
-    CHECK(pthread_rwlock_unlock(&lock) == 0);
-}
-
-static void *read_too(void *nothing) {
+static void *read_until_all_do(void *nothing) {
     CHECK(pthread_rwlock_rdlock(&lock) == 0);
-    read_until_all_do();
+    pthread_barrier_wait(&all);
+    CHECK(pthread_rwlock_unlock(&lock) == 0);
     return nothing;
 }
 
@@ -177,9 +172,10 @@ static void *read_too(void *nothing) {
 static void more_readers_than_seats(void) {
     pthread_t threads[READERS - 1];
     CHECK(pthread_barrier_init(&all, NULL, READERS) == 0 && pthread_rwlock_rdlock(&lock) == 0);
-    for (int i = 0; i < READERS - 1; i++) threads[i] = started(read_too, NULL);
-    read_until_all_do();
+    for (int i = 0; i < READERS - 1; i++) threads[i] = started(read_until_all_do, NULL);
+    pthread_barrier_wait(&all);
     for (int i = 0; i < READERS - 1; i++) join(threads[i]);
+    CHECK(pthread_rwlock_unlock(&lock) == 0);
 }
 
 /* Short holds -------------------------------------------------------------------------------------------- */
