@@ -169,6 +169,11 @@ def check_what_is_recorded(tests):
     seats = [re.findall(r"(?m)^\d+ (\d+) gave s 1$", text) for text in texts if " rw " in text.split("\n")[0]]
     is_good = seats == [["0", "1", "0"], ["0"]]
     tests.count("a reader gives back the seat that it has", is_good, str(seats))
+    folder = first_process(tests.histories("record-a_lock_grows_while_it_is_read"))
+    [text] = [text for text in texts_of(folder) if " rw " in text]
+    seats = re.findall(r"(?m)^\d+ (\d+) gave s 1$", text)
+    is_good = seats[0] == "1" and seats[-1] == "0" and len({*seats}) == 6
+    tests.count("a reader finds its seat in a lock that has grown", is_good, str(seats))
     folder = first_process(tests.histories("record-two_signals_and_a_broadcast"))
     signals = [re.findall(r"(?m)^\d+ \d+ (signal|signalall) 0 (\d+)$", text) for text in texts_of(folder)]
     is_good = signals == [[*[("signal", "1")] * 2, ("signalall", "4")]]
@@ -247,7 +252,7 @@ def check_gone(tests):
     folder = first_process(tests.histories("answers-mutexes_that_are_gone"))
     lines = index_of(folder)
     told = [(line.entries, line.kept, line.waits, line.sleeps) for line in lines]
-    wanted = [*[(9, 9, 0, 1)] * 2, (8, 8, 0, 0), *[(5, 5, 0, 1)] * 16, (20, 0, 0, 4)]
+    wanted = [*[(9, 9, 0, 1)] * 2, (8, 8, 0, 0), *[(5, 5, 0, 1)] * 16, (8020, 0, 0, 4)]
     is_good = told == wanted and all(line.waited == 0 and (line.slept > 0) == (line.sleeps > 0) for line in lines)
     tests.count("the index adds up what is gone and has no file", is_good, str(lines))
     text = pathlib.Path(folder, "index").read_text()
@@ -304,6 +309,8 @@ def check_counts(tests):
     is_good = [(line.sleeps, line.slept) for line in waits] == [(0, 0.0)]
     is_good = is_good and waits[0].waits > 0 and waits[0].waited >= 20
     tests.count("a wait for a permit is no sleep", is_good, str(waits))
+    lines = index_of(first_process(tests.histories("answers-each_folded_entry_is_counted")))
+    tests.count("each folded entry is counted", [it.entries for it in lines] == [30030, 10030], str(lines))
     [text] = texts_of(first_process(tests.histories("answers-a_folded_history_gets_more_seats")))
     listed = re.findall(r"(?m)^seat (\d+) ", text)
     is_good = listed == [str(seat) for seat in range(17)] and seats_of(text)[1] == "17"
@@ -512,11 +519,15 @@ def check_known_times(tests):
 
 
 def check_people(tests):
-    """Threads that used a lock which is gone are counted, and none is told as a holder that never held."""
+    """Threads that used a lock which is gone are counted, and none is told as a holder that never held. Each hold is
+    told, though the lock gets more seats meanwhile."""
     process, told = report_of(["--report", record_times(tests, "mutexes_of_many_threads_are_gone")])
     gone = [it for it in process["objects"] if "gone" in it] if process else []
     is_good = [(it["gone"], it["calls"], it["threads"]) for it in gone] == [(14, 14, 14)]
     tests.count("the threads of all mutexes that are gone are counted", is_good, told)
+    process, told = report_of(["--report", record_times(tests, "more_readers_than_seats")])
+    counts = [(it["calls"], it["holds"], it["threads"]) for it in process["objects"]] if process else []
+    tests.count("holds of a lock that gets more seats are told", counts == [(5, 5, 5)], told)
     process, told = report_of(["--report", record_times(tests, "an_owner_that_ended_is_replaced")])
     waits = [(it["thread"]["thread"], it["held_by"]) for it in process["longest_waits"]] if process else []
     tests.count("who comes after an owner that has ended isn't told as the owner", waits == [(2, None)], told)
@@ -661,6 +672,11 @@ def check_now(tests):
     """Each report of a program that runs is of now, also if it does nothing meanwhile."""
     with Hanging(tests, "an_owner_that_has_ended") as hanging:
         began, told, asked = time.monotonic(), [], []
+        other = pathlib.Path(hanging.folder, f"times.{hanging.run.pid}0")  # of another process, written later
+        other.mkdir()
+        (other / "times").touch()
+        for path in (other, other / "times"):
+            os.utime(path, (2**31, 2**31))
         for _ in range(3):
             asked.append(1e9 * (time.monotonic() - began))
             told.append(report_of(["--now", str(hanging.run.pid)]))
@@ -802,6 +818,14 @@ def check_script(tests):
     told = [ran([RECORD, *words]) for words in (("--report", room), ("--now", str(os.getpid())))]
     is_good = [it[0] for it in told] == [1] * 2 and all(it[2].startswith("aqs-record: ") for it in told)
     tests.count("what recorded nothing has no report", is_good, str(told))
+    asleep = subprocess.Popen(["sleep", "60"], env={**os.environ, "AQS_RECORD": folder})
+    times = pathlib.Path(folder, f"sleep.{asleep.pid}", "times")
+    times.parent.mkdir()
+    times.touch()
+    os.utime(times, (2**31, 2**31))
+    told = ran([RECORD, "--now", str(asleep.pid)])
+    asleep.wait()
+    tests.count("a report that isn't whole is a fault", told[0] == 1, str(told))
     told = ran(["sh", "-c", f"echo words | {RECORD} -o{folder} -k100 -e5 -- cat"])
     tests.count("a program has the standard input of aqs-record", told == (0, "words\n", ""), str(told))
     alone = shutil.copy(RECORD, room)

@@ -191,7 +191,7 @@ static void keep_core(object_t *object, core_t *old) {
         return;
     }
     if (object->before) {
-        object->dropped += object->archive.count + object->before->entries;
+        object->dropped += object->archive.all + object->before->entries;
         forget_history(&object->archive);
         close_core(object->before);
     }
@@ -250,12 +250,13 @@ static bool grows(object_t *object, thread_t *me) {
 static void fold_if_busy(object_t *object, thread_t *me) {
     core_t *core = object->core;
     seat_t *own = &core->seats[core->count - 1];
-    uint64_t nobody = 0, count;
+    uint64_t nobody = 0, count = core->replayed;
     unsigned looks = 0;
     if (core->entries < core->most || !atomic_compare_exchange_strong(&own->user, &nobody, me->id)) return;
     own->thread = me;
     while (aqs_trim_now(&own->pass, &count) == AQS_IS_BUSY) back_off(&looks);
-    core->entries = 0;
+    object->dropped += count - core->replayed;
+    core->entries = core->replayed = core->replayed_ends = 0;
     atomic_store(&own->user, 0);
 }
 
@@ -547,13 +548,18 @@ static void add_to_gone(line_t *gone, const object_t *object, uint64_t entries) 
     gone->sleeps += object->sleeps, gone->slept += object->slept;
 }
 
+uint64_t entries_of(const object_t *object) {
+    const core_t *core = object->core, *before = object->before;
+    uint64_t entries = object->dropped + object->archive.all + (before ? before->entries : 0);
+    return core ? entries + core->entries : entries;
+}
+
 /* An object that is gone: it will be written, or only counted. Nobody is in it, and the table is locked. */
 static void bury(object_t *object) {
     sums_t *sums = &object->place->sums;
-    uint64_t entries = object->dropped + object->archive.count + (object->core ? object->core->entries : 0);
-    bool is_used = entries || object->before;
+    uint64_t entries = entries_of(object);
     bool has_file = object->written_entries != 0, may_have = has_file || sums->saved < FILES_OF_PLACE;
-    if (is_used && object->born == epoch_of_now() && may_have) {
+    if (entries && object->born == epoch_of_now() && may_have) {
         sums->saved += !has_file;
         object->is_dead = true;
         object->next = dead_objects;

@@ -239,6 +239,7 @@ typedef struct {
     uint32_t seats, conditions, base_seats;
     int64_t permits;
     uint64_t cap, first, count, ends;
+    uint64_t all; /* its entries, and those that were left out when a base came */
     bytes_t base, lines;
 } history_t;
 
@@ -343,6 +344,7 @@ bool begin_alone(object_t *object, thread_t *me);
 void wait_to_be_alone(object_t *object, thread_t *me);
 void end_alone(object_t *object);
 uint8_t conditions_at(const object_t *object);
+uint64_t entries_of(const object_t *object); /* about how many it has made */
 
 /* After a turn: does what the object needs now and then. */
 static inline void tend(object_t *object, thread_t *me) {

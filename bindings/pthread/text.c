@@ -85,7 +85,7 @@ static void widen_header(history_t *history, const history_t *other) {
 
 void forget_history(history_t *history) {
     history->base.size = history->lines.size = 0;
-    history->count = history->ends = history->first = history->base_seats = 0;
+    history->count = history->all = history->ends = history->first = history->base_seats = 0;
     history->is_there = false;
 }
 
@@ -99,7 +99,7 @@ void free_history(history_t *history) {
 static bool add_entry(history_t *history, const char *line, size_t size) {
     const char *rest = memchr(line, ' ', size);
     if (!rest) return false;
-    history->count++;
+    history->count++, history->all++;
     return append(&history->lines, rest, size - (size_t)(rest - line));
 }
 
@@ -110,9 +110,10 @@ static bool begins(const char *line, size_t size, const char *word) {
 /* Begins the history at this text. */
 static void start(history_t *history, const history_t *header) {
     bytes_t base = history->base, lines = history->lines;
+    uint64_t all = history->all;
     *history = *header;
     base.size = lines.size = 0;
-    history->base = base, history->lines = lines;
+    history->base = base, history->lines = lines, history->all = all;
     history->is_there = true;
 }
 
@@ -205,7 +206,7 @@ static bool write_history(const history_t *history, bytes_t *out) {
 bool add_to_archive(object_t *object, const bytes_t *text, uint32_t replayed, uint32_t replayed_ends) {
     history_t *archive = &object->archive;
     if (archive->count > keep / 2) {
-        object->dropped += archive->count;
+        object->dropped += archive->all;
         forget_history(archive);
     }
     if (add_text(archive, text, replayed, replayed_ends)) return true;
@@ -247,9 +248,9 @@ bool compose(object_t *object, thread_t *me, bytes_t *text) {
     if (object->core && !seat) seat = &object->core->seats[object->core->count - 1];
     text->size = 0;
     bool is_good = !is_foreign && gather(object, seat, &history) && history.is_there;
-    if (object->core && !object->is_dead && !is_foreign) atomic_exchange(&seat->user, 0);
-    object->entries = object->dropped + history.first + history.count;
+    object->entries = object->dropped + history.all;
     object->kept = history.count;
+    if (object->core && !object->is_dead && !is_foreign) atomic_exchange(&seat->user, 0);
     spin_unlock(&object->lock);
     if (!is_good || !write_history(&history, text)) text->size = 0;
     free_history(&history);

@@ -208,14 +208,6 @@ static line_t line_of(const object_t *object, writing_t *writing) {
     return line;
 }
 
-/* About how many entries the object has made. */
-static uint64_t entries_of(const object_t *object) {
-    const core_t *core = object->core, *before = object->before;
-    uint64_t entries = object->dropped + object->archive.first + object->archive.count;
-    if (before) entries += before->entries;
-    return core ? entries + core->entries : entries;
-}
-
 /* Takes the text of an object that changed. False: another thread is alone in it. */
 static bool take_text(thread_t *me, object_t *object, writing_t *writing) {
     uint64_t entries = entries_of(object);

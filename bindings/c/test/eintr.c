@@ -104,6 +104,14 @@ static const play_t plays[] = {
      "1 lock = OK; 1 await_interruptibly 4 ..; 0 lock = OK; 0 handle_interrupting 1 = OK; 1 waits; "
      "0 notify 4 = OK; 0 unlock = OK; 1 = OK; 1 interrupted = 1; 1 unlock = OK", NULL},
 
+    /* A call that waits for a seat. */
+    {"who waits for a seat waits on", "lock fair seats 2 conditions 1 cap 64",
+     "0 lock = OK; 1 lock ..; 2 lock_interruptibly ..; [9: 0 handle 2 = OK; 2 waits]; 0 unlock = OK; 1 = OK; "
+     "1 unlock = OK; 2 = OK; 2 unlock = OK", NULL},
+    {"or ends, if the object heeds handlers", "lock fair seats 2 conditions 1 cap 64 heeds",
+     "0 lock = OK; 1 lock ..; 2 timedlock 20000 ..; 0 handle 2 = OK; 2 = HANDLER_RAN; 0 unlock = OK; 1 = OK; "
+     "1 unlock = OK", NULL},
+
     /* Times. */
     {"a handler makes no time longer or shorter", "semaphore fair seats 3 permits 0 cap 64",
      "1 timedacquire 1 700 ..; [5: 0 handle 1 = OK; 0 handle_restarting 1 = OK]; 1 waits; 1 = TIMED_OUT",

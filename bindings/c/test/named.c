@@ -7,6 +7,7 @@
 #include <stdatomic.h>
 #include <string.h>
 #include <sys/prctl.h>
+#include <sys/stat.h>
 #include <sys/syscall.h>
 
 static aqs_lock_t *lock;
@@ -52,6 +53,7 @@ enum { NOWHERE, AT_OPEN, AT_READ };
 static int ends_at;
 static pthread_t ending;
 static char its_file[64];
+static int opened = -1;
 static atomic_bool has_locked, may_end;
 
 static void end_here(int here) {
@@ -64,13 +66,16 @@ static void end_here(int here) {
 
 int __real_open(const char *path, int flags, ...);
 int __wrap_open(const char *path, int flags, ...) {
-    if (strcmp(path, its_file) == 0) end_here(AT_OPEN);
-    return __real_open(path, flags);
+    bool is_its = strcmp(path, its_file) == 0;
+    if (is_its) end_here(AT_OPEN);
+    int file = __real_open(path, flags);
+    if (is_its) opened = file;
+    return file;
 }
 
 ssize_t __real_read(int file, void *to, size_t size);
 ssize_t __wrap_read(int file, void *to, size_t size) {
-    end_here(AT_READ);
+    if (file == opened) end_here(AT_READ);
     return __real_read(file, to, size);
 }
 
@@ -82,13 +87,21 @@ static void *lock_and_wait(void *name) {
     return NULL;
 }
 
+/* The number that the next file gets. */
+static int next_file(void) {
+    int next = dup(2);
+    close(next);
+    return next;
+}
+
 static void ends_as_its_name_is_read(int here, const char *name, const char *wanted) {
     atomic_store(&has_locked, false), atomic_store(&may_end, false);
     CHECK(pthread_create(&ending, NULL, lock_and_wait, (void *)name) == 0);
     while (!atomic_load(&has_locked)) sched_yield();
     ends_at = here;
+    int next = next_file();
     is(names(), wanted);
-    CHECK(ends_at == NOWHERE);
+    CHECK(ends_at == NOWHERE && next_file() == next);
 }
 
 static void saved(const char *folder) {
@@ -96,6 +109,9 @@ static void saved(const char *folder) {
     snprintf(path, sizeof path, "%s/named.history", folder);
     snprintf(small, sizeof small, "%s.names", path);
     (void)remove(path), (void)remove(small);
+    CHECK(mkdir(small, 0700) == 0);
+    IS(aqs_history_save(aqs_lock_object(lock), path), AQS_IO_ERROR);
+    CHECK(rmdir(small) == 0);
     IS(aqs_history_save(aqs_lock_object(lock), path), AQS_OK);
     FILE *file = fopen(path, "r");
     CHECK(file && fgets(found, sizeof found, file) && strncmp(found, "aqs-history ", 12) == 0);

@@ -200,6 +200,7 @@ static void calls_beside_a_reader(void) {
 }
 
 static pthread_mutex_t recursive = PTHREAD_RECURSIVE_MUTEX_INITIALIZER_NP;
+static pthread_mutex_t again = PTHREAD_RECURSIVE_MUTEX_INITIALIZER_NP;
 
 static void *use_when_free(void *nothing) {
     printf("then to write: %s", name_of(pthread_rwlock_trywrlock(&lock)));
@@ -1056,6 +1057,7 @@ static void mutexes_that_are_gone(void) {
         CHECK(pthread_mutex_init(&own, NULL) == 0);
         sleep_in_vain(&condition, &own);
         for (int k = 0; (i == 3 || i == 21) && k < 2; k++) ask_to_write(), use(&own);
+        for (int k = 0; i == 22 && k < 4000; k++) use(&own); /* more than a core keeps */
         CHECK(pthread_mutex_destroy(&own) == 0);
         if (i == 21) CHECK(raise(SIGUSR2) == 0); /* the next call writes */
     }
@@ -1391,7 +1393,10 @@ static void writes_a_little_and_much(void) {
     use(&second);
     ask_to_write();
     for (int i = 0; i < 3000; i++) use(&second);
-    use(&third);
+    int next = dup(2);
+    CHECK(raise(SIGUSR2) == 0);
+    use(&third); /* it writes, and keeps no file open */
+    CHECK(dup(2) == next + 1);
     printf("done\n");
 }
 
@@ -1403,6 +1408,11 @@ static void *lock_recursive(void *nothing) {
     return nothing;
 }
 
+/* Each try of the owner looks whether the history is full. */
+static void use_by_tries(pthread_mutex_t *own) {
+    for (int i = 0; i < 5000; i++) CHECK(pthread_mutex_trylock(own) == 0 && pthread_mutex_unlock(own) == 0);
+}
+
 /* A thread waits while the owner makes more entries than are kept: they are folded. Then more threads come than the
    mutex has seats. */
 static void a_folded_history_gets_more_seats(void) {
@@ -1412,11 +1422,33 @@ static void a_folded_history_gets_more_seats(void) {
         CHECK(pthread_mutex_lock(&recursive) == 0);
         for (int i = 0; i < count; i++) threads[i] = started(lock_recursive, NULL);
         wait_for(&come, count);
-        for (int i = 0; count == 1 && i < 5000; i++) use(&recursive);
+        if (count == 1) use_by_tries(&recursive);
         CHECK(pthread_mutex_unlock(&recursive) == 0);
         for (int i = 0; i < count; i++) join(threads[i]);
     }
     printf("%d have gone\n", gone);
+}
+
+/* A mutex gets more seats, for a second condition. Its entries are folded beside a thread that isn't back yet from the
+   first. Then those of two cores are dropped, or none. */
+static void fold_and_drop(pthread_mutex_t *own, int more) {
+    static pthread_cond_t other = PTHREAD_COND_INITIALIZER;
+    struct timespec moment = soon();
+    for (int i = 0; i < 10; i++) use(own);
+    come = 0;
+    pthread_t thread = started(sleep_once, own);
+    wait_for(&come, 1);
+    CHECK(pthread_mutex_lock(own) == 0);
+    CHECK(pthread_cond_timedwait(&other, own, &moment) == ETIMEDOUT && pthread_cond_signal(&condition) == 0);
+    use_by_tries(own);
+    CHECK(pthread_mutex_unlock(own) == 0);
+    join(thread);
+    for (int i = 0; i < more; i++) use(own);
+}
+
+static void each_folded_entry_is_counted(void) {
+    fold_and_drop(&recursive, 10000);
+    fold_and_drop(&again, 0);
 }
 
 #define CASE(name) {#name, name}
@@ -1467,6 +1499,7 @@ static const struct {
     CASE(many_tries_take_no_memory),
     CASE(writes_a_little_and_much),
     CASE(a_folded_history_gets_more_seats),
+    CASE(each_folded_entry_is_counted),
 };
 
 int main(int argc, char **argv) {

@@ -256,6 +256,27 @@ static void is_asked_as_it_writes(void) {
     printf("%s\n", times_written == 1 ? "written once" : "done");
 }
 
+static void limit_memory(rlim_t most) {
+    struct rlimit limit;
+    CHECK(getrlimit(RLIMIT_AS, &limit) == 0);
+    limit.rlim_cur = most < limit.rlim_max ? most : limit.rlim_max;
+    CHECK(setrlimit(RLIMIT_AS, &limit) == 0);
+}
+
+/* No thread can be made, nor a helper. So the next call writes. */
+static void no_thread_can_be_made(void) {
+    pthread_t none;
+    survive_sigusr2();
+    use_mutex();
+    limit_memory(1);
+    int error = pthread_create(&none, NULL, lock_in_time, NULL);
+    limit_memory(RLIM_INFINITY);
+    as_it_ends = wait_until_asked, has_asked = true;
+    CHECK(raise(SIGUSR2) == 0);
+    use_mutex(); /* it writes */
+    printf("%s, %s\n", strerrorname_np(error), getenv("AQS_RECORD") && !times_written ? "not written" : "written");
+}
+
 static __attribute__((noinline)) void make_mutexes(int count) {
     pthread_mutex_t own;
     while (count-- > 0) {
@@ -1079,6 +1100,32 @@ static void a_reader_has_another_seat(void) {
     printf("%d threads\n", stage);
 }
 
+/* Threads of the numbers 0, 5, 1 and 2 have all seats of a lock. For the next one it gets more of them. */
+static void *read_in_turn(void *mine) {
+    int number = (int)(long)mine;
+    wait_for_stage(number);
+    use_mutex(); /* now it has a number */
+    stage++;
+    wait_for_stage(6 + number % 5);
+    CHECK(pthread_rwlock_rdlock(&crowded) == 0);
+    stage++;
+    wait_for_stage(number == 5 ? 11 : 12);
+    CHECK(pthread_rwlock_unlock(&crowded) == 0);
+    if (number == 5) stage++;
+    return NULL;
+}
+
+static void a_lock_grows_while_it_is_read(void) {
+    pthread_t threads[5];
+    CHECK(pthread_rwlock_rdlock(&crowded) == 0);
+    stage = 1;
+    for (long i = 0; i < 5; i++) threads[i] = started(read_in_turn, (void *)(i + 1));
+    wait_for_stage(12);
+    for (int i = 0; i < 5; i++) join(threads[i]);
+    CHECK(pthread_rwlock_unlock(&crowded) == 0);
+    printf("%d threads\n", stage);
+}
+
 static long resident(void) {
     long pages = 0, all = 0;
     FILE *file = fopen("/proc/self/statm", "r");
@@ -1128,13 +1175,6 @@ static void wait_for_woken(int number) {
 enum { VARIABLES = 20000 };
 static pthread_cond_t variables[VARIABLES];
 static atomic_int initialised;
-
-static void limit_memory(rlim_t most) {
-    struct rlimit limit;
-    CHECK(getrlimit(RLIMIT_AS, &limit) == 0);
-    limit.rlim_cur = most < limit.rlim_max ? most : limit.rlim_max;
-    CHECK(setrlimit(RLIMIT_AS, &limit) == 0);
-}
 
 /* Lets memory be had again when the main thread gets no further, or waits. Then it signals. */
 static void *give_memory(void *last) {
@@ -1367,6 +1407,7 @@ static const struct {
     CASE(is_asked_to_write_often),
     CASE(writes_where_it_may_not_be_cancelled),
     CASE(is_asked_as_it_writes),
+    CASE(no_thread_can_be_made),
     CASE(mutexes_go_as_it_writes),
     CASE(files_are_written_in_parts),
     CASE(handler_posts_while_files_are_written),
@@ -1392,6 +1433,7 @@ static const struct {
     CASE(waits_until_long_ago),
     CASE(threads_come_one_after_another),
     CASE(a_reader_has_another_seat),
+    CASE(a_lock_grows_while_it_is_read),
     CASE(destroyed_mutexes_leave_no_memory),
     CASE(memory_lacks_for_conditions),
     CASE(two_signals_and_a_broadcast),

@@ -159,6 +159,25 @@ static void mutexes_of_many_threads_are_gone(void) {
     for (int i = 0; i < GONE; i++) join(threads[i]);
 }
 
+enum { READERS = 5 };
+
+static void *read_until_all_do(void *nothing) {
+    CHECK(pthread_rwlock_rdlock(&lock) == 0);
+    pthread_barrier_wait(&all);
+    CHECK(pthread_rwlock_unlock(&lock) == 0);
+    return nothing;
+}
+
+/* The last reader finds no seat: the lock gets more of them while the others hold it. */
+static void more_readers_than_seats(void) {
+    pthread_t threads[READERS - 1];
+    CHECK(pthread_barrier_init(&all, NULL, READERS) == 0 && pthread_rwlock_rdlock(&lock) == 0);
+    for (int i = 0; i < READERS - 1; i++) threads[i] = started(read_until_all_do, NULL);
+    pthread_barrier_wait(&all);
+    for (int i = 0; i < READERS - 1; i++) join(threads[i]);
+    CHECK(pthread_rwlock_unlock(&lock) == 0);
+}
+
 /* Short holds -------------------------------------------------------------------------------------------- */
 
 enum { BLOCKS = 200, FEW_BLOCKS = 20, HOLDS = 1000, CODE = 64 << 10 };
@@ -431,6 +450,7 @@ static const struct {
     CASE(a_sleep_between_two_holds),
     CASE(a_wait_for_a_permit),
     CASE(twelve_waits),
+    CASE(more_readers_than_seats),
     CASE(two_mutexes_in_opposite_orders),
     CASE(a_mutex_that_its_owner_locks),
     CASE(a_reader_that_wants_to_write),
