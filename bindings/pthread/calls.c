@@ -69,6 +69,7 @@ static inline int acquire(object_t *object, thread_t *me, seat_t *seat, request_
         object->core->entries++;
         return 0;
     }
+    request->since = nanoseconds();
     end_begin(object, index, &call, &answer);
     if (answer.kind == AQS_IS_WAITING) wait_turns(object, me, index, request, &answer);
     return error_of(&answer);
@@ -701,7 +702,7 @@ static int wait_for_permit(permit_wait_t *wait) {
 static int take_permit(object_t *object, deadline_t deadline, void *place) {
     pthread_testcancel();
     permit_wait_t wait = {.object = object, .me = self()};
-    wait.request = (request_t){AQS_MODE_SHARED, false, deadline, ENDS_BY_SIGNAL | ENDS_BY_CANCEL, place};
+    wait.request = (request_t){AQS_MODE_SHARED, false, deadline, ENDS_BY_SIGNAL | ENDS_BY_CANCEL, place, 0};
     enter(wait.me, object);
     int error = wait_for_permit(&wait);
     if (wait.request.waits) end_wait(wait.me, object);

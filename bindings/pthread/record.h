@@ -171,6 +171,7 @@ typedef struct {
     deadline_t deadline;
     unsigned ends;
     void *place;
+    uint64_t since; /* when its first turn was over, if that didn't do */
 } request_t;
 
 enum { NO_END, ENDS_BY_SIGNAL = 1, ENDS_BY_CANCEL = 2 };

@@ -162,7 +162,7 @@ void begin_wait(thread_t *me, object_t *object, request_t *request) {
     waiting->place = request->place;
     waiting->holder = held ? held->thread : NULL;
     waiting->holder_id = held ? held->user : 0;
-    atomic_store(&waiting->since, nanoseconds());
+    atomic_store(&waiting->since, request->since ? request->since : nanoseconds());
 }
 
 /* What the wait was, as a whole. */
