@@ -69,6 +69,7 @@ static inline int acquire(object_t *object, thread_t *me, seat_t *seat, request_
         object->core->entries++;
         return 0;
     }
+    request->since = nanoseconds();
     end_begin(object, index, &call, &answer);
     if (answer.kind == AQS_IS_WAITING) wait_turns(object, me, index, request, &answer);
     return error_of(&answer);
@@ -172,6 +173,7 @@ static inline int lock_mutex(object_t *object, deadline_t deadline, void *place)
     thread_t *me = self();
     uint8_t woke;
     request_t request = {.mode = AQS_MODE_EXCLUSIVE, .deadline = deadline, .place = place};
+    look_at_clock(me);
     enter(me, object);
     if (unlikely(object->type != NORMAL && object->owner == me->id)) return lock_owned(object, me);
     seat_t *seat = claim(object, me);
@@ -204,6 +206,7 @@ static int try_by(object_t *object, thread_t *me, uint16_t seat) {
 
 static int try_mutex(object_t *object) {
     thread_t *me = self();
+    look_at_clock(me);
     enter(me, object);
     bool is_mine = object->type == RECURSIVE && object->owner == me->id;
     seat_t *seat = is_mine ? seat_at(object, object->owner_seat) : claim(object, me);
@@ -305,25 +308,26 @@ SHOWN int pthread_mutex_trylock(pthread_mutex_t *mutex) {
     return try_mutex(object);
 }
 
-/* The least that the clock says of many holds of nothing. Their object is in no table, and is freed. That of a
-   read-write lock would be the same. */
-uint64_t least_hold(void) {
-    enum { MANY = 1000 };
+/* How long two holds of nothing are together by the clock, in nanoseconds. The thread hasn't run the code of the first
+   since its last hold. Their object is in no table. Those of a read-write lock would be the same. 0: there is no
+   memory, or another thread asks, which a fork may have left in the parent. */
+uint64_t two_holds_of_nothing(void) {
     static pthread_mutex_t mutex = PTHREAD_MUTEX_INITIALIZER;
-    object_t *object = heap_take_zeroed(sizeof *object);
-    uint64_t least = UINT64_MAX, before = 0;
-    if (!object) return 0;
-    object->born = epoch_of_now();
-    *tag_of_mutex(&mutex) = (tag_t){object, mark_of(&mutex)};
-    for (int i = 0; i < MANY; i++) {
+    static atomic_uint is_used;
+    static object_t *object;
+    uint64_t took = 0;
+    if (atomic_exchange(&is_used, 1)) return 0;
+    if (!object && (object = heap_take_zeroed(sizeof *object))) {
+        object->born = epoch_of_now();
+        *tag_of_mutex(&mutex) = (tag_t){object, mark_of(&mutex)};
+    }
+    for (int i = 0; object && i < 2; i++) {
         pthread_mutex_lock(&mutex);
         pthread_mutex_unlock(&mutex);
-        uint64_t sum = object->hold_times ? object->hold_times->sum : before;
-        if (sum - before < least) least = sum - before;
-        before = sum;
     }
-    free_object(object);
-    return least;
+    if (object && object->hold_times) took = atomic_exchange(&object->hold_times->sum, 0);
+    is_used = 0;
+    return took;
 }
 
 /* A time that is none is a fault only where the call would wait. */
@@ -432,6 +436,7 @@ static int lock_rwlock(object_t *object, uint8_t mode, bool tries, deadline_t de
     thread_t *me = self();
     uint8_t woke = WOKE;
     request_t request = {.mode = mode, .deadline = deadline, .place = place};
+    look_at_clock(me);
     enter(me, object);
     seat_t *own = own_seat(object, me), *seat = own ? own : claim(object, me);
     if (!seat && !tries) seat = claim_or_wait(object, me, &request, &woke);
@@ -697,7 +702,7 @@ static int wait_for_permit(permit_wait_t *wait) {
 static int take_permit(object_t *object, deadline_t deadline, void *place) {
     pthread_testcancel();
     permit_wait_t wait = {.object = object, .me = self()};
-    wait.request = (request_t){AQS_MODE_SHARED, false, deadline, ENDS_BY_SIGNAL | ENDS_BY_CANCEL, place};
+    wait.request = (request_t){AQS_MODE_SHARED, false, deadline, ENDS_BY_SIGNAL | ENDS_BY_CANCEL, place, 0};
     enter(wait.me, object);
     int error = wait_for_permit(&wait);
     if (wait.request.waits) end_wait(wait.me, object);

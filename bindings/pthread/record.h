@@ -101,7 +101,9 @@ typedef struct thread {
     uint32_t parks;         /* how deep: a signal handler may park in a park */
     volatile uint32_t has_posts;
     volatile bool is_asleep; /* in a system call of the recorder's own */
+    uint8_t locks;           /* how many it has made, the last bits, if holds are timed */
     volatile uint32_t depth; /* of waits: a signal handler may wait in a wait */
+    uint32_t added;          /* to each of its holds now, in sixteenths of a nanosecond */
     uint32_t tid;            /* as the system counts */
     char name[NAME_SIZE];    /* as the system had it when it was last asked */
     waiting_t waiting[NESTED];
@@ -169,6 +171,7 @@ typedef struct {
     deadline_t deadline;
     unsigned ends;
     void *place;
+    uint64_t since; /* when its first turn was over, if that didn't do */
 } request_t;
 
 enum { NO_END, ENDS_BY_SIGNAL = 1, ENDS_BY_CANCEL = 2 };
@@ -369,7 +372,7 @@ extern bool is_timed; /* AQS_TIMES: holds are timed too, and calls are counted *
 
 extern bool has_ticks; /* if holds are timed */
 extern uint64_t tick; /* in 2^-32 nanoseconds */
-extern uint64_t added_to_hold; /* in ticks, by the clock and the recorder. Each hold is told without it */
+extern uint32_t added_to_hold; /* in nanoseconds, by the clock and the recorder: the least at the start */
 
 enum { SLEEP = 2 }; /* what a thread waits for, beside AQS_MODE_EXCLUSIVE and AQS_MODE_SHARED */
 enum { LONGEST = 10 };
@@ -420,7 +423,8 @@ void end_wait(thread_t *me, object_t *object);
 void end_sleep(thread_t *me, object_t *object);
 COLD void count_one_call(object_t *object, const thread_t *me);
 COLD void end_hold(object_t *object, seat_t *seat, uint64_t end);
-uint64_t least_hold(void);
+uint64_t two_holds_of_nothing(void);
+COLD void time_nothing(thread_t *me);
 void begin_timing(void);
 void forget_times(object_t *object);
 void forget_waits(void);
@@ -431,6 +435,11 @@ bool still_waits(const wait_of_t *wait);
 void copy_longest(wait_of_t *longest);
 void name_threads(void);
 person_t person_of(const thread_t *thread);
+
+/* Before a call that begins a hold. */
+static inline void look_at_clock(thread_t *me) {
+    if (unlikely(is_timed) && unlikely(me->locks++ % 128 == 0)) time_nothing(me);
+}
 
 /* Counts a call that got the object, and begins a hold, if that is asked for. */
 static inline void count_call(object_t *object, const thread_t *me) {

@@ -181,7 +181,7 @@ void write_times(writing_t *writing) {
         .holder_count = writing->holders.size / sizeof(holder_t),
     };
     say(&out, "aqs-times\t1\t%d\t%s\t%s\n", (int)getpid(), is_timed ? "holds" : "-", program_invocation_name);
-    say(&out, "added\t%llu\n", (number_t)in_nanoseconds(added_to_hold));
+    say(&out, "added\t%llu\n", (number_t)added_to_hold);
     say_objects(&out, &writing->lines);
     if (writing->buckets.size) append(&out, writing->buckets.at, writing->buckets.size);
     say_longest(&out, graph.waits, graph.wait_count);

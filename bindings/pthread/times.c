@@ -10,7 +10,8 @@
 #include <unistd.h>
 
 bool is_timed, has_ticks;
-uint64_t tick = UINT64_C(1) << 32, added_to_hold;
+uint64_t tick = UINT64_C(1) << 32;
+uint32_t added_to_hold;
 
 /* The beginning of a small file of the system's. */
 static ssize_t read_small(const char *path, char *text, size_t room) {
@@ -29,16 +30,26 @@ static void read_clocks(uint64_t *at, uint64_t *count) {
     }
 }
 
-/* Finds out what a tick is, and what is added to a hold. */
+static uint64_t least_hold(void) {
+    uint64_t least = UINT64_MAX;
+    for (int i = 0; i < 1000; i++) {
+        uint64_t took = two_holds_of_nothing();
+        if (took < least) least = took;
+    }
+    return least / 2;
+}
+
+/* Finds out what a tick is, and what is added to a hold. Until then a tick counts as a nanosecond. */
 void begin_timing(void) {
     uint64_t from, from_tick, to, to_tick;
     char clock[4];
     has_ticks = read_small("/sys/devices/system/clocksource/clocksource0/current_clocksource", clock, 4) == 4
         && memcmp(clock, "tsc\n", 4) == 0;
     read_clocks(&from, &from_tick);
-    added_to_hold = least_hold();
+    uint64_t least = least_hold();
     read_clocks(&to, &to_tick);
     tick = ((to - from) << 32) / (to_tick - from_tick);
+    added_to_hold = (uint32_t)in_nanoseconds(least);
 }
 
 static unsigned bucket_of(uint64_t took) {
@@ -59,6 +70,16 @@ static void add_time(times_t *_Atomic *at, uint64_t took) {
     while (took > longest && !atomic_compare_exchange_weak(&times->longest, &longest, took)) continue;
 }
 
+/* A processor is slower at times: it runs at another frequency, or serves another thread too. Then more is added to a
+   hold. What took four times as long as the least was disturbed. */
+COLD void time_nothing(thread_t *me) {
+    uint32_t before = me->added ? me->added : 16 * added_to_hold;
+    me->added = 0;
+    uint64_t two = two_holds_of_nothing();
+    bool is_good = two && two <= 8 * added_to_hold;
+    me->added = is_good ? (7 * before + 8 * (uint32_t)two) / 8 : before;
+}
+
 COLD void count_one_call(object_t *object, const thread_t *me) {
     uint64_t bit = UINT64_C(1) << (me->number < 63 ? me->number : 63);
     atomic_fetch_add_explicit(&object->calls, 1, memory_order_relaxed);
@@ -66,8 +87,8 @@ COLD void count_one_call(object_t *object, const thread_t *me) {
 }
 
 COLD void end_hold(object_t *object, seat_t *seat, uint64_t end) {
-    uint64_t since = seat->since + added_to_hold;
-    add_time(&object->hold_times, end > since ? in_nanoseconds(end - since) : 0);
+    uint64_t took = end > seat->since ? in_nanoseconds(16 * (end - seat->since)) : 0, added = seat->thread->added;
+    add_time(&object->hold_times, took > added ? (took - added + 8) / 16 : 0);
     seat->since = 0;
 }
 
@@ -141,7 +162,7 @@ void begin_wait(thread_t *me, object_t *object, request_t *request) {
     waiting->place = request->place;
     waiting->holder = held ? held->thread : NULL;
     waiting->holder_id = held ? held->user : 0;
-    atomic_store(&waiting->since, nanoseconds());
+    atomic_store(&waiting->since, request->since ? request->since : nanoseconds());
 }
 
 /* What the wait was, as a whole. */
