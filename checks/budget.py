@@ -14,9 +14,11 @@ same commit, or raises the bound and writes why in a line.
 - `bodies twice`: bodies of three lines and more that stand in two places, tests apart.
 - `weak orderings`: steps on a shared word, or imports, that name another ordering than `Ordering::SeqCst`. Such a step
   may be right on this processor and lose a wake on another.
+- `calendars`: readings of the calendar's clock, which somebody may set while a call waits by it.
 
 The last line is 'N passed, M failed'.
 """
+import functools
 import pathlib
 import re
 import subprocess
@@ -30,7 +32,8 @@ TABLE = "checks/budget.txt"
 COLUMNS, LEAST = 110, 3
 GENERATED = re.compile(r"(?s)<!-- made by [^\n]*-->.*?(?=<!-- end -->|\Z)")
 IMPORT = re.compile(r"\s*(?:ghost use|use|pub use|//)")
-WEAK = re.compile(r"\bOrdering(?:::(?!SeqCst\b)| as\b)")
+SAID = {"weak orderings": re.compile(r"\bOrdering(?:::(?!SeqCst\b)| as\b)"),
+        "calendars": re.compile(r"\bSystemTime\b|\.since_1970\b")}
 
 
 def tracked(top, *patterns):
@@ -144,12 +147,12 @@ def twice(top):
             yield f"{places[1]}: its body is that of {places[0]}"
 
 
-def weak(top):
-    """Returns where an ordering of a step on a shared word is not the strongest."""
+def said(top, pattern):
+    """Returns where a source says what a pattern has."""
     for path, _ in sources(top):
         if path.suffix == ".rt":
             for number, line in enumerate(path.read_text(encoding="utf-8").splitlines(), 1):
-                if WEAK.search(line.partition("//")[0]):
+                if pattern.search(line.partition("//")[0]):
                     yield f"{path.relative_to(top)}:{number}: {line.strip()}"
 
 
@@ -165,7 +168,8 @@ def counted(top):
     """Returns a function from the name of a number to the number and to where it comes from."""
     pages, found = words(top), sources(top)
     specs, known = Specs(top), lengths(top)
-    listed_by = {"wide lines": wide, "bodies twice": twice, "weak orderings": weak}
+    listed_by = {"wide lines": wide, "bodies twice": twice}
+    listed_by |= {name: functools.partial(said, pattern=it) for name, it in SAID.items()}
 
     def number(name):
         if name == "crates":

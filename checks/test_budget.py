@@ -87,6 +87,12 @@ class Counting(unittest.TestCase):
         places = [f"crates/one/src/words.rt:{number}: {lines[number - 1]}" for number in (2, 4, 5)]
         self.assertEqual(self.number("weak orderings"), (3, places))
 
+    def test_each_way_to_the_calendar(self):
+        lines = ["use std::time::{Instant, SystemTime};", "Instant::now(rt)", "rt.since_1970()?", "fn since_1970(&self)"]
+        (self.top / "crates/one/src/clocks.rt").write_text("\n".join(lines), encoding="utf-8")
+        places = [f"crates/one/src/clocks.rt:{number}: {lines[number - 1]}" for number in (1, 3)]
+        self.assertEqual(self.number("calendars"), (2, places))
+
     def test_a_number_that_nobody_counts(self):
         self.assertRaises(LookupError, self.number, "crate")
 
