@@ -1,7 +1,8 @@
 //! A thread that steps by itself, and unparks whom its steps name, beside one that makes calls.
+ghost use Rattle.std.specs.Prelude.{◌<◌};
 ghost use Rattle.monitor.specs.Calling.{CanCall};
 
-use crate::asks::{Ask, DONE, NAMES, YES, perform};
+use crate::asks::{Ask, DONE, NAMES, Reply, YES, perform};
 use crate::storms::{LOOKS, rest, wait_for};
 use history::entry::Mode;
 use history::header::Policy;
@@ -15,10 +16,6 @@ use std::sync::atomic::{AtomicU64, Ordering};
 use std::thread;
 use std::time::Clock;
 
-const ACQUIRE: Ask = Ask::Step(Step::Acquire(Mode::X, 1));
-
-const RELEASE: Ask = Ask::Step(Step::Give(Mode::X, 1));
-
 /// Releases the lock once seat 0 waits for it, and returns whether that one is served then. If it isn't, an
 /// interrupt ends its wait.
 fn step_twice<R: Wait + Clock>(
@@ -28,9 +25,11 @@ fn step_twice<R: Wait + Clock>(
     pass: &mut Pass,
     turns: &AtomicU64,
 ) -> bool
-    requires { CanCall monitor.now parking.now pass.old }
+    requires can { CanCall monitor.now parking.now pass.old }
+    requires two { 0 < parking.now }
 {
-    let took = perform(rt, monitor, parking, pass, ACQUIRE);
+    let acquire = Ask::Step(Step::Acquire(Mode::X, 1));
+    let took = perform(rt, monitor, parking, pass, acquire);
     turns.fetch_add(1, Ordering::SeqCst);
     for _ in 0..LOOKS {
         if monitor.queue_length(rt, pass) == 1 {
@@ -38,10 +37,26 @@ fn step_twice<R: Wait + Clock>(
         }
         rest(rt);
     }
-    let gave = perform(rt, monitor, parking, pass, RELEASE);
+    let release = Ask::Step(Step::Give(Mode::X, 1));
+    let gave = perform(rt, monitor, parking, pass, release);
     let is_served = wait_for(rt, turns, 2);
     parking.interrupt(0);
     took == YES && gave == Ok(NAMES) && is_served
+}
+
+fn call_once<R: Wait + Clock>(
+    rt: &R,
+    parking: &ThreadParking,
+    monitor: &Monitor<LockHooks>,
+    pass: &mut Pass,
+    turns: &AtomicU64,
+) -> Reply
+    requires { CanCall monitor.now parking.now pass.old }
+{
+    let _came = wait_for(rt, turns, 1);
+    let reply = perform(rt, monitor, parking, pass, Ask::LockInterruptibly);
+    turns.fetch_add(1, Ordering::SeqCst);
+    reply
 }
 
 #[test]
@@ -55,12 +70,7 @@ fn one_that_waits_in_a_call_is_served_by_the_steps_of_another(rt: HostRuntime) {
     let served = thread::join_mut(
         &rt,
         &mut || step_twice(&rt, &parking, &monitor, &mut one, &turns),
-        &mut || {
-            let _came = wait_for(&rt, &turns, 1);
-            let reply = perform(&rt, &monitor, &parking, &mut other, Ask::LockInterruptibly);
-            turns.fetch_add(1, Ordering::SeqCst);
-            reply
-        },
+        &mut || call_once(&rt, &parking, &monitor, &mut other, &turns),
     );
     assert_eq!(rt; served, (true, DONE));
 }

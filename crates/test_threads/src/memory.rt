@@ -187,8 +187,6 @@ fn a_call_that_is_refused_memory_answers_later_as_if_it_came_first(rt: HostRunti
     parking.interrupt(0);
     let refused = refusals_of_acquire(&rt, &parking, &monitor, &mut pass);
     let is_taken = pass.share() == 1 && !parking.take_interrupt(0);
-    assert!(rt;
-        is_taken && 1 <= refused && refused < MOST,
-        "refused {refused} times"
-    );
+    let is_good = is_taken && 1 <= refused && refused < MOST;
+    assert!(rt; is_good, "refused {refused} times");
 }
